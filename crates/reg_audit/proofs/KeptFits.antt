@@ -1,52 +1,47 @@
 -- A row is new to an audit, and fits what it keeps, where it is new to the world and fits it.
-use Rattle.std.proofs.Common.{◌≡◌, ℕ, Bool, true, false, ◌&&◌, List, refl, sym, ap, subst, ◌∙◌}
+use Rattle.std.proofs.Common.{◌≡◌, ℕ, Bool, true, false, ◌&&◌, List, refl, sym, ap, ◌∙◌}
 use Rattle.std.specs.Prelude.{Option, Some, None, IsSome, IsTrue, is_some, not, option_map, unwrap_or, ◌↔◌}
 use Rattle.std.specs.BTreeMap as tree
 use Rattle.std.specs.BTreeSet.{contains}
-use Rattle.std.specs.FinMap.{get, contains_key}
+use Rattle.std.specs.FinMap.{get}
 use Rattle.std.specs.Ordering.{nat_cmp}
-use Rattle.reg_maps.specs.Maps.{text_cmp}
-use Rattle.reg_blocks.specs.Block.{SizedPrefix, Clash, block_cmp, leading_24}
-use Rattle.reg_ranges.specs.Tables.{Table}
+use Rattle.reg_blocks.specs.Block.{SizedPrefix, Clash, leading_24}
 use Rattle.reg_core.specs.Ask.{registry_of}
-use Rattle.reg_core.specs.MayBeGiven.{place_of}
 use Rattle.reg_core.specs.WellKept.{WellKept, is_registered_to, is_registered_at, is_held_by, is_size_asked, stands_in}
-use Rattle.reg_core.specs.World.{World, RequestName, Seat, link_cmp, name_cmp, place_cmp, seat_cmp}
+use Rattle.reg_core.specs.World.{World, Seat, seat_cmp}
 use Rattle.reg_core.specs.declared.advice.Advice.{Advice}
 use Rattle.reg_core.specs.declared.ask.Ask.{Ask}
-use Rattle.reg_core.specs.declared.capability.Cap.{Cap}
-use Rattle.reg_core.specs.declared.entry.Entry.{Entry}
 use Rattle.reg_core.specs.declared.entry.Registration.{Registration}
 use Rattle.reg_core.specs.declared.holding.Holder.{Holder}
 use Rattle.reg_core.specs.declared.holding.Holding.{Holding}
 use Rattle.reg_core.specs.declared.request.Case.{Case}
 use Rattle.reg_core.specs.declared.request.Given.TheVariants as given
-use Rattle.reg_core.specs.declared.request.Request.{Request}
 use Rattle.reg_core.specs.declared.request.State.{State}
-use Rattle.reg_core.specs.declared.request.State.TheVariants.{Pending, Approved, Declined, Withdrawn}
+use Rattle.reg_core.specs.declared.request.State.TheVariants.{Approved}
 use Rattle.reg_audit.specs.Audits.{Keeps, account_of, awaits_minute, standing_of}
-use Rattle.reg_audit.specs.Blocks.{AreApart, IsHeld}
+use Rattle.reg_audit.specs.Blocks.{HoldersAreApart, IsHeld}
 use Rattle.reg_audit.specs.Requests.{is_account, is_assigned_at, is_assignee, is_holdable, stands_by}
-use Rattle.reg_audit.specs.Rows.{Fits, IsNew, IsApart, is_markable, is_unminuted, name_of, seat_of}
+use Rattle.reg_audit.specs.Rows.{Fits, IsNew, IsApart, is_markable, is_unminuted, seat_of}
 use Rattle.reg_audit.specs.declared.audit.Audit.{Audit}
-use Rattle.reg_audit.specs.declared.row.Row.{Row}
 use Rattle.reg_audit.specs.declared.row.Row.TheVariants as row
 
-is_some-mapped : {X Y : Type 0} (f : X → Y) (o : Option X) → is_some (option_map f o) ≡ is_some o
-is_some-mapped f None = refl
-is_some-mapped f (Some x) = refl
+-- what is kept of something is there where it is
+pub there_as : {X Y : Type 0} (f : X → Y) (kept : Option Y) (o : Option X) → kept ≡ option_map f o
+    → is_some kept ≡ is_some o
+there_as f kept None is = ap is_some is
+there_as f kept (Some x) is = ap is_some is
 
 is_assignee-standing : (account : List ℕ) (o : Option Registration)
     → is_assignee account (option_map standing_of o) ≡ is_registered_to account o
 is_assignee-standing account None = refl
 is_assignee-standing account (Some a) = refl
 
-is_holdable-standing : (o : Option Registration)
+pub holdable-standing : (o : Option Registration)
     → is_holdable (option_map standing_of o) ≡ is_markable o
-is_holdable-standing None = refl
-is_holdable-standing (Some a) = refl
+holdable-standing None = refl
+holdable-standing (Some a) = refl
 
-unwrap-awaits : (o : Option Case)
+pub unwrap-awaits : (o : Option Case)
     → unwrap_or (option_map awaits_minute o) false ≡ is_unminuted o
 unwrap-awaits None = refl
 unwrap-awaits (Some case) = refl
@@ -55,16 +50,6 @@ is_account-holder : (account : List ℕ) (o : Option Holder)
     → is_account account (option_map account_of o) ≡ is_held_by account o
 is_account-holder account None = refl
 is_account-holder account (Some h) = refl
-
--- what tells whether a row is new tells it of an equal row
-pub new_as : {P : Type 0} (w : World) (next other : Row) → next ≡ other → P ↔ IsNew w other
-    → P ↔ IsNew w next
-new_as {P = P} w next other is tells = subst (λ (r : Row). P ↔ IsNew w r) (sym is) tells
-
--- so does what tells whether a row fits
-pub fits_as : {P : Type 0} (w : World) (next other : Row) → next ≡ other → P ↔ Fits w other
-    → P ↔ Fits w next
-fits_as {P = P} w next other is tells = subst (λ (r : Row). P ↔ Fits w r) (sym is) tells
 
 -- two tests with one answer are true together
 pub same_truth : (a b : Bool) → a ≡ b → IsTrue a ↔ IsTrue b
@@ -115,24 +100,20 @@ module _ (audit : Audit) (w : World) (keeps : Keeps audit w) where
   pub stands_by-stands_in : (account : List ℕ) (ask : Ask) (state : State)
       → stands_by audit.standings audit.holders account ask state
       ≡ stands_in w.entries w.blocks account ask state
-  stands_by-stands_in account ask Pending = refl
   stands_by-stands_in account ask (Approved (given.Value v)) =
       assigned-registered account (registry_of ask) v
   stands_by-stands_in account ask (Approved (given.Block block)) =
       ap (λ held. is_size_asked ask block.size && held)
       (ap (is_account account) (keeps.holders block)
       ∙ is_account-holder account (get w.blocks block))
-  stands_by-stands_in account ask (Declined reason) = refl
-  stands_by-stands_in account ask Withdrawn = refl
+  stands_by-stands_in account ask _ = refl
 
   held-given : (block : SizedPrefix)
       → IsHeld audit.holders block ↔ IsSome (get w.blocks block)
-  held-given block =
-      same_truth _ _
-      (ap is_some (keeps.holders block) ∙ is_some-mapped account_of (get w.blocks block))
+  held-given block = same_truth _ _ (there_as account_of _ _ (keeps.holders block))
 
   -- no two blocks of a well kept world share an address
-  pub holders_apart : WellKept w → AreApart audit.holders
+  pub holders_apart : WellKept w → HoldersAreApart audit.holders
   holders_apart kept a b in_a in_b clash =
       kept.apart a b ((held-given a).0 in_a) ((held-given b).0 in_b) clash
 
@@ -147,7 +128,7 @@ module _ (audit : Audit) (w : World) (keeps : Keeps audit w) where
   -- a block of the pool fits where it shares no address with another
   pub block_fits : WellKept w → (holding : Holding) (leading : ℕ) (r : Bool)
       → leading ≡ leading_24 holding.block → IsTrue (contains nat_cmp audit.prefixes leading)
-      → (AreApart audit.holders → IsTrue r
+      → (HoldersAreApart audit.holders → IsTrue r
       ↔ ((other : SizedPrefix) → IsHeld audit.holders other → ¬ Clash holding.block other))
       → IsTrue r ↔ Fits w (row.Block holding)
   block_fits kept holding leading r is there tells = (
@@ -158,71 +139,6 @@ module _ (audit : Audit) (w : World) (keeps : Keeps audit w) where
     )),
     (λ fits. (tells (holders_apart kept)).1 ((apart_kept holding.block).1 fits.1)),
   )
-
-  pub request_there : (name : RequestName)
-      → is_some (tree.get name_cmp audit.requests name) ≡ contains_key w.requests name
-  request_there name =
-      ap is_some (keeps.requests name) ∙ is_some-mapped awaits_minute (get w.requests name)
-
-  -- ---- New rows
-
-  pub new_cap : (digest : List ℕ) (cap : Cap) (r : Bool)
-      → r ≡ contains text_cmp audit.caps digest → IsTrue (not r) ↔ IsNew w (row.Cap digest cap)
-  new_cap digest cap r is = missing r (get w.caps digest) (is ∙ keeps.caps digest)
-
-  pub new_registry : (name : List ℕ) (table : Table) (r : Bool)
-      → r ≡ is_some (tree.get text_cmp audit.registries name)
-      → IsTrue (not r) ↔ IsNew w (row.Registry name table)
-  new_registry name table r is =
-      missing r (get w.registries name) (is ∙ ap is_some (keeps.registries name))
-
-  pub new_entry : (entry : Entry) (r : Bool)
-      → r ≡ is_some (tree.get place_cmp audit.standings (place_of entry))
-      → IsTrue (not r) ↔ IsNew w (row.Entry entry)
-  new_entry entry r is =
-      missing r (get w.entries (place_of entry))
-      (is ∙ ap is_some (keeps.standings (place_of entry))
-      ∙ is_some-mapped standing_of (get w.entries (place_of entry)))
-
-  pub new_hold : (registry : List ℕ) (value : ℕ) (r : Bool)
-      → r ≡ is_holdable (tree.get place_cmp audit.standings (registry, value))
-      → IsTrue r ↔ IsNew w (row.Hold registry value)
-  new_hold registry value r is =
-      same_truth r _
-      (is ∙ ap is_holdable (keeps.standings (registry, value))
-      ∙ is_holdable-standing (get w.entries (registry, value)))
-
-  pub new_prefix : (prefix : ℕ) (r : Bool) → r ≡ contains nat_cmp audit.prefixes prefix
-      → IsTrue (not r) ↔ IsNew w (row.Prefix prefix)
-  new_prefix prefix r is = fails r (contains_key w.pool prefix) (is ∙ keeps.prefixes prefix)
-
-  pub new_block : (holding : Holding) (r : Bool)
-      → r ≡ is_some (tree.get block_cmp audit.holders holding.block)
-      → IsTrue (not r) ↔ IsNew w (row.Block holding)
-  new_block holding r is =
-      missing r (get w.blocks holding.block)
-      (is ∙ ap is_some (keeps.holders holding.block)
-      ∙ is_some-mapped account_of (get w.blocks holding.block))
-
-  pub new_request : (request : Request) (r : Bool)
-      → r ≡ is_some (tree.get name_cmp audit.requests (name_of request))
-      → IsTrue (not r) ↔ IsNew w (row.Request request)
-  new_request request r is =
-      missing r (get w.requests (name_of request)) (is ∙ request_there (name_of request))
-
-  pub new_minute : (account reference minute : List ℕ) (r : Bool)
-      → r ≡ unwrap_or (tree.get name_cmp audit.requests (account, reference)) false
-      → IsTrue r ↔ IsNew w (row.Minute account reference minute)
-  new_minute account reference minute r is =
-      same_truth r _
-      (is ∙ ap (λ o. unwrap_or o false) (keeps.requests (account, reference))
-      ∙ unwrap-awaits (get w.requests (account, reference)))
-
-  pub new_link : (principal agent : List ℕ) (r : Bool)
-      → r ≡ contains link_cmp audit.links (principal, agent)
-      → IsTrue (not r) ↔ IsNew w (row.Link principal agent)
-  new_link principal agent r is =
-      fails r (contains_key w.agents (principal, agent)) (is ∙ keeps.links (principal, agent))
 
   module _ (account reference expert : List ℕ) (found : Option Bool)
       (is : found ≡ tree.get seat_cmp audit.seats (seat_of account reference expert)) where
@@ -250,5 +166,4 @@ module _ (audit : Audit) (w : World) (keeps : Keeps audit w) where
     unfolding seat
     advice_fits advice r there =
         same_truth r _
-        (there ∙ ap is_some (is ∙ keeps.seats seat)
-        ∙ is_some-mapped (λ there. is_some (get w.advice seat)) (get w.queue seat))
+        (there ∙ there_as (λ there. is_some (get w.advice seat)) _ _ (is ∙ keeps.seats seat))

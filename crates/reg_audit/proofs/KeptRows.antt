@@ -13,34 +13,31 @@ use Rattle.std.specs.Map.{lookup}
 use Rattle.std.specs.Ordering.{nat_cmp, eq_by_cmp}
 use Rattle.std.specs.declared.cmp.Ordering.{Ordering}
 use Rattle.reg_maps.specs.Maps.{text_cmp, replaced, update}
-use Rattle.reg_maps.proofs.MapLaws.{IsKeyOrder, text_keys, number_keys, tied, get-at_insert}
+use Rattle.reg_maps.proofs.MapLaws.{IsKeyOrder, number_keys, tied, get-at_insert}
 use Rattle.reg_maps.proofs.KeySets.{contains-changed}
 use Rattle.reg_blocks.specs.Block.{SizedPrefix, block_cmp}
-use Rattle.reg_ranges.specs.Tables.{Table}
 use Rattle.reg_core.specs.Entry.{registration_in, with_hold}
 use Rattle.reg_core.specs.Holding.{holder_in}
 use Rattle.reg_core.specs.MayBeGiven.{place_of}
 use Rattle.reg_core.specs.Minutes.{ask_with, with_minute}
 use Rattle.reg_core.specs.Request.{case_of}
-use Rattle.reg_core.specs.World.{World, Link, Place, RequestName, Seat, link_cmp, name_cmp, place_cmp, seat_cmp, empty_world}
+use Rattle.reg_core.specs.World.{World, Place, RequestName, Seat, link_cmp, name_cmp, place_cmp, seat_cmp, empty_world}
 use Rattle.reg_core.specs.declared.advice.Advice.{Advice}
-use Rattle.reg_core.specs.declared.capability.Cap.{Cap}
 use Rattle.reg_core.specs.declared.ask.Ask.{Ask}
-use Rattle.reg_core.specs.declared.ask.Ask.TheVariants.{Block, Code, Early, Permanent, Renew}
+use Rattle.reg_core.specs.declared.ask.Ask.TheVariants.{Renew}
 use Rattle.reg_core.specs.declared.entry.Entry.{Entry}
 use Rattle.reg_core.specs.declared.entry.Registration.{Registration}
 use Rattle.reg_core.specs.declared.holding.Holding.{Holding}
 use Rattle.reg_core.specs.declared.request.Case.{Case}
 use Rattle.reg_core.specs.declared.request.Request.{Request}
-use Rattle.reg_core.proofs.KeyOrders.{name_keys, place_keys, seat_keys, block_keys, link_keys}
+use Rattle.reg_core.proofs.KeyOrders.{name_keys, place_keys, seat_keys, block_keys}
 use Rattle.reg_vacancies.specs.Vacancies.{MayBeOf}
 use Rattle.reg_vacancies.specs.declared.vacancies.Vacancies.{Vacancies}
 use Rattle.reg_vacancies.proofs.Carrying.{keys_decide}
 use Rattle.reg_audit.specs.Audits.{Keeps, account_of, advised_at, awaits_minute, standing_of}
-use Rattle.reg_audit.specs.Rows.{is_unminuted, lacks_minute, with_row, name_of, seat_of, IsInTurn, IsNew, Fits}
+use Rattle.reg_audit.specs.Rows.{is_unminuted, lacks_minute, with_row, name_of, seat_of, IsNew}
 use Rattle.reg_audit.specs.declared.requests.Standing.{Standing}
 use Rattle.reg_audit.specs.declared.audit.Audit.{Audit}
-use Rattle.reg_audit.specs.declared.row.Row.{Row}
 use Rattle.reg_audit.specs.declared.row.Row.TheVariants as row
 
 -- ---- A map and a set, beside a map with more in its rows
@@ -78,7 +75,7 @@ module _ {K X : Type 0} {R : K → K → Ordering} (o : IsKeyOrder R) (m : FinMa
         ∙ sym (ap (option_map f) (get-at_insert o m k x q))
 
     -- a map that keeps each row
-    row_put : (old new : BTreeMap K X) → tree.Updates R old new k (Some x)
+    pub row_put : (old new : BTreeMap K X) → tree.Updates R old new k (Some x)
         → ((q : K) → tree.get R old q ≡ get m q) → (q : K)
         → tree.get R new q ≡ get (insert m k x) q
     row_put old new put same q =
@@ -87,7 +84,7 @@ module _ {K X : Type 0} {R : K → K → Ordering} (o : IsKeyOrder R) (m : FinMa
         ∙ sym (get-at_insert o m k x q)
 
     -- a set that keeps each key
-    key_put : (old new : BTreeSet K) → set.Updates R old new k true
+    pub key_put : (old new : BTreeSet K) → set.Updates R old new k true
         → ((q : K) → set.contains R old q ≡ contains_key m q) → (q : K)
         → set.contains R new q ≡ contains_key (insert m k x) q
     key_put old new put same q =
@@ -98,21 +95,10 @@ module _ {K X : Type 0} {R : K → K → Ordering} (o : IsKeyOrder R) (m : FinMa
 
 -- ---- An audit
 
--- what is kept of a world with a row is kept of it with an equal row
-pub of_row : {audit : Audit} (w : World) (next other : Row) → next ≡ other
-    → (IsInTurn w other → IsNew w other → Fits w other → Keeps audit (with_row w other))
-    → IsInTurn w next → IsNew w next → Fits w next → Keeps audit (with_row w next)
-of_row {audit = audit} w next other is keeps =
-    subst (λ (r : Row). IsInTurn w r → IsNew w r → Fits w r → Keeps audit (with_row w r)) (sym is)
-    keeps
-
 -- where a minute came, none lacks
 minute_came : (minute : List ℕ) (ask : Ask) → lacks_minute (ask_with (Some minute) ask) ≡ false
 minute_came minute (Renew ask) = refl
-minute_came minute (Code ask) = refl
-minute_came minute (Early ask) = refl
-minute_came minute (Permanent ask) = refl
-minute_came minute (Block ask) = refl
+minute_came minute _ = refl
 
 -- what is free is so when an entry is marked
 marked_free : (w : World) (place : Place) (free : Option Vacancies) → MayBeOf w free
@@ -123,21 +109,6 @@ marked_free w place (Some vacancies) are =
     (contains-changed place_keys w.entries place (with_hold true)) (λ block. refl) are
 
 module _ (audit : Audit) (w : World) (keeps : Keeps audit w) where
-  pub keeps_cap : (new : BTreeSet (List ℕ)) (digest : List ℕ) (cap : Cap)
-      → set.Updates text_cmp audit.caps new digest true
-      → Keeps (record audit { caps = new }) (with_row w (row.Cap digest cap))
-  keeps_cap new digest cap put =
-      assumption (key_put text_keys w.caps digest cap audit.caps new put keeps.caps, keeps)
-
-  pub keeps_registry : (new : BTreeMap (List ℕ) Table) (name : List ℕ) (table : Table)
-      → tree.Updates text_cmp audit.registries new name (Some table)
-      → Keeps (record audit { registries = new }) (with_row w (row.Registry name table))
-  keeps_registry new name table put =
-      assumption (
-        row_put text_keys w.registries name table audit.registries new put keeps.registries,
-        keeps,
-      )
-
   pub keeps_entry : (new : BTreeMap Place Standing) (entry : Entry)
       → tree.Updates place_cmp audit.standings new (place_of entry)
       (Some (standing_of (registration_in entry)))
@@ -255,15 +226,6 @@ module _ (audit : Audit) (w : World) (keeps : Keeps audit w) where
           (sym (minute_came minute case.ask)) put) keeps.requests q
           ∙ sym (ap (λ r. option_map awaits_minute
           (get (replaced w.requests (account, reference) (option_map (with_minute (Some minute)) r)) q)) is)
-
-  pub keeps_link : (new : BTreeSet Link) (principal agent : List ℕ)
-      → set.Updates link_cmp audit.links new (principal, agent) true
-      → Keeps (record audit { links = new }) (with_row w (row.Link principal agent))
-  keeps_link new principal agent put =
-      assumption (
-        key_put link_keys w.agents (principal, agent) tt audit.links new put keeps.links,
-        keeps,
-      )
 
   -- nobody was assigned to it, and nobody has advised yet
   pub keeps_assignment : (new : BTreeMap Seat Bool) (account reference expert : List ℕ)

@@ -17,14 +17,14 @@ use Rattle.reg_core.specs.Request.{has_state_form}
 use Rattle.reg_core.specs.WellKept.{has_request_form, is_registered_at, is_held_by, is_size_asked, stands_in}
 use Rattle.reg_core.specs.World.{RequestName, place_cmp}
 use Rattle.reg_core.specs.declared.ask.Ask.{Ask}
-use Rattle.reg_core.specs.declared.ask.Ask.TheVariants.{Block, Code, Early, Permanent, Renew}
+use Rattle.reg_core.specs.declared.ask.Ask.TheVariants.{Renew}
 use Rattle.reg_core.specs.declared.ask.RenewalAsk.{RenewalAsk}
 use Rattle.reg_core.specs.declared.entry.Registration.{Registration}
 use Rattle.reg_core.specs.declared.holding.Holder.{Holder}
 use Rattle.reg_core.specs.declared.request.Case.{Case}
 use Rattle.reg_core.specs.declared.request.Given.TheVariants as given
 use Rattle.reg_core.specs.declared.request.State.{State}
-use Rattle.reg_core.specs.declared.request.State.TheVariants.{Pending, Approved, Declined, Withdrawn}
+use Rattle.reg_core.specs.declared.request.State.TheVariants.{Approved}
 use Rattle.reg_audit.specs.Rows.{lacks_minute}
 
 -- a row that is there is so after a change at a key, or is changed
@@ -53,24 +53,19 @@ changed_row {R = R} o m k f q x there = by (eq_by_cmp R q k) refl
 asked : (minute : List ℕ) (ask : Ask)
     → (registry_of (ask_with (Some minute) ask) ≡ registry_of ask)
     × ((size : Size) → is_size_asked (ask_with (Some minute) ask) size ≡ is_size_asked ask size)
-asked minute (Code ask) = (refl, λ size. refl)
-asked minute (Early ask) = (refl, λ size. refl)
 asked minute (Renew ask) = (refl, λ size. refl)
-asked minute (Permanent ask) = (refl, λ size. refl)
-asked minute (Block ask) = (refl, λ size. refl)
+asked minute _ = (refl, λ size. refl)
 
 -- and what a request stands by
 pub named_stands : (entries : FinMap place_cmp Registration) (blocks : FinMap block_cmp Holder)
     (account minute : List ℕ) (ask : Ask) (state : State)
     → stands_in entries blocks account (ask_with (Some minute) ask) state
     ≡ stands_in entries blocks account ask state
-named_stands entries blocks account minute ask Pending = refl
 named_stands entries blocks account minute ask (Approved (given.Value v)) =
     ap (λ registry. is_registered_at entries account registry v) (asked minute ask).0
 named_stands entries blocks account minute ask (Approved (given.Block block)) =
     ap (λ b. b && is_held_by account (get blocks block)) ((asked minute ask).1 block.size)
-named_stands entries blocks account minute ask (Declined reason) = refl
-named_stands entries blocks account minute ask Withdrawn = refl
+named_stands entries blocks account minute ask _ = refl
 
 -- a renewal without its minute has its form where it has it with one
 renewal_lowered : (minute : List ℕ) (ask : RenewalAsk) (iesg : Option (List ℕ)) → ask.iesg ≡ iesg
@@ -83,21 +78,15 @@ renewal_lowered minute ask (Some other) is lacks form = absurd (cc)
 
 ask_lowered : (minute : List ℕ) (ask : Ask) → lacks_minute ask ≡ true
     → has_ask_form (ask_with (Some minute) ask) ≡ true → has_ask_form ask ≡ true
-ask_lowered minute (Code ask) lacks form = form
-ask_lowered minute (Early ask) lacks form = form
 ask_lowered minute (Renew ask) lacks form = renewal_lowered minute ask ask.iesg refl lacks form
-ask_lowered minute (Permanent ask) lacks form = form
-ask_lowered minute (Block ask) lacks form = form
+ask_lowered minute _ lacks form = form
 
 -- and with one where it has it without
 ask_raised : (minute : List ℕ) (ask : Ask) → is_text minute ≡ true → has_ask_form ask ≡ true
     → has_ask_form (ask_with (Some minute) ask) ≡ true
-ask_raised minute (Code ask) text form = form
-ask_raised minute (Early ask) text form = form
 ask_raised minute (Renew ask) text form =
     ap (λ b. b && is_text minute) (first_so _ (has_note_form ask.iesg) form) ∙ text
-ask_raised minute (Permanent ask) text form = form
-ask_raised minute (Block ask) text form = form
+ask_raised minute _ text form = form
 
 -- a test in the middle gives way to one that follows from it
 instead : (a b c d : Bool) → (b ≡ true → c ≡ true) → (a && b && d) ≡ true → (a && c && d) ≡ true

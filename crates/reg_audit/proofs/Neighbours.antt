@@ -12,7 +12,7 @@ use Rattle.std.proofs.lemmas.Bool.Decides.{nat_tests}
 use Rattle.reg_blocks.specs.Block.{SizedPrefix, Clash, block_cmp, first_address, last_address}
 use Rattle.reg_blocks.proofs.BlocksAscend.{block_cmp-total}
 use Rattle.reg_blocks.proofs.EndsDecideClash.{apart_before, clash_by_ends}
-use Rattle.reg_audit.specs.Blocks.{Holders, IsHeld, AreApart, IsBefore, IsFrom, IsBeside}
+use Rattle.reg_audit.specs.Blocks.{Holders, IsHeld, HoldersAreApart, BeginsBefore, IsFrom, IsClearOf}
 use Rattle.reg_core.proofs.KeyOrders.{block_keys}
 
 -- ---- The order
@@ -50,7 +50,7 @@ pub last_found : (holders : Holders) (block : SizedPrefix)
     (between : List (SizedPrefix × List ℕ))
     → IsRangeOf block_cmp Unbounded (Excluded block) holders between
     → (last : SizedPrefix) (account : List ℕ) (rest : List (SizedPrefix × List ℕ))
-    → between ≡ rest ++ (last, account) ∷ [] → IsBefore holders block (Some last)
+    → between ≡ rest ++ (last, account) ∷ [] → BeginsBefore holders block (Some last)
 last_found holders block between range last account rest is =
     let entry = range.3 (last, account) rest is in (
       ap is_some entry.1,
@@ -74,7 +74,7 @@ tie Equal s e h k = refl
 tie Greater s e h k = absurd (cc)
 
 -- of blocks that are apart, one that is before another ends before it
-ends_before : (holders : Holders) → AreApart holders → (a b : SizedPrefix) → IsHeld holders a
+ends_before : (holders : Holders) → HoldersAreApart holders → (a b : SizedPrefix) → IsHeld holders a
     → IsHeld holders b → IsLtBy block_cmp a b → last_address a < first_address b
 ends_before holders apart a b in_a in_b lt =
     let up = first-before a b lt in
@@ -95,8 +95,8 @@ reaches a b clash = elim (cases_lt (last_address a) (first_address b)) [
 
 module _ (holders : Holders) (block : SizedPrefix) where
   -- one before the block: it is the last of these, or ends before that begins
-  apart_below : AreApart holders → (last : Option SizedPrefix) → IsBefore holders block last
-      → IsBeside last block → (other : SizedPrefix) → IsHeld holders other
+  apart_below : HoldersAreApart holders → (last : Option SizedPrefix) → BeginsBefore holders block last
+      → IsClearOf last block → (other : SizedPrefix) → IsHeld holders other
       → IsLtBy block_cmp other block → ¬ Clash block other
   apart_below apart None before beside other held lt clash = before other held lt
   apart_below apart (Some last) before beside other held lt clash =
@@ -113,7 +113,7 @@ module _ (holders : Holders) (block : SizedPrefix) where
       ]
 
   -- one from the block on: the first of these begins no later, and is reached as well
-  apart_from : (first : Option SizedPrefix) → IsFrom holders block first → IsBeside first block
+  apart_from : (first : Option SizedPrefix) → IsFrom holders block first → IsClearOf first block
       → (other : SizedPrefix) → IsHeld holders other → IsLeBy block_cmp block other
       → ¬ Clash block other
   apart_from None from beside other held le clash = from other held le
@@ -123,9 +123,9 @@ module _ (holders : Holders) (block : SizedPrefix) where
       let end = reaches block other clash in
       beside (clash_by_ends block first (omega arith) (omega arith))
 
-  pub apart_by_neighbours : AreApart holders → (last first : Option SizedPrefix)
-      → IsBefore holders block last → IsFrom holders block first → IsBeside last block
-      → IsBeside first block → (other : SizedPrefix) → IsHeld holders other → ¬ Clash block other
+  pub apart_by_neighbours : HoldersAreApart holders → (last first : Option SizedPrefix)
+      → BeginsBefore holders block last → IsFrom holders block first → IsClearOf last block
+      → IsClearOf first block → (other : SizedPrefix) → IsHeld holders other → ¬ Clash block other
   apart_by_neighbours apart last first before from beside_last beside_first other held clash =
       elim (below_or_from block_cmp-total other block) [
         | inl lt ↦ apart_below apart last before beside_last other held lt clash
@@ -133,14 +133,14 @@ module _ (holders : Holders) (block : SizedPrefix) where
       ]
 
   -- a block that is apart from all is so from its neighbours
-  pub beside_last : (last : Option SizedPrefix) → IsBefore holders block last
+  pub beside_last : (last : Option SizedPrefix) → BeginsBefore holders block last
       → ((other : SizedPrefix) → IsHeld holders other → ¬ Clash block other)
-      → IsBeside last block
+      → IsClearOf last block
   beside_last None before apart = tt
   beside_last (Some last) before apart = apart last before.0
 
   pub beside_first : (first : Option SizedPrefix) → IsFrom holders block first
       → ((other : SizedPrefix) → IsHeld holders other → ¬ Clash block other)
-      → IsBeside first block
+      → IsClearOf first block
   beside_first None from apart = tt
   beside_first (Some first) from apart = apart first from.0

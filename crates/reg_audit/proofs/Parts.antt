@@ -3,19 +3,14 @@ use Rattle.std.proofs.Common.{◌≡◌, ℕ, true, List, refl, sym, ap, ◌∙�
 use Rattle.std.specs.Prelude.{Option, Some, None, IsSome, is_some, ◌⊎◌}
 use Rattle.std.specs.FinMap as map
 use Rattle.std.specs.FinMap.{FinMap, get, contains_key, get-empty}
-use Rattle.std.specs.FinSet.{FinSet}
-use Rattle.std.specs.Ordering.{nat_cmp}
 use Rattle.std.specs.declared.cmp.Ordering.{Ordering}
-use Rattle.reg_blocks.specs.Block.{SizedPrefix, block_cmp, leading_24}
+use Rattle.reg_blocks.specs.Block.{SizedPrefix, leading_24}
 use Rattle.reg_early.specs.Terms.{may_be_held}
-use Rattle.reg_ranges.specs.Tables.{Table}
 use Rattle.reg_core.specs.Entry.{with_hold}
-use Rattle.reg_maps.specs.Maps.{text_cmp}
 use Rattle.reg_core.specs.Minutes.{with_minute}
 use Rattle.reg_core.specs.WellKept.{WellKept, has_entry_form, has_request_form, is_open_at, stands_in}
-use Rattle.reg_core.specs.World.{World, Link, Place, RequestName, Seat, link_cmp, name_cmp, place_cmp, seat_cmp}
+use Rattle.reg_core.specs.World.{World, Place, RequestName, Seat, name_cmp, place_cmp}
 use Rattle.reg_core.specs.declared.advice.Advice.{Advice}
-use Rattle.reg_core.specs.declared.capability.Cap.{Cap}
 use Rattle.reg_core.specs.declared.entry.Registration.{Registration}
 use Rattle.reg_core.specs.declared.holding.Holder.{Holder}
 use Rattle.reg_core.specs.declared.request.Case.{Case}
@@ -144,7 +139,7 @@ module _ (part whole : World) (rows : IsPart part whole) (kept : WellKept whole)
 -- ---- More rows in one map
 
 -- the rows of a world are part of themselves
-part_itself : (w : World) → IsPart w w
+pub part_itself : (w : World) → IsPart w w
 part_itself w = record {
   caps = λ digest cap there. there;
   registries = λ name table there. there;
@@ -162,23 +157,9 @@ part_itself w = record {
   all_seats = inr refl;
 }
 
--- and of those of a world with more of them in one map, where there is no row yet that is judged by
--- that map's
+-- and of those of a world with more of its entries or requests, where there is no row yet that is
+-- judged by these
 module _ (w : World) where
-  pub more_caps : (caps : FinMap text_cmp Cap)
-      → ((digest : List ℕ) (cap : Cap) → get w.caps digest ≡ Some cap
-      → get caps digest ≡ Some cap)
-      → IsPart w (record w { caps = caps })
-  more_caps caps stay = assumption (stay, part_itself w)
-
-  pub more_registries : (registries : FinMap text_cmp Table) → w.entries ≡ map.empty
-      → ((name : List ℕ) (table : Table) → get w.registries name ≡ Some table
-      → get registries name ≡ Some table)
-      → IsPart w (record w { registries = registries })
-  more_registries registries none stay =
-      let turn : (w.entries ≡ map.empty) ⊎ (w.registries ≡ registries) = inl none in
-      assumption (stay, turn, part_itself w)
-
   pub more_entries : (entries : FinMap place_cmp Registration) → w.requests ≡ map.empty
       → ((place : Place) (a : Registration) → get w.entries place ≡ Some a
       → (get entries place ≡ Some a) ⊎ (get entries place ≡ Some (with_hold true a)))
@@ -197,37 +178,3 @@ module _ (w : World) where
   more_requests requests none stay =
       let turn : (w.queue ≡ map.empty) ⊎ (w.requests ≡ requests) = inl none in
       assumption (stay, turn, part_itself w)
-
-  pub more_queue : (queue : FinSet seat_cmp) → w.advice ≡ map.empty
-      → ((seat : Seat) → contains_key w.queue seat ≡ true → contains_key queue seat ≡ true)
-      → IsPart w (record w { queue = queue })
-  more_queue queue none stay =
-      let turn : (w.advice ≡ map.empty) ⊎ (w.queue ≡ queue) = inl none in
-      assumption (stay, turn, part_itself w)
-
-  pub more_advice : (advice : FinMap seat_cmp Advice)
-      → ((seat : Seat) (given : Advice) → get w.advice seat ≡ Some given
-      → get advice seat ≡ Some given)
-      → IsPart w (record w { advice = advice })
-  more_advice advice stay = assumption (stay, part_itself w)
-
-  pub more_pool : (pool : FinSet nat_cmp) → w.blocks ≡ map.empty
-      → ((prefix : ℕ) → contains_key w.pool prefix ≡ true → contains_key pool prefix ≡ true)
-      → IsPart w (record w { pool = pool })
-  more_pool pool none stay =
-      let turn : (w.blocks ≡ map.empty) ⊎ (w.pool ≡ pool) = inl none in
-      assumption (stay, turn, part_itself w)
-
-  pub more_blocks : (blocks : FinMap block_cmp Holder) → w.requests ≡ map.empty
-      → ((block : SizedPrefix) (h : Holder) → get w.blocks block ≡ Some h
-      → get blocks block ≡ Some h)
-      → IsPart w (record w { blocks = blocks })
-  more_blocks blocks none stay =
-      let turn : (w.requests ≡ map.empty)
-      ⊎ ((w.entries ≡ w.entries) × (w.blocks ≡ blocks)) = inl none in
-      assumption (stay, turn, part_itself w)
-
-  pub more_agents : (agents : FinSet link_cmp)
-      → ((link : Link) → contains_key w.agents link ≡ true → contains_key agents link ≡ true)
-      → IsPart w (record w { agents = agents })
-  more_agents agents stay = assumption (stay, part_itself w)

@@ -2,6 +2,7 @@
 use Rattle.std.proofs.Common.{◌≡◌, ℕ, Bool, true, false, cond, ◌&&◌, List, refl, sym, ap, ◌∙◌, inl, inr}
 use Rattle.std.specs.Prelude.{Option, Some, None, IsSome, IsTrue, is_some, not, ◌⊎◌}
 use Rattle.std.specs.Cmp.{second_so}
+use Rattle.std.specs.FinMap as map
 use Rattle.std.specs.FinMap.{FinMap, get, insert}
 use Rattle.std.specs.Ordering.{eq_by_cmp}
 use Rattle.std.specs.declared.cmp.Ordering.{Ordering}
@@ -27,7 +28,7 @@ use Rattle.reg_audit.specs.Rows.{with_row, has_row_form, is_markable, is_unminut
 use Rattle.reg_audit.specs.declared.row.Row.{Row}
 use Rattle.reg_audit.specs.declared.row.Row.TheVariants as row
 use Rattle.reg_audit.proofs.Minutes.{changed_row, named_stands, request_raised}
-use Rattle.reg_audit.proofs.Parts.{no_row, part_kept, more_caps, more_registries, more_entries, more_requests, more_queue, more_advice, more_pool, more_blocks, more_agents}
+use Rattle.reg_audit.proofs.Parts.{no_row, part_itself, part_kept, more_entries, more_requests}
 
 -- ---- Rows that are there stay
 
@@ -61,10 +62,10 @@ minuted_row Q requests name minute case lacks (inr changed) =
 pub part_of_next : (w : World) (next : Row) → IsInTurn w next → IsNew w next
     → IsPart w (with_row w next)
 part_of_next w (row.Cap digest cap) turn new =
-    more_caps w (insert w.caps digest cap) (still_row text_keys w.caps digest cap new)
+    assumption (still_row text_keys w.caps digest cap new, part_itself w)
 part_of_next w (row.Registry name table) turn new =
-    more_registries w (insert w.registries name table) turn
-    (still_row text_keys w.registries name table new)
+    let all : (w.entries ≡ map.empty) ⊎ (w.registries ≡ insert w.registries name table) = inl turn in
+    assumption (still_row text_keys w.registries name table new, all, part_itself w)
 part_of_next w (row.Entry entry) turn new =
     let a = registration_in entry in
     more_entries w (insert w.entries (place_of entry) a) turn (λ place old there.
@@ -73,10 +74,12 @@ part_of_next w (row.Hold registry value) turn new =
     more_entries w (update w.entries (registry, value) (with_hold true)) turn (λ place a there.
     marked_row (changed_row place_keys w.entries (registry, value) (with_hold true) place a there))
 part_of_next w (row.Prefix prefix) turn new =
-    more_pool w (insert w.pool prefix tt) turn (still_in number_keys w.pool prefix tt)
+    let all : (w.blocks ≡ map.empty) ⊎ (w.pool ≡ insert w.pool prefix tt) = inl turn in
+    assumption (still_in number_keys w.pool prefix tt, all, part_itself w)
 part_of_next w (row.Block holding) turn new =
-    more_blocks w (insert w.blocks holding.block (holder_in holding)) turn
-    (still_row block_keys w.blocks holding.block (holder_in holding) new)
+    let after = insert w.blocks holding.block (holder_in holding) in
+    let all : (w.requests ≡ map.empty) ⊎ ((w.entries ≡ w.entries) × (w.blocks ≡ after)) = inl turn in
+    assumption (still_row block_keys w.blocks holding.block (holder_in holding) new, all, part_itself w)
 part_of_next w (row.Request request) turn new =
     let case = case_of request in
     more_requests w (insert w.requests (name_of request) case) turn (λ name old there.
@@ -90,13 +93,13 @@ part_of_next w (row.Minute account reference minute) turn new =
     there))
 part_of_next w (row.Seat account reference expert) turn new =
     let seat = seat_of account reference expert in
-    more_queue w (insert w.queue seat tt) turn (still_in seat_keys w.queue seat tt)
+    let all : (w.advice ≡ map.empty) ⊎ (w.queue ≡ insert w.queue seat tt) = inl turn in
+    assumption (still_in seat_keys w.queue seat tt, all, part_itself w)
 part_of_next w (row.Advice account reference expert advice) turn new =
     let seat = seat_of account reference expert in
-    more_advice w (insert w.advice seat advice) (still_row seat_keys w.advice seat advice new)
+    assumption (still_row seat_keys w.advice seat advice new, part_itself w)
 part_of_next w (row.Link principal agent) turn new =
-    more_agents w (insert w.agents (principal, agent) tt)
-    (still_in link_keys w.agents (principal, agent) tt)
+    assumption (still_in link_keys w.agents (principal, agent) tt, part_itself w)
 
 -- ---- A row of a well kept world fits
 
@@ -112,14 +115,11 @@ apart_from_others w holding new kept other there clash =
 
 pub next_fits : (w : World) (next : Row) → IsNew w next → WellKept (with_row w next)
     → Fits w next
-next_fits w (row.Cap digest cap) new kept = tt
-next_fits w (row.Registry name table) new kept = tt
 next_fits w (row.Entry entry) new kept =
     let there = get-inserted place_keys w.entries (place_of entry) (registration_in entry) in (
       kept.open_values (place_of entry) (registration_in entry) there,
       kept.held (place_of entry) (registration_in entry) there,
     )
-next_fits w (row.Hold registry value) new kept = tt
 next_fits w (row.Prefix prefix) new kept =
     kept.pool prefix (is_inserted number_keys w.pool prefix tt)
 next_fits w (row.Block holding) new kept = (
@@ -130,7 +130,6 @@ next_fits w (row.Block holding) new kept = (
 next_fits w (row.Request request) new kept =
     kept.given (name_of request) (case_of request)
     (get-inserted name_keys w.requests (name_of request) (case_of request))
-next_fits w (row.Minute account reference minute) new kept = tt
 next_fits w (row.Seat account reference expert) new kept =
     let seat = seat_of account reference expert in
     let there = is_inserted seat_keys w.queue seat tt in (
@@ -143,6 +142,7 @@ next_fits w (row.Advice account reference expert advice) new kept =
 next_fits w (row.Link principal agent) new kept =
     second_so (is_name principal && is_name agent) (not (same_text agent principal))
     (kept.agents (principal, agent) (is_inserted link_keys w.agents (principal, agent) tt))
+next_fits w _ new kept = tt
 
 -- ---- A row that fits leaves a world well kept
 

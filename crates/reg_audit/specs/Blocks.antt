@@ -12,15 +12,15 @@ abbrev pub IsHeld : Holders → SizedPrefix → Type 0
 IsHeld holders block = IsSome (get block_cmp holders block)
 
 -- no two blocks share an address
-abbrev pub AreApart : Holders → Type 0
-AreApart holders =
+abbrev pub HoldersAreApart : Holders → Type 0
+HoldersAreApart holders =
     (a b : SizedPrefix) → IsHeld holders a → IsHeld holders b → Clash a b → a ≡ b
 
 -- the last block before this one, or none where none is before it
-abbrev pub IsBefore : Holders → SizedPrefix → Option SizedPrefix → Type 0
-IsBefore holders block None =
+abbrev pub BeginsBefore : Holders → SizedPrefix → Option SizedPrefix → Type 0
+BeginsBefore holders block None =
     (other : SizedPrefix) → IsHeld holders other → ¬ IsLtBy block_cmp other block
-IsBefore holders block (Some last) =
+BeginsBefore holders block (Some last) =
     IsHeld holders last × IsLtBy block_cmp last block
     × ((other : SizedPrefix) → IsHeld holders other → IsLtBy block_cmp other block
     → IsLeBy block_cmp other last)
@@ -35,6 +35,6 @@ IsFrom holders block (Some first) =
     → IsLeBy block_cmp first other)
 
 -- the block shares no address with a neighbour that may be there
-abbrev pub IsBeside : Option SizedPrefix → SizedPrefix → Type 0
-IsBeside None block = Unit {0}
-IsBeside (Some neighbour) block = ¬ Clash block neighbour
+abbrev pub IsClearOf : Option SizedPrefix → SizedPrefix → Type 0
+IsClearOf None block = Unit {0}
+IsClearOf (Some neighbour) block = ¬ Clash block neighbour

@@ -1,7 +1,7 @@
 //! Blocks that share no address.
 ghost use Rattle.std.specs.Prelude.{◌≡◌, ◌↔◌, IsTrue};
 ghost use Rattle.reg_blocks.specs.Block.{SizedPrefix, Clash, leading_24};
-ghost use Rattle.reg_audit.specs.Blocks.{AreApart, IsBefore, IsBeside, IsFrom, IsHeld};
+ghost use Rattle.reg_audit.specs.Blocks.{HoldersAreApart, BeginsBefore, IsClearOf, IsFrom, IsHeld};
 
 use reg_blocks::block::Block;
 use reg_core::text::Account;
@@ -12,7 +12,7 @@ pub type Holders = BTreeMap<Block, Account>;
 
 /// Whether a block shares no address with any of these, where no two of these share one.
 pub fn is_apart(holders: &Holders, block: &Block) -> bool
-    ensures { AreApart holders.now → IsTrue result
+    ensures { HoldersAreApart holders.now → IsTrue result
         ↔ ((other : SizedPrefix) → IsHeld holders.now other → ¬ Clash block.now other) }
 {
     is_beside(last_before(holders, block), block) && is_beside(first_from(holders, block), block)
@@ -20,7 +20,7 @@ pub fn is_apart(holders: &Holders, block: &Block) -> bool
 
 // The last block before this one.
 fn last_before(holders: &Holders, block: &Block) -> Option<Block>
-    ensures { IsBefore holders.now block.now result }
+    ensures { BeginsBefore holders.now block.now result }
 {
     let (last, _) = holders.range(..*block).next_back()?;
     Some(*last)
@@ -36,7 +36,7 @@ fn first_from(holders: &Holders, block: &Block) -> Option<Block>
 
 // Whether there is no neighbour, or the block shares no address with it.
 fn is_beside(neighbour: Option<Block>, block: &Block) -> bool
-    ensures { IsTrue result ↔ IsBeside neighbour block.now }
+    ensures { IsTrue result ↔ IsClearOf neighbour block.now }
 {
     match neighbour {
         Some(neighbour) => !block.overlaps(&neighbour),

@@ -1,8 +1,9 @@
 //! The rows of an office.
-ghost use Rattle.std.specs.Prelude.{◌≡◌, true};
+ghost use Rattle.std.specs.Prelude.{◌≡◌, ◌&&◌, true};
 ghost use Rattle.reg_core.specs.Entry.{registration_in};
 ghost use Rattle.reg_core.specs.Holding.{holder_in};
 ghost use Rattle.reg_core.specs.MayBeGiven.{place_of};
+ghost use Rattle.reg_core.specs.Names.{is_name};
 ghost use Rattle.reg_core.specs.Request.{case_of};
 ghost use Rattle.reg_core.specs.WellKept.{has_entry_form, has_holding_form, has_request_form};
 ghost use Rattle.reg_audit.specs.Rows.{name_of};
@@ -75,15 +76,9 @@ impl Formed for Row {
                 reference.formed();
                 minute.formed();
             }
-            Row::Seat(account, reference, expert) => {
-                account.formed();
-                reference.formed();
-                expert.formed();
-            }
+            Row::Seat(account, reference, expert) => seat_formed(account, reference, expert),
             Row::Advice(account, reference, expert, advice) => {
-                account.formed();
-                reference.formed();
-                expert.formed();
+                seat_formed(account, reference, expert);
                 advice.formed();
             }
             Row::Link(principal, agent) => {
@@ -121,4 +116,12 @@ fn request_formed(request: &Request)
     request.reference.formed();
     request.ask.formed();
     request.state.formed();
+}
+
+fn seat_formed(account: &Account, reference: &Ref, expert: &Account)
+    ensures { (is_name account.now && is_name reference.now && is_name expert.now) ≡ true }
+{
+    account.formed();
+    reference.formed();
+    expert.formed();
 }

@@ -5,7 +5,7 @@ use Rattle.std.specs.List.Sorted.{IsStrictlyIncreasing}
 use Rattle.std.proofs.lemmas.Bool.{cases_lt}
 use Rattle.std.proofs.lemmas.List.{get_or_default}
 use Rattle.reg_blocks.specs.declared.size.Size.{Size}
-use Rattle.reg_blocks.specs.declared.size.Size.TheVariants.{MaL, MaM, MaS}
+use Rattle.reg_blocks.specs.declared.size.Size.TheVariants.{MaL}
 use Rattle.reg_blocks.specs.Size.{address_count, blocks_in_prefix}
 use Rattle.reg_blocks.specs.Pool.{is_pool_prefix}
 use Rattle.reg_blocks.specs.Block.{SizedPrefix, first_address, leading_24, make_block}
@@ -46,8 +46,7 @@ pub in_leading : (size : Size) (prefix : ℕ)
     → ((prefix / blocks_in_prefix size) * 2 ^ 24 ≤ prefix * address_count size)
     × (prefix * address_count size < (prefix / blocks_in_prefix size + 1) * 2 ^ 24)
 in_leading MaL prefix = (omega arith, omega arith)
-in_leading MaM prefix = (omega arith, omega arith)
-in_leading MaS prefix = (omega arith, omega arith)
+in_leading size prefix = (omega arith, omega arith)
 
 -- what is free in a pool is free in the pool of its one prefix
 free_alone : (pool : List ℕ) (given : List SizedPrefix) (block : SizedPrefix) (j : ℕ)

@@ -2,7 +2,7 @@
 use Rattle.std.proofs.Common.{◌≡◌, ℕ, ◌+◌, ◌-◌, ◌*◌, ◌/◌, ◌^◌, ◌<◌, ◌≤◌, inl, inr, sym, subst, arith}
 use Rattle.std.proofs.lemmas.Bool.{cases_lt}
 use Rattle.reg_blocks.specs.declared.size.Size.{Size}
-use Rattle.reg_blocks.specs.declared.size.Size.TheVariants.{MaL, MaM, MaS}
+use Rattle.reg_blocks.specs.declared.size.Size.TheVariants.{MaL}
 use Rattle.reg_blocks.specs.Size.{address_count, blocks_in_prefix}
 use Rattle.reg_blocks.specs.Block.{SizedPrefix, Clash, first_address, last_address}
 
@@ -19,20 +19,17 @@ of_every P size each block e =
 from_first : (size : Size) (prefix x : ℕ) → x / address_count size ≡ prefix
     → prefix * address_count size ≤ x
 from_first MaL prefix x h = omega arith
-from_first MaM prefix x h = omega arith
-from_first MaS prefix x h = omega arith
+from_first size prefix x h = omega arith
 
 to_last : (size : Size) (prefix x : ℕ) → x / address_count size ≡ prefix
     → x ≤ prefix * address_count size + (address_count size - 1)
 to_last MaL prefix x h = omega arith
-to_last MaM prefix x h = omega arith
-to_last MaS prefix x h = omega arith
+to_last size prefix x h = omega arith
 
 between : (size : Size) (prefix x : ℕ) → prefix * address_count size ≤ x
     → x ≤ prefix * address_count size + (address_count size - 1) → x / address_count size ≡ prefix
 between MaL prefix x lo hi = omega arith
-between MaM prefix x lo hi = omega arith
-between MaS prefix x lo hi = omega arith
+between size prefix x lo hi = omega arith
 
 -- a block that ends before another shares no address with it
 pub apart_before : (a b : SizedPrefix) → last_address a < first_address b → ¬ Clash a b
@@ -68,8 +65,7 @@ clash_by_ends a b h k =
 crosses_none : (size : Size) (prefix q : ℕ) → prefix * address_count size < q * 2 ^ 24
     → prefix * address_count size + (address_count size - 1) < q * 2 ^ 24
 crosses_none MaL prefix q h = omega arith
-crosses_none MaM prefix q h = omega arith
-crosses_none MaS prefix q h = omega arith
+crosses_none size prefix q h = omega arith
 
 pub ends_in_prefix : (block : SizedPrefix) (q : ℕ) → first_address block < q * 2 ^ 24
     → last_address block < q * 2 ^ 24
@@ -78,53 +74,44 @@ ends_in_prefix block q h = crosses_none block.size block.prefix q h
 -- the last address of a candidate lies below the first of the next one
 pub last-next : (size : Size) (k : ℕ) → last_address (sized size k) < (k + 1) * address_count size
 last-next MaL k = omega arith
-last-next MaM k = omega arith
-last-next MaS k = omega arith
+last-next size k = omega arith
 
 pub last-above : (size : Size) (k c x : ℕ) → c ≤ k → x < (c + 1) * address_count size
     → x ≤ last_address (sized size k)
 last-above MaL k c x h lt = omega arith
-last-above MaM k c x h lt = omega arith
-last-above MaS k c x h lt = omega arith
+last-above size k c x h lt = omega arith
 
 pub first-below : (size : Size) (k x : ℕ) → k < x / address_count size + 1
     → first_address (sized size k) ≤ x
 first-below MaL k x h = omega arith
-first-below MaM k x h = omega arith
-first-below MaS k x h = omega arith
+first-below size k x h = omega arith
 
 pub below-past : (size : Size) (k x : ℕ) → x / address_count size + 1 ≤ k
     → x < k * address_count size
 below-past MaL k x h = omega arith
-below-past MaM k x h = omega arith
-below-past MaS k x h = omega arith
+below-past size k x h = omega arith
 
 pub first-up : (size : Size) (c k : ℕ) → c ≤ k → c * address_count size ≤ k * address_count size
 first-up MaL c k h = omega arith
-first-up MaM c k h = omega arith
-first-up MaS c k h = omega arith
+first-up size c k h = omega arith
 
 -- the candidates of a 24-bit prefix
 pub candidate-low : (size : Size) (p k : ℕ) → k / blocks_in_prefix size ≡ p
     → p * blocks_in_prefix size ≤ k
 candidate-low MaL p k h = omega arith
-candidate-low MaM p k h = omega arith
-candidate-low MaS p k h = omega arith
+candidate-low size p k h = omega arith
 
 pub candidate-high : (size : Size) (p k : ℕ) → k / blocks_in_prefix size ≡ p
     → k < p * blocks_in_prefix size + blocks_in_prefix size
 candidate-high MaL p k h = omega arith
-candidate-high MaM p k h = omega arith
-candidate-high MaS p k h = omega arith
+candidate-high size p k h = omega arith
 
 pub candidate-leading : (size : Size) (p k : ℕ) → p * blocks_in_prefix size ≤ k
     → k < p * blocks_in_prefix size + blocks_in_prefix size → k / blocks_in_prefix size ≡ p
 candidate-leading MaL p k lo hi = omega arith
-candidate-leading MaM p k lo hi = omega arith
-candidate-leading MaS p k lo hi = omega arith
+candidate-leading size p k lo hi = omega arith
 
 pub candidate-end : (size : Size) (p c : ℕ) → c < p * blocks_in_prefix size + blocks_in_prefix size
     → (c + 1) * address_count size ≤ (p + 1) * 2 ^ 24
 candidate-end MaL p c h = omega arith
-candidate-end MaM p c h = omega arith
-candidate-end MaS p c h = omega arith
+candidate-end size p c h = omega arith

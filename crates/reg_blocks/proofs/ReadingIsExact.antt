@@ -7,7 +7,7 @@ use Rattle.std.specs.Str.Parse.{digits_value}
 use Rattle.std.proofs.lemmas.Bool.Decides.{nat_tests}
 use Rattle.std.proofs.lemmas.List.Sums.{AllPass-from_list_all, list_all-from_AllPass}
 use Rattle.reg_blocks.specs.declared.size.Size.{Size}
-use Rattle.reg_blocks.specs.declared.size.Size.TheVariants.{MaL, MaM, MaS}
+use Rattle.reg_blocks.specs.declared.size.Size.TheVariants.{MaL}
 use Rattle.reg_blocks.specs.Size.{digit_count, size_of_digits}
 use Rattle.reg_blocks.specs.Block.{SizedPrefix, is_block, make_block}
 use Rattle.reg_blocks.proofs.EndsDecideClash.{sized}
@@ -21,13 +21,11 @@ chain f (Some x) y e = (x, refl, e)
 
 count_of : (count : ℕ) (size : Size) → size_of_digits count ≡ Some size → count ≡ digit_count size
 count_of count MaL e = grind (arith, nat_tests)
-count_of count MaM e = grind (arith, nat_tests)
-count_of count MaS e = grind (arith, nat_tests)
+count_of count size e = grind (arith, nat_tests)
 
 size_of : (count : ℕ) (size : Size) → count ≡ digit_count size → size_of_digits count ≡ Some size
 size_of count MaL e = rw e refl
-size_of count MaM e = rw e refl
-size_of count MaS e = rw e refl
+size_of count size e = rw e refl
 
 if_true : {X : Type 0} (b : Bool) (x y : X) → (if b then Some x else None) ≡ Some y
     → (b ≡ true) × (x ≡ y)

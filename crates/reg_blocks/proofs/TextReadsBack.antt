@@ -61,8 +61,7 @@ fits MaS prefix h = let b = below (prefix / 2 ^ 12) h in omega arith
 
 own_size : (size : Size) → size_of_digits (digit_count size) ≡ Some size
 own_size MaL = refl
-own_size MaM = refl
-own_size MaS = refl
+own_size size = refl
 
 value_of_text : (count n : ℕ) → n < 16 ^ count → hex_value_of (hex_digits count n) ≡ Some n
 value_of_text count n h = rw (digits_only count n, value_back count n h) refl

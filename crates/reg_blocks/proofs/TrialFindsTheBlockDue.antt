@@ -9,7 +9,7 @@ use Rattle.std.proofs.lemmas.List.{get_or_default}
 use Rattle.std.proofs.lemmas.List.Sums.{AllPass-from_list_all, list_all-from_AllPass}
 use Rattle.std.proofs.lemmas.List.Elements.{recursion_from_All}
 use Rattle.reg_blocks.specs.declared.size.Size.{Size}
-use Rattle.reg_blocks.specs.declared.size.Size.TheVariants.{MaL, MaM, MaS}
+use Rattle.reg_blocks.specs.declared.size.Size.TheVariants.{MaL}
 use Rattle.reg_blocks.specs.Size.{address_count, blocks_in_prefix}
 use Rattle.reg_blocks.specs.Block.{SizedPrefix, Clash, first_address, last_address, leading_24, ends_meet}
 use Rattle.reg_blocks.specs.Due.{IsFree, IsDue, NoneIsFree, blocks_in, block_due}
@@ -296,8 +296,7 @@ module _ (pool : List ℕ) (given : List SizedPrefix) (size : Size) where
   same_first : (s : Size) (k l : ℕ) → k * address_count s ≤ l * address_count s
       → l * address_count s ≤ k * address_count s → k ≡ l
   same_first MaL k l h g = omega arith
-  same_first MaM k l h g = omega arith
-  same_first MaS k l h g = omega arith
+  same_first s k l h g = omega arith
 
   pub IsDue-unique : (a b : SizedPrefix) → IsDue pool given size a → IsDue pool given size b → a ≡ b
   IsDue-unique a b due_a due_b =

@@ -17,7 +17,7 @@ use Rattle.reg_core.specs.declared.reply.Reply.TheVariants.{Accepted}
 use Rattle.reg_keeper.specs.Keeper.{GoesOn, Makes, Selects}
 use Rattle.reg_keeper.proofs.Premises.{goes_on_anyway, goes_on_then}
 use Rattle.reg_commands.specs.Decisions.{CanMake}
-use Rattle.reg_commands.specs.Performs.{Finds, Performs}
+use Rattle.reg_commands.specs.Performs.{LooksUp, Performs}
 use Rattle.reg_commands.specs.Stops.{MayStop, Refuses, stop_of}
 use Rattle.reg_commands.specs.declared.stop.Stop.{Stop}
 use Rattle.reg_commands.specs.declared.stop.Stop.TheVariants.{Refused, Fault}
@@ -195,7 +195,7 @@ pub finds_decided : {S T : Type 0} {world : S → World} {Holds Sound : S → Ty
     {found : World → Result Decision Refusal} (decision : Decision)
     → Selects world Holds Sound fails old new (Ok rows) Gives
     → (Holds new → rule ≡ found (world new)) → Follows rule (Ok decision)
-    → Finds world Holds Sound fails old new (Ok decision) found
+    → LooksUp world Holds Sound fails old new (Ok decision) found
 finds_decided {rule = rule} {found = found} decision selects same follows = record {
   value = λ h. ap found (sym (selects.same h)) ∙ sym (same h) ∙ decided rule decision follows;
   refused = λ h. tt;
@@ -210,7 +210,7 @@ pub finds_denied : {S T : Type 0} {world : S → World} {Holds Sound : S → Typ
     → Selects world Holds Sound fails old new (Ok rows) Gives
     → (Holds new → rule ≡ found (world new)) → Follows rule (Err deny)
     → IsErrAnd result (λ stop. stop ≡ stop_of deny)
-    → Finds world Holds Sound fails old new result found
+    → LooksUp world Holds Sound fails old new result found
 finds_denied {fails = fails} {rule = rule} {found = found} {result = result}
     deny selects same follows stops =
     let p = err_from_is_err_and result stops in
@@ -241,7 +241,7 @@ module _ {S T : Type 0} {world : S → World} {Holds Sound : S → Type 0} {fail
   -- what was selected and then found is what the command is decided over
   pub decides_found : (decision : Decision) → Rules world Holds mid answer (found (world mid)) told
       → Selects world Holds Sound fails old mid (Ok x) Gives
-      → Finds world Holds Sound fails mid new (Ok decision) found
+      → LooksUp world Holds Sound fails mid new (Ok decision) found
       → Decides world Holds Sound old new answer (found (world mid)) told
   decides_found decision rules selects finds = record {
     answered = λ h. ap answer (finds.same h) ∙ rules.answered (finds.premise.before h);
@@ -256,7 +256,7 @@ module _ {S T : Type 0} {world : S → World} {Holds Sound : S → Type 0} {fail
   pub performs_stopped_at : {result : Result Told Stop} (stop : Stop)
       → Rules world Holds mid answer (found (world mid)) told
       → Selects world Holds Sound fails old mid (Ok x) Gives
-      → Finds world Holds Sound fails mid new (Err stop) found
+      → LooksUp world Holds Sound fails mid new (Err stop) found
       → IsErrAnd result (λ s. s ≡ stop)
       → Performs world Holds Sound fails old new result answer
   performs_stopped_at stop rules selects finds stops =

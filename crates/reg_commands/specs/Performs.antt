@@ -10,7 +10,7 @@ use Rattle.reg_commands.specs.Stops.{MayStop, Refuses}
 use Rattle.reg_commands.specs.declared.stop.Stop.{Stop}
 
 -- a function that only looks: it gives what the model does, or refuses as the model does
-pub record Finds {S T : Type 0} (world : S → World) (Holds Sound : S → Type 0) (fails : Bool)
+pub record LooksUp {S T : Type 0} (world : S → World) (Holds Sound : S → Type 0) (fails : Bool)
     (old new : S) (result : Result T Stop) (found : World → Result T Refusal) : Type 0 where
   pub value : Holds new → IfOk result (λ x. found (world old) ≡ Ok x)
   pub refused : Holds new → IfErr result (Refuses (found (world old)))

@@ -3,7 +3,7 @@ ghost use Rattle.std.specs.Prelude.{◌≡◌, None, Err};
 ghost use Rattle.std.specs.Option.{option_copied};
 ghost use Rattle.reg_core.specs.Answer.{admitted};
 ghost use Rattle.reg_commands.specs.Caller.{admission, caller_of as caller};
-ghost use Rattle.reg_commands.specs.Performs.{Finds};
+ghost use Rattle.reg_commands.specs.Performs.{LooksUp};
 
 use crate::digest::caller_of;
 use crate::stop::Stop;
@@ -29,7 +29,7 @@ pub fn admit<K: Keeper>(
     moment: u64,
     kind: Kind,
 ) -> Result<Caller, Stop>
-    ensures caller { Finds K.world K.Holds K.Sound K.FAILS keeper.old keeper.new result
+    ensures caller { LooksUp K.world K.Holds K.Sound K.FAILS keeper.old keeper.new result
         (λ w. admission w (caller (option_copied token.entry)) moment kind) }
     ensures nobody { caller (option_copied token.entry) ≡ None →
         result ≡ Err (Stop.Refused Refusal.Token) }

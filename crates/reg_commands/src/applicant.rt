@@ -9,7 +9,7 @@ ghost use Rattle.reg_core.specs.WellKept.{has_request_form};
 ghost use Rattle.reg_core.specs.World.{RequestName, pending as pending_case};
 ghost use Rattle.reg_core.specs.declared.command.ApplicantCommand.TheVariants as command;
 ghost use Rattle.reg_commands.specs.Answers.{answer_to_account, told_made};
-ghost use Rattle.reg_commands.specs.Performs.{Finds, Performs};
+ghost use Rattle.reg_commands.specs.Performs.{LooksUp, Performs};
 
 use crate::agents::{list_agents, list_principal_rows, list_principals, set_agent};
 use crate::carrying::{conclude, conclude_on};
@@ -98,7 +98,7 @@ fn submission<K: Keeper>(
     reference: &Ref,
     ask: &Ask,
 ) -> Result<Decision, Stop>
-    ensures { Finds K.world K.Holds K.Sound K.FAILS keeper.old keeper.new result
+    ensures { LooksUp K.world K.Holds K.Sound K.FAILS keeper.old keeper.new result
         (λ w. submit_rule (allowed (published w) account.now ask.now)
         (account.now, reference.now) ask.now (option_map case_of (option_copied existing.entry))) }
 {

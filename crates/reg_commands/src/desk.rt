@@ -5,7 +5,7 @@ ghost use Rattle.reg_core.specs.View.{published};
 ghost use Rattle.reg_core.specs.declared.command.ClerkCommand.TheVariants as command;
 ghost use Rattle.reg_commands.specs.Answers.{answer_to_clerk, answer_at_desk};
 ghost use Rattle.reg_commands.specs.Decisions.{approval_of};
-ghost use Rattle.reg_commands.specs.Performs.{Finds, Performs};
+ghost use Rattle.reg_commands.specs.Performs.{LooksUp, Performs};
 
 use crate::carrying::conclude_on;
 use crate::ground::ground_if;
@@ -80,7 +80,7 @@ pub fn approve<K: Keeper>(
 
 // What is decided of an approval. No registry is looked at for a request that is not pending.
 fn approval<K: Keeper>(keeper: &mut K, file: &CaseFile, today: Day) -> Result<Decision, Stop>
-    ensures { Finds K.world K.Holds K.Sound K.FAILS keeper.old keeper.new result
+    ensures { LooksUp K.world K.Holds K.Sound K.FAILS keeper.old keeper.new result
         (λ w. approval_of (published w) file.now today) }
 {
     let request = &file.request;

@@ -5,7 +5,7 @@ ghost use Rattle.reg_core.specs.Page.{page_entries};
 ghost use Rattle.reg_core.specs.View.{published};
 ghost use Rattle.reg_keeper.specs.Keeper.{Selects};
 ghost use Rattle.reg_commands.specs.Pages.{page_on, shown_on};
-ghost use Rattle.reg_commands.specs.Performs.{Finds, Performs};
+ghost use Rattle.reg_commands.specs.Performs.{LooksUp, Performs};
 
 use crate::stop::Stop;
 use reg_core::command::PublicCommand;
@@ -39,7 +39,7 @@ pub fn perform<K: Keeper>(
 
 // The registry of this name as it is on a day.
 fn page<K: Keeper>(alloc: Global, keeper: &mut K, today: Day, name: &Name) -> Result<Page, Stop>
-    ensures { Finds K.world K.Holds K.Sound K.FAILS keeper.old keeper.new result
+    ensures { LooksUp K.world K.Holds K.Sound K.FAILS keeper.old keeper.new result
         (λ w. page_on (published w) name.now today) }
 {
     let table = keeper.ranges(name)?.ok_or(Refusal::Registry)?;

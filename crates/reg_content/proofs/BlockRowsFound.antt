@@ -12,13 +12,7 @@ use Rattle.reg_core.specs.declared.holding.Holding.{Holding}
 use Rattle.reg_core.proofs.KeyOrders.{block_keys}
 use Rattle.reg_content.proofs.BlockRowsListed.{pair}
 use Rattle.reg_content.proofs.BlockRows.{tie_decides}
-use Rattle.reg_content.proofs.Found.{pairs_again}
-
-kept : {X : Type 0} (b : Bool) → b ≡ true → (r : Option X)
-    → option_and_then (λ x. only_if b x) r ≡ r
-kept true e None = refl
-kept true e (Some x) = refl
-kept false e r = absurd (cc)
+use Rattle.reg_content.proofs.Found.{each_passes, pairs_again}
 
 -- the holding, if it is of this block and one of this account's
 abbrev if_of : List ℕ → SizedPrefix → Option Holding → Option Holding
@@ -61,7 +55,8 @@ found_holding m account block found is =
     let here = (tie_decides number_keys (first_address block) (first_address block)).1 refl in
     let same : find block_cmp block (map pair (option_to_list found)) ≡ get m block =
     ap (find block_cmp block) (ap (map pair) is ∙ pairs_again pair holding_row (λ e. refl) _) ∙ sym (get-entries (select begins m) block)
-    ∙ get-select block_keys begins m block ∙ kept _ here (get m block) in
+    ∙ get-select block_keys begins m block
+    ∙ ap (λ b. option_and_then (λ x. only_if b x) (get m block)) here ∙ each_passes (get m block) in
     chosen_row account block found
     ∙ ap (λ held. option_map (holding_row block) (if_held account held)) same
     ∙ ap (option_map (holding_row block)) (sym (get-select block_keys

@@ -16,7 +16,7 @@ use Rattle.reg_core.specs.declared.request.State.{State}
 use Rattle.reg_core.proofs.KeyOrders.{name_keys, place_keys}
 use Rattle.reg_records.specs.Requests.Forms.{gives_its_kind}
 use Rattle.reg_content.specs.Calls.{Steps}
-use Rattle.reg_content.specs.Changing.{Fits}
+use Rattle.reg_content.specs.Changing.{ChangeFits}
 use Rattle.reg_content.specs.Marks.{IsHeldSo}
 use Rattle.reg_content.proofs.Joining.{steps_as}
 use Rattle.reg_records.proofs.RequestLaws.Kept.{stands_in-gives_its_kind}
@@ -24,10 +24,10 @@ use Rattle.reg_records.proofs.RequestLaws.Kept.{stands_in-gives_its_kind}
 -- a write whose premise the change implies, and that makes what the change does, makes the change
 pub makes : {T E : Type 0} {a b : Store} {result : Result T E} {F : World → Type 0}
     {f : World → World} {change : Change} (is : Change) → change ≡ is → Steps a b result F f
-    → ((w : World) → Fits is w → F w × (f w ≡ applied w is))
-    → Steps a b result (Fits change) (λ w. applied w change)
+    → ((w : World) → ChangeFits is w → F w × (f w ≡ applied w is))
+    → Steps a b result (ChangeFits change) (λ w. applied w change)
 makes {a = a} {b = b} {result = result} is same steps meets =
-    subst (λ change. Steps a b result (Fits change) (λ w. applied w change)) (sym same)
+    subst (λ change. Steps a b result (ChangeFits change) (λ w. applied w change)) (sym same)
     (steps_as steps meets)
 
 there : {X : Type 0} (o : Option X) → IsSome o → (x : X) × (o ≡ Some x)

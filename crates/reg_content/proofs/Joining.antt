@@ -4,37 +4,41 @@ use Rattle.sqlite.specs.Effect.{Database}
 use Rattle.sqlite.specs.State.{State}
 use Rattle.reg_core.specs.World.{World}
 use Rattle.reg_tables.proofs.MakeLemmas.{on_ok}
-use Rattle.reg_content.specs.Calls.{Steps, StepsIn}
+use Rattle.reg_content.specs.Calls.{Steps, StepsAt, StepsIn}
 use Rattle.reg_statements.specs.Content.{IsStored, assembled, content_of, parts_of}
 use Rattle.reg_statements.specs.Parts.{Parts}
 
--- where the premise implies the write's own, and then the change is the same
-pub steps_as : {T E : Type 0} {a b : State} {result : Result T E} {F G : World → Type 0}
-    {f g : World → World} → Steps a b result F f
-    → ((w : World) → G w → F w × (f w ≡ g w)) → Steps a b result G g
-steps_as {a = a} {result = result} it meets = record {
+-- as what it does to what else is seen
+steps_by : {W V T E : Type 0} {seen : Database → W} {shown : Database → V} {a b : State}
+    {result : Result T E} {F : W → Type 0} {G : V → Type 0} {f : W → W} {g : V → V}
+    → StepsAt seen a b result F f
+    → (IsStored a.now → G (shown a.now) → F (seen a.now)
+    × (seen b.now ≡ f (seen a.now) → shown b.now ≡ g (shown a.now)))
+    → StepsAt shown a b result G g
+steps_by {result = result} it meets = record {
   endures = it.endures;
   kept = it.kept;
   went = it.went;
   tables = it.tables;
   turns = λ clean. on_ok result (λ turns stored fits.
-      let both = meets (content_of a.now) fits in
+      let both = meets stored fits in
       let done = turns stored both.0 in
-      (done.0, done.1 ∙ both.1)) (it.turns clean);
+      (done.0, both.1 done.1)) (it.turns clean);
 }
+
+-- where the premise implies the write's own, and then the change is the same
+pub steps_as : {T E : Type 0} {a b : State} {result : Result T E} {F G : World → Type 0}
+    {f g : World → World} → Steps a b result F f
+    → ((w : World) → G w → F w × (f w ≡ g w)) → Steps a b result G g
+steps_as {a = a} it meets = steps_by it (λ stored fits.
+    let both = meets (content_of a.now) fits in
+    (both.0, λ done. done ∙ both.1))
 
 -- what a write does to the parts, as what it does to the office
 pub steps_in : {T E : Type 0} {a b : State} {result : Result T E} {F : Parts → Type 0}
     {G : World → Type 0} {f : Parts → Parts} {g : World → World} → StepsIn a b result F f
     → ((db : Database) → IsStored db → G (content_of db)
     → F (parts_of db) × (assembled (f (parts_of db)) ≡ g (content_of db))) → Steps a b result G g
-steps_in {a = a} {result = result} it meets = record {
-  endures = it.endures;
-  kept = it.kept;
-  went = it.went;
-  tables = it.tables;
-  turns = λ clean. on_ok result (λ turns stored fits.
-      let both = meets a.now stored fits in
-      let done = turns stored both.0 in
-      (done.0, ap assembled done.1 ∙ both.1)) (it.turns clean);
-}
+steps_in {a = a} it meets = steps_by it (λ stored fits.
+    let both = meets a.now stored fits in
+    (both.0, λ done. ap assembled done ∙ both.1))

@@ -5,6 +5,7 @@ pub mod EntryRowsAscending
 pub mod MappedRows
 pub mod MarkedRows
 pub mod MinutedRows
+pub mod AskedRows
 pub mod BlockRows
 pub mod BlockRowsListed
 pub mod BlockRowsFound
@@ -15,7 +16,6 @@ pub mod RegistryRowsAdded
 pub mod RegistryRowsSteps
 pub mod Writing
 pub mod RequestRowsWritten
-pub mod WaitingRows
 pub mod Joining
 pub mod Fitting
 pub mod Revoked
@@ -26,5 +26,4 @@ pub mod QueuedRowsFound
 pub mod SeatRows
 pub mod MarksWritten
 pub mod MinutesWritten
-pub mod LinkRows
 pub mod WholeTables

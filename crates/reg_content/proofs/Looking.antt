@@ -29,82 +29,44 @@ looks {old = old} {new = new} keeping idle endures stays value = record {
   value = value;
 }
 
--- what is so of the parts is so of the office
-pub looks_as : {T E : Type 0} {old new : State} {result : Result T E} {F : Parts → T → Type 0}
-    {G : World → T → Type 0} → LooksIn old new result F
-    → ((p : Parts) (x : T) → F p x → G (assembled p) x) → Looks old new result G
-looks_as {old = old} {result = result} {F = F} {G = G} it gives = record {
+-- what a call shows is told of another result, and of what else is seen
+pub looks_by : {W V T U E F : Type 0} {seen : Database → W} {shown : Database → V} {old new : State}
+    {result : Result T E} {told : Result U F} {G : W → T → Type 0} {H : V → U → Type 0}
+    → LooksAt seen old new result G
+    → (Holds new → IfOk result (G (seen old.now)) → IfOk told (H (shown old.now)))
+    → LooksAt shown old new told H
+looks_by it tells = record {
   keeping = it.keeping;
   endures = it.endures;
   stays = it.stays;
   on = it.on;
-  value = λ h. IfOk-weaker result (F (parts_of old.now)) (G (content_of old.now))
-      (gives (parts_of old.now)) (it.value h);
+  value = λ h. tells h (it.value h);
 }
 
--- and what is so of them by what their rows owe to one another
-pub looks_tied : {T E : Type 0} {old new : State} {result : Result T E} {F : Parts → T → Type 0}
-    {G : World → T → Type 0} → IsKeeping old → LooksIn old new result F
-    → ((p : Parts) (x : T) → AreTied p → F p x → G (assembled p) x) → Looks old new result G
-looks_tied {old = old} {result = result} {F = F} {G = G} keeping it gives = record {
-  keeping = it.keeping;
-  endures = it.endures;
-  stays = it.stays;
-  on = it.on;
-  value = λ h.
-      let was = keeping.stored (stays_held it.stays h) in
-      IfOk-weaker result (F (parts_of old.now)) (G (content_of old.now))
-      (λ x. gives (parts_of old.now) x was.kept.tied) (it.value h);
-}
-
--- and of what a later step makes of it, or gives up
+-- what is so of the parts is so of the office, and of what a later step makes of it or gives up
 pub looks_if : {T U E F : Type 0} {old new : State} {x : T} {result : Result U E}
     {G : Parts → T → Type 0} {H : World → U → Type 0} → LooksIn {E = F} old new (Ok x) G
     → ((p : Parts) → G p x → IfOk result (H (assembled p))) → Looks old new result H
-looks_if {old = old} it gives = record {
-  keeping = it.keeping;
-  endures = it.endures;
-  stays = it.stays;
-  on = it.on;
-  value = λ h. gives (parts_of old.now) (it.value h);
-}
+looks_if {old = old} it gives = looks_by it (λ h. gives (parts_of old.now))
 
 -- what is told of a call tells more of it
 pub looks_so : {W T E : Type 0} {seen : Database → W} {old new : State} {result : Result T E}
     {F G : W → T → Type 0} → LooksAt seen old new result F → ((w : W) (x : T) → F w x → G w x)
     → LooksAt seen old new result G
-looks_so {seen = seen} {old = old} {result = result} {F = F} {G = G} it tells = record {
-  keeping = it.keeping;
-  endures = it.endures;
-  stays = it.stays;
-  on = it.on;
-  value = λ h. IfOk-weaker result (F (seen old.now)) (G (seen old.now)) (tells (seen old.now))
-      (it.value h);
-}
+looks_so {seen = seen} {old = old} {result = result} it tells =
+    looks_by it (λ h. IfOk-weaker result _ _ (tells (seen old.now)))
 
 -- and of what is made of it
 pub looks_told : {W T U E : Type 0} {seen : Database → W} {old new : State} {x : T} {y : U}
     {F : W → T → Type 0} {G : W → U → Type 0} → LooksAt {E = E} seen old new (Ok x) F
     → ((w : W) → F w x → G w y) → LooksAt {E = E} seen old new (Ok y) G
-looks_told {seen = seen} {old = old} it gives = record {
-  keeping = it.keeping;
-  endures = it.endures;
-  stays = it.stays;
-  on = it.on;
-  value = λ h. gives (seen old.now) (it.value h);
-}
+looks_told {seen = seen} {old = old} it gives = looks_by it (λ h. gives (seen old.now))
 
 -- and so of the office
 pub looks_made : {T U E : Type 0} {old new : State} {x : T} {y : U} {F : Parts → T → Type 0}
     {G : World → U → Type 0} → LooksIn {E = E} old new (Ok x) F
     → ((p : Parts) → F p x → G (assembled p) y) → Looks {E = E} old new (Ok y) G
-looks_made {old = old} it gives = record {
-  keeping = it.keeping;
-  endures = it.endures;
-  stays = it.stays;
-  on = it.on;
-  value = λ h. gives (parts_of old.now) (it.value h);
-}
+looks_made {old = old} it gives = looks_by it (λ h. gives (parts_of old.now))
 
 -- a call that does nothing looks
 pub looks_still : {W T E : Type 0} {seen : Database → W} {s : State} {x : T}
@@ -137,6 +99,18 @@ pub looks_then : {W T U V E : Type 0} {seen : Database → W} {a b c : State} {x
     → LooksAt {E = E} seen a b (Ok x) F → LooksAt {E = E} seen b c (Ok y) G
     → ((w : W) → F w x → G w y → H w z) → LooksAt {E = E} seen a c (Ok z) H
 looks_then first second joins = looks_both first second joins
+
+-- and so of the office, by what the rows of its parts owe to one another
+pub looks_joined : {T U V E : Type 0} {a b c : State} {x : T} {y : U} {z : V}
+    {F : Parts → T → Type 0} {G : Parts → U → Type 0} {H : World → V → Type 0} → IsKeeping a
+    → LooksIn {E = E} a b (Ok x) F → LooksIn {E = E} b c (Ok y) G
+    → ((p : Parts) → AreTied p → F p x → G p y → H (assembled p) z) → Looks {E = E} a c (Ok z) H
+looks_joined {E = E} {a = a} {c = c} {x = x} {y = y} {F = F} {G = G} keeping first second joins =
+    let both : LooksIn {E = E} a c (Ok (tt {0})) (λ p u. F p x × G p y) =
+    looks_then first second (λ p is told. (is, told)) in
+    looks_by both (λ h told.
+    let was = keeping.stored (stays_held both.stays h) in
+    joins (parts_of a.now) was.kept.tied told.0 told.1)
 
 -- and where the second was given up, nothing is told
 pub looks_failed : {W T U V E : Type 0} {seen : Database → W} {a b c : State} {first : Result T E}

@@ -2,17 +2,16 @@
 use Rattle.std.proofs.Common.{◌≡◌, ℕ, Bool, true, false, ◌&&◌, ◌||◌, List, [], ◌∷◌, map}
 use Rattle.std.proofs.Common.{Option, Some, None, is_some, option_and_then, option_map, refl, sym, ap, ◌∙◌}
 use Rattle.std.proofs.Math.Bool.{and-true}
-use Rattle.std.proofs.lemmas.List.Elements.{All-contains, All-map}
-use Rattle.std.proofs.lemmas.Map.Views.{Contains-from_any, list_any-from_Contains}
+use Rattle.std.proofs.lemmas.List.Elements.{recursion_from_All}
 use Rattle.std.proofs.lemmas.Simd.{map-map}
 use Rattle.std.specs.Cmp.{eq_by_cmp_equiv}
 use Rattle.std.specs.BTreeSet.{BTreeSet, contains}
-use Rattle.std.specs.FinMap.{FinMap, contains_key, entries, get}
-use Rattle.std.specs.List.{All, Contains, list_any}
+use Rattle.std.specs.FinMap.{FinMap, contains_key, contains_key-keys, entries, get}
+use Rattle.std.specs.List.{AllByRecursion, list_any}
 use Rattle.std.specs.Ordering.{eq_by_cmp, nat_cmp}
-use Rattle.reg_maps.specs.Maps.{only_if, same_text, select}
-use Rattle.reg_maps.proofs.MapLaws.{All-entries, Contains-entries, Contains-map, get-select, number_keys, same_at, text_keys, tied}
-use Rattle.reg_maps.proofs.KeyTests.{text_test}
+use Rattle.reg_maps.specs.Maps.{only_if, same_text, select, text_cmp}
+use Rattle.reg_maps.proofs.MapLaws.{All-entries, get-select, same_at, text_keys, tied}
+use Rattle.reg_maps.proofs.KeyTests.{pair_test, text_test}
 use Rattle.reg_maps.proofs.Mapped.{get-mapped, mapped}
 use Rattle.reg_core.specs.Entry.{entry_row, with_hold}
 use Rattle.reg_core.specs.Page.{entry_rows}
@@ -27,6 +26,7 @@ use Rattle.reg_statements.specs.Defined.{rows_where}
 use Rattle.reg_statements.specs.Office as office
 use Rattle.reg_statements.specs.Parts.{Parts}
 use Rattle.reg_content.specs.Marks.{entry_held, entry_marked, held_among, is_among, marked_by}
+use Rattle.reg_content.proofs.Found.{chosen_by, each_passes, itself}
 use Rattle.reg_content.proofs.MappedRows.{rows_mapped}
 
 -- ---- Only what expires has a mark
@@ -129,59 +129,34 @@ entries_listed p ties registry =
 pub told_alike : (marks : List Hold) (values : BTreeSet ℕ)
     → ((value : ℕ) → contains nat_cmp values value ≡ is_among marks value) → (es : List Entry)
     → map (marked_by values) es ≡ map (held_among marks) es
-told_alike marks values told [] = refl
-told_alike marks values told (e ∷ es) =
-    λ i. entry_held (is_some e.term.expires && told e.value i) e ∷ told_alike marks values told es i
-
-same_truth : (a b : Bool) → (a ≡ true → b ≡ true) → (b ≡ true → a ≡ true) → a ≡ b
-same_truth true b to from = sym (to refl)
-same_truth false true to from = from refl
-same_truth false false to from = refl
+told_alike marks values told es =
+    λ i. map (λ e. entry_held (is_some e.term.expires && told e.value i) e) es
 
 module _ (p : Parts) (registry : List ℕ) where
   abbrev own : FinMap place_cmp (Unit {0})
   own = select (λ place u. only_if (same_text place.0 registry) u) p.holds
 
-  abbrev is_held : ℕ → Type 0
-  is_held value = contains_key p.holds (registry, value) ≡ true
+  -- each mark is one of the registry
+  abbrev AreOf : List (Place × Unit {0}) → Type 0
+  AreOf = AllByRecursion (λ e. e.0.0 ≡ registry)
 
-  each_held : All (λ e. is_held e.0.1) (entries own)
-  each_held = All-entries place_keys.total (λ e. is_held e.0.1) own (λ place u is.
-      go place (get p.holds place) refl
-      (sym (get-select place_keys (λ place u. only_if (same_text place.0 registry) u) p.holds place)
-      ∙ is))
-    where
-      go : (place : Place) (r : Option (Unit {0})) → get p.holds place ≡ r
-          → option_and_then (λ u. only_if (same_text place.0 registry) u) r ≡ Some tt
-          → is_held place.1
-      go place None was is = absurd (cc)
-      go place (Some u) was is =
-          elim (same_text place.0 registry) as (λ b. same_text place.0 registry ≡ b
-          → only_if b u ≡ Some tt → is_held place.1) [
-            | true ↦ λ t is.
-                let same : place.0 ≡ registry = tied text_keys place.0 registry
-                (sym (text_test place.0 registry) ∙ t) in
-                ap (λ name. is_some (get p.holds (name, place.1))) (sym same) ∙ ap is_some was
-            | false ↦ λ t is. absurd (cc)
-          ] refl is
+  are_own : AreOf (entries own)
+  are_own =
+      recursion_from_All (λ e. e.0.0 ≡ registry) (entries own)
+      (All-entries place_keys.total (λ e. e.0.0 ≡ registry) own (λ place u is.
+      (chosen_by place_keys (λ place. place.0) registry p.holds place u is).0))
 
-  listed : (value : ℕ) → is_held value
-      → Contains (map (λ e. e.0.1) (entries own)) value
-  listed value held =
-      Contains-map (λ e. e.0.1) (entries own) ((registry, value), tt)
-      (Contains-entries place_keys own (registry, value) tt
-      (get-select place_keys (λ place u. only_if (same_text place.0 registry) u) p.holds
-      (registry, value)
-      ∙ ap (λ r. option_and_then (λ u. only_if (same_text registry registry) u) r)
-      (is_there (get p.holds (registry, value)) held)
-      ∙ ap (λ b. only_if b tt) (itself registry)))
-    where
-      is_there : (r : Option (Unit {0})) → is_some r ≡ true → r ≡ Some tt
-      is_there None some = absurd (cc)
-      is_there (Some u) some = refl
-
-      itself : (name : List ℕ) → same_text name name ≡ true
-      itself name = text_test name name ∙ (eq_by_cmp_equiv text_keys.total).refl name
+  -- and then a value is found by its place
+  found_at : (value : ℕ) (es : List (Place × Unit {0})) → AreOf es
+      → list_any (eq_by_cmp nat_cmp value) (map (λ e. e.0.1) es)
+      ≡ list_any (eq_by_cmp place_cmp (registry, value)) (map (λ e. e.0) es)
+  found_at value [] of = refl
+  found_at value (e ∷ es) of =
+      let first = sym (ap (eq_by_cmp text_cmp registry) of.0
+      ∙ (eq_by_cmp_equiv text_keys.total).refl registry) in
+      let here = pair_test text_cmp nat_cmp true (eq_by_cmp nat_cmp value e.0.1) (registry, value) e.0
+      first refl in
+      λ i. here i || found_at value es of.1 i
 
   -- the marks have the value where the entry at it is held
   pub among : (marks : List Hold)
@@ -190,13 +165,11 @@ module _ (p : Parts) (registry : List ℕ) where
   among marks is value =
       ap (λ marks. is_among marks value) is
       ∙ ap (list_any (eq_by_cmp nat_cmp value)) (map-map _ _ (entries own))
-      ∙ same_truth (list_any (eq_by_cmp nat_cmp value) (map (λ e. e.0.1) (entries own)))
-      (contains_key p.holds (registry, value))
-      (λ t. All-contains is_held (map (λ e. e.0.1) (entries own)) value
-      (All-map is_held (λ e. e.0.1) (entries own) each_held)
-      (Contains-from_any (tied number_keys) value (map (λ e. e.0.1) (entries own)) t))
-      (λ t. list_any-from_Contains (eq_by_cmp_equiv number_keys.total) value
-      (map (λ e. e.0.1) (entries own)) (listed value t))
+      ∙ found_at value (entries own) are_own ∙ sym (contains_key-keys own (registry, value))
+      ∙ ap is_some (get-select place_keys (λ place u. only_if (same_text place.0 registry) u) p.holds
+      (registry, value)
+      ∙ ap (λ b. option_and_then (λ u. only_if b u) (get p.holds (registry, value))) (itself registry)
+      ∙ each_passes (get p.holds (registry, value)))
 
   -- where no entry expires the marks do not count
   none_expire : (marks : List Hold) (es : List Entry)
@@ -215,9 +188,8 @@ module _ (p : Parts) (registry : List ℕ) where
   all_told : (marks : List Hold)
       → ((value : ℕ) → is_among marks value ≡ contains_key p.holds (registry, value))
       → (es : List Entry) → map (held_among marks) es ≡ map (entry_marked p registry) es
-  all_told marks told [] = refl
-  all_told marks told (e ∷ es) =
-      λ i. entry_held (is_some e.term.expires && told e.value i) e ∷ all_told marks told es i
+  all_told marks told es =
+      λ i. map (λ e. entry_held (is_some e.term.expires && told e.value i) e) es
 
   -- the marks are told by those that were read, if an entry expires
   pub marks_told : (marks : List Hold) (es : List Entry)

@@ -1,10 +1,11 @@
 -- What writes to the tables of entries and of their marks make of the entries of an office.
 use Rattle.std.proofs.Common.{◌≡◌, Bool, true, false, cond, Option, Some, None, IsSome}
 use Rattle.std.proofs.Common.{is_some, option_map, refl, sym, ap, ◌∙◌}
-use Rattle.std.specs.FinMap.{FinMap, contains_key, get, get-remove, insert}
+use Rattle.std.specs.FinMap.{FinMap, contains_key, get, insert}
 use Rattle.std.specs.Ordering.{eq_by_cmp}
 use Rattle.std.specs.declared.cmp.Ordering.{Ordering}
 use Rattle.reg_maps.specs.Maps.{replaced, update}
+use Rattle.reg_maps.proofs.KeySets.{each_key, was_left}
 use Rattle.reg_maps.proofs.MapLaws.{IsKeyOrder, get-at_insert, get-inserted, get-update, get-updated, same_at, tied}
 use Rattle.reg_core.specs.Entry.{registration_in, with_hold}
 use Rattle.reg_core.specs.World.{Place, World, place_cmp}
@@ -14,7 +15,7 @@ use Rattle.reg_core.proofs.KeyOrders.{place_keys}
 use Rattle.reg_records.specs.Entries.{unheld}
 use Rattle.reg_records.specs.declared.holds.Hold.{Hold}
 use Rattle.reg_statements.specs.Content.{AreTied, assembled}
-use Rattle.reg_statements.specs.Defined.{IsFree, KeepsTies, with_row, without_row}
+use Rattle.reg_statements.specs.Defined.{HasFreeKey, KeepsTies, with_row, without_row}
 use Rattle.reg_statements.specs.Office as office
 use Rattle.reg_statements.specs.Parts.{Parts}
 use Rattle.reg_statements.proofs.Marks.{get-marked, marked-add, marked-insert, marked-take}
@@ -99,7 +100,7 @@ module _ (p : Parts) (ties : AreTied p) (hold : Hold) where
   at = (hold.registry, hold.value)
 
   pub mark_added : IsHeldSo false at (assembled p)
-      → (IsFree office.holds hold p × KeepsTies (with_row office.holds hold) p)
+      → (HasFreeKey office.holds hold p × KeepsTies (with_row office.holds hold) p)
       × (assembled (with_row office.holds hold p) ≡ record (assembled p) {
         entries = update (assembled p).entries at (with_hold true);
       })
@@ -113,17 +114,9 @@ module _ (p : Parts) (ties : AreTied p) (hold : Hold) where
           absent (get p.holds at) none,
           λ old. record {
             ranges = old.ranges;
-            holds = λ q is.
-                elim (eq_by_cmp place_cmp q at) as (λ b. eq_by_cmp place_cmp q at ≡ b
-                → is_some (cond b (Some (tt {0})) (get p.holds q)) ≡ true
-                → (a : Registration) × (get p.entries q ≡ Some a) × IsSome a.term.expires) [
-                  | true ↦ λ t is. (
-                    entry.bare,
-                    ap (get p.entries) (tied place_keys q at t) ∙ entry.there,
-                    expires,
-                  )
-                  | false ↦ λ t is. old.holds q is
-                ] refl (ap is_some (sym (get-at_insert place_keys p.holds at tt q)) ∙ is);
+            holds = each_key place_keys p.holds at
+                (λ q. (a : Registration) × (get p.entries q ≡ Some a) × IsSome a.term.expires) tt
+                old.holds (entry.bare, entry.there, expires);
             minutes = old.minutes;
           },
         ),
@@ -138,18 +131,11 @@ pub mark_taken : (p : Parts) (place : Place)
 mark_taken p place = (
   λ old. record {
     ranges = old.ranges;
-    holds = λ q is. old.holds q
-        (still (eq_by_cmp place_cmp q place) (get p.holds q)
-        (ap is_some (sym (get-remove place_keys.total p.holds place q)) ∙ is));
+    holds = λ q is. old.holds q (was_left place_keys p.holds place q is);
     minutes = old.minutes;
   },
   ap (λ m. record (assembled p) { entries = m }) (marked-take p.holds p.entries place),
 )
-  where
-    still : (b : Bool) (r : Option (Unit {0})) → is_some (cond b None r) ≡ true
-        → is_some r ≡ true
-    still true r is = absurd (cc)
-    still false r is = is
 
 -- ---- An entry without its mark, where none stands that is held
 

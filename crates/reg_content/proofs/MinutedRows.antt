@@ -11,7 +11,7 @@ use Rattle.reg_core.specs.Request.{is_pending, request_row, request_rows}
 use Rattle.reg_core.specs.View.{as_queued, queue_of, queued_to, requests_of}
 use Rattle.reg_core.specs.World.{RequestName, World}
 use Rattle.reg_core.specs.declared.ask.Ask.{Ask}
-use Rattle.reg_core.specs.declared.ask.Ask.TheVariants.{Code, Early, Renew, Permanent, Block}
+use Rattle.reg_core.specs.declared.ask.Ask.TheVariants.{Renew}
 use Rattle.reg_core.specs.declared.queue.QueueRow.{QueueRow}
 use Rattle.reg_core.specs.declared.request.Case.{Case}
 use Rattle.reg_core.specs.declared.request.Request.{Request}
@@ -33,19 +33,13 @@ use Rattle.reg_content.proofs.MappedRows.{rows_mapped}
 -- of an ask that is no renewal none
 pub minute_read : (ask : Ask) (minute : Option (List ℕ))
     → ask_with (if is_renewal ask then minute else None) ask ≡ ask_with minute ask
-minute_read (Code a) minute = refl
-minute_read (Early a) minute = refl
 minute_read (Renew a) minute = refl
-minute_read (Permanent a) minute = refl
-minute_read (Block a) minute = refl
+minute_read ask minute = refl
 
 same_ask : (ask : Ask) (minute : Option (List ℕ)) → is_renewal ask ≡ false
     → ask_with minute ask ≡ ask
-same_ask (Code a) minute other = refl
-same_ask (Early a) minute other = refl
 same_ask (Renew a) minute other = absurd (cc)
-same_ask (Permanent a) minute other = refl
-same_ask (Block a) minute other = refl
+same_ask ask minute other = refl
 
 -- where none is a renewal they are as their rows have them
 pub none_renewed : (p : Parts) (rs : List Request)

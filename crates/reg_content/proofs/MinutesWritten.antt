@@ -5,12 +5,13 @@ use Rattle.std.specs.FinMap.{FinMap, get, insert}
 use Rattle.std.specs.Ordering.{eq_by_cmp}
 use Rattle.reg_maps.specs.Maps.{update}
 use Rattle.reg_maps.specs.RowMaps.{changed_where}
-use Rattle.reg_maps.proofs.MapLaws.{get-at_insert, get-inserted, get-select, tied}
+use Rattle.reg_maps.proofs.KeySets.{each_key}
+use Rattle.reg_maps.proofs.MapLaws.{get-inserted, get-select, tied}
 use Rattle.reg_maps.proofs.RowMaps.Tables.{changed_alone}
 use Rattle.reg_core.specs.Request.{case_of}
 use Rattle.reg_core.specs.World.{RequestName, World, in_state, name_cmp, pending, with_state}
 use Rattle.reg_core.specs.declared.ask.Ask.{Ask}
-use Rattle.reg_core.specs.declared.ask.Ask.TheVariants.{Code, Early, Renew, Permanent, Block}
+use Rattle.reg_core.specs.declared.ask.Ask.TheVariants.{Renew}
 use Rattle.reg_core.specs.declared.request.Case.{Case}
 use Rattle.reg_core.specs.declared.request.Request.{Request}
 use Rattle.reg_core.specs.declared.request.State.{State}
@@ -20,12 +21,13 @@ use Rattle.reg_core.proofs.KeyOrders.{name_keys}
 use Rattle.reg_records.specs.declared.minutes.Minute.{Minute}
 use Rattle.reg_records.proofs.RequestLaws.Rows.{gives_its_kind-bare_ask}
 use Rattle.reg_statements.specs.Content.{AreTied, assembled, minuted}
-use Rattle.reg_statements.specs.Defined.{AllCan, IsFree, KeepsTies, with_changed, with_row}
+use Rattle.reg_statements.specs.Defined.{AllCan, HasFreeKey, KeepsTies, with_changed, with_row}
 use Rattle.reg_statements.specs.Office as office
 use Rattle.reg_statements.specs.Parts.{Parts}
 use Rattle.reg_statements.proofs.Minutes.{get-minuted, minuted-add, minuted-insert, minuted-state}
 use Rattle.reg_content.specs.Marks.{CanName}
 use Rattle.reg_content.proofs.Fitting.{can_have}
+use Rattle.reg_content.proofs.Found.{nothing}
 use Rattle.reg_content.proofs.JoinedRows.{was_made}
 use Rattle.reg_content.proofs.MarksWritten.{still_there, update-inserted}
 
@@ -33,20 +35,14 @@ use Rattle.reg_content.proofs.MarksWritten.{still_there, update-inserted}
 
 twice_asked : (ask : Ask) (minute other : Option (List ℕ))
     → ask_with minute (ask_with other ask) ≡ ask_with minute ask
-twice_asked (Code a) minute other = refl
-twice_asked (Early a) minute other = refl
 twice_asked (Renew a) minute other = refl
-twice_asked (Permanent a) minute other = refl
-twice_asked (Block a) minute other = refl
+twice_asked ask minute other = refl
 
 -- an ask with its own minute is that ask
 pub own_minute : (ask : Ask) (minute : Option (List ℕ)) → minute_of ask ≡ minute
     → ask_with minute ask ≡ ask
-own_minute (Code a) minute is = refl
-own_minute (Early a) minute is = refl
 own_minute (Renew a) minute is = ap (λ minute. Renew (record a { iesg = minute })) (sym is)
-own_minute (Permanent a) minute is = refl
-own_minute (Block a) minute is = refl
+own_minute ask minute is = refl
 
 -- what is given does not go by the minute
 same_kind : (ask : Ask) (minute : Option (List ℕ)) (state : State)
@@ -59,23 +55,13 @@ same_kind ask minute state =
 -- only a renewal has a minute, and it is the one that it was given
 renewed_by : (ask : Ask) (minute : Option (List ℕ)) → is_renewal (ask_with minute ask) ≡ true
     → (is_renewal ask ≡ true) × (minute_of (ask_with minute ask) ≡ minute)
-renewed_by (Code a) minute is = absurd (cc)
-renewed_by (Early a) minute is = absurd (cc)
 renewed_by (Renew a) minute is = (refl, refl)
-renewed_by (Permanent a) minute is = absurd (cc)
-renewed_by (Block a) minute is = absurd (cc)
+renewed_by ask minute is = absurd (cc)
 
 bare_named : (ask : Ask) (minute : List ℕ) → minute_of ask ≡ Some minute
     → (is_renewal (bare_ask ask) ≡ true) × (minute_of (bare_ask ask) ≡ None)
-bare_named (Code a) minute is = absurd (cc)
-bare_named (Early a) minute is = absurd (cc)
 bare_named (Renew a) minute is = (refl, refl)
-bare_named (Permanent a) minute is = absurd (cc)
-bare_named (Block a) minute is = absurd (cc)
-
-nothing : {X Y : Type 0} (f : X → Y) (r : Option X) → option_map f r ≡ None → r ≡ None
-nothing f None none = refl
-nothing f (Some x) none = absurd (cc)
+bare_named ask minute is = absurd (cc)
 
 -- ---- Requests beside their minutes
 
@@ -114,7 +100,7 @@ module _ (p : Parts) (ties : AreTied p) (request : Request) where
   at = (request.account, request.reference)
 
   pub request_added : get (assembled p).requests at ≡ None
-      → (IsFree office.requests (bare request) p
+      → (HasFreeKey office.requests (bare request) p
       × KeepsTies (with_row office.requests (bare request)) p)
       × (assembled (with_row office.requests (bare request) p) ≡ record (assembled p) {
         requests = insert (assembled p).requests at (case_of (bare request));
@@ -152,7 +138,7 @@ module _ (p : Parts) (ties : AreTied p) (row : Minute) where
   named = (row.account, row.reference)
 
   pub minute_added : CanName named (assembled p)
-      → (IsFree office.minutes row p × KeepsTies (with_row office.minutes row) p)
+      → (HasFreeKey office.minutes row p × KeepsTies (with_row office.minutes row) p)
       × (assembled (with_row office.minutes row p) ≡ record (assembled p) {
         requests = update (assembled p).requests named (with_minute (Some row.minute));
       })
@@ -167,18 +153,9 @@ module _ (p : Parts) (ties : AreTied p) (row : Minute) where
           λ old. record {
             ranges = old.ranges;
             holds = old.holds;
-            minutes = λ q is.
-                elim (eq_by_cmp name_cmp q named) as (λ b. eq_by_cmp name_cmp q named ≡ b
-                → is_some (cond b (Some row.minute) (get p.minutes q)) ≡ true
-                → (case : Case) × (get p.requests q ≡ Some case)
-                × (is_renewal case.ask ≡ true)) [
-                  | true ↦ λ t is. (
-                    request.bare,
-                    ap (get p.requests) (tied name_keys q named t) ∙ request.there,
-                    kind.0,
-                  )
-                  | false ↦ λ t is. old.minutes q is
-                ] refl (ap is_some (sym (get-at_insert name_keys p.minutes named row.minute q)) ∙ is);
+            minutes = each_key name_keys p.minutes named
+                (λ q. (case : Case) × (get p.requests q ≡ Some case) × (is_renewal case.ask ≡ true))
+                row.minute old.minutes (request.bare, request.there, kind.0);
           },
         ),
         ap (λ m. record (assembled p) { requests = m })
@@ -188,7 +165,7 @@ module _ (p : Parts) (ties : AreTied p) (row : Minute) where
 -- a minute that is this one
 pub minute_named : (p : Parts) → AreTied p → (row : Minute) (minute : List ℕ) → row.minute ≡ minute
     → CanName (row.account, row.reference) (assembled p)
-    → (IsFree office.minutes row p × KeepsTies (with_row office.minutes row) p)
+    → (HasFreeKey office.minutes row p × KeepsTies (with_row office.minutes row) p)
     × (assembled (with_row office.minutes row p) ≡ record (assembled p) {
       requests = update (assembled p).requests (row.account, row.reference)
           (with_minute (Some minute));

@@ -1,92 +1,43 @@
 -- The prefixes of a pool in order: a list that ascends is known by what it contains.
-use Rattle.std.proofs.Common.{◌≡◌, ℕ, ◌+◌, ◌≤◌, List, [], ◌∷◌, ◌++◌, true, refl, sym}
-use Rattle.std.proofs.Common.{ap, subst, ◌∙◌, arith, inl, inr, ◌⊎◌, ◌↔◌}
+use Rattle.std.proofs.Common.{◌≡◌, ℕ, List, [], ◌∷◌, ◌++◌, true, refl, sym, ap, subst, ◌∙◌}
+use Rattle.std.proofs.Common.{inl, inr, ◌↔◌}
 use Rattle.std.specs.Prelude.{Contains, filter_map}
+use Rattle.std.specs.Cmp.{eq_by_cmp_equiv}
 use Rattle.std.specs.FinMap.{FinMap, entries}
-use Rattle.std.specs.List.Sorted.{IsStrictlyIncreasing}
-use Rattle.std.specs.Ordering.{nat_cmp}
+use Rattle.std.specs.List.{list_any}
+use Rattle.std.specs.List.Sorted.{IsStrictlyIncreasing, IsStrictlySortedBy}
+use Rattle.std.specs.Ordering.{eq_by_cmp, nat_cmp}
 use Rattle.std.specs.declared.cmp.Ordering.{Ordering}
 use Rattle.std.proofs.lemmas.List.{map-id}
-use Rattle.std.proofs.lemmas.List.Elements.{Contains-append_cases, Contains-append_left}
-use Rattle.std.proofs.lemmas.List.Elements.{Contains-append_right, Contains-push}
-use Rattle.std.proofs.lemmas.List.Elements.{Contains-push_cases}
-use Rattle.std.proofs.lemmas.Map.Keys.{IsStrictlyIncreasing-from_sorted}
+use Rattle.std.proofs.lemmas.List.Elements.{Contains-append_left, Contains-push, Contains-push_cases}
+use Rattle.std.proofs.lemmas.Map.Keys.{sorted_from_strictly_increasing}
+use Rattle.std.proofs.lemmas.Map.Lookups.{btree_set_from_contains}
+use Rattle.std.proofs.lemmas.Map.Views.{Contains-from_any, list_any-from_Contains}
 use Rattle.reg_maps.specs.Maps.{keyed, only_if, select}
-use Rattle.reg_maps.proofs.MapLaws.{IsKeyOrder, number_keys, entries-select}
+use Rattle.reg_maps.proofs.MapLaws.{IsKeyOrder, entries-select, number_keys, tied}
 use Rattle.reg_blocks.specs.Pool.{AddsPrefix}
-use Rattle.reg_ranges.proofs.Increasing.{Rises, rises_any}
 use Rattle.reg_statements.specs.Loading.{IsAscending}
 use Rattle.reg_statements.proofs.Neighbours.{strict}
+use Rattle.reg_content.proofs.Found.{same_truth}
 
 -- ---- Lists that rise
 
-in_none : (q : ℕ) → Contains [] q → ⊥
-in_none q h = let inside = h.1 in omega arith
-
-head_there : (x : ℕ) (xs : List ℕ) → Contains (x ∷ xs) x
-head_there x xs = Contains-append_left (x ∷ []) xs x (Contains-push [] x)
-
-first_or_later : (x : ℕ) (xs : List ℕ) (q : ℕ) → Contains (x ∷ xs) q → (x ≡ q) ⊎ Contains xs q
-first_or_later x xs q h = elim (Contains-append_cases (x ∷ []) xs q h) [
-  | inl here ↦ elim (Contains-push_cases [] x q here) [
-    | inl none ↦ absurd (in_none q none)
-    | inr same ↦ inl same
-  ]
-  | inr later ↦ inr later
-]
-
-not_below : (bound : ℕ) (xs : List ℕ) (q : ℕ) → Rises bound xs → Contains xs q → bound ≤ q
-not_below bound [] q up h = absurd (in_none q h)
-not_below bound (x ∷ xs) q up h = elim (first_or_later x xs q h) [
-  | inl same ↦ omega (arith, up.0)
-  | inr later ↦ let above = not_below (x + 1) xs q up.1 later in omega (arith, up.0)
-]
-
--- each of the one is in the other
-abbrev AreIn : List ℕ → List ℕ → Type 0
-AreIn xs ys = (q : ℕ) → Contains xs q → Contains ys q
-
-least : (a b : ℕ) (x y : ℕ) (xs ys : List ℕ) → Rises a (x ∷ xs) → Rises b (y ∷ ys)
-    → AreIn (y ∷ ys) (x ∷ xs) → x ≤ y
-least a b x y xs ys up above back =
-    elim (first_or_later x xs y (back y (head_there y ys))) [
-      | inl same ↦ omega arith
-      | inr later ↦ let far = not_below (x + 1) xs y up.1 later in omega arith
-    ]
-
-later_in : (x y : ℕ) (xs ys : List ℕ) → y ≡ x → Rises (x + 1) xs → AreIn (x ∷ xs) (y ∷ ys)
-    → AreIn xs ys
-later_in x y xs ys same up there q h =
-    elim (first_or_later y ys q (there q (Contains-append_right (x ∷ []) xs q h))) [
-      | inl here ↦ let far = not_below (x + 1) xs q up h in absurd (omega arith)
-      | inr later ↦ later
-    ]
-
-same_list : (a b : ℕ) (xs ys : List ℕ) → Rises a xs → Rises b ys → AreIn xs ys → AreIn ys xs
-    → xs ≡ ys
-same_list a b [] [] up above there back = refl
-same_list a b [] (y ∷ ys) up above there back = absurd (in_none y (back y (head_there y ys)))
-same_list a b (x ∷ xs) [] up above there back = absurd (in_none x (there x (head_there x xs)))
-same_list a b (x ∷ xs) (y ∷ ys) up above there back =
-    let low = least a b x y xs ys up above back in
-    let high = least b a y x ys xs above up there in
-    let same : x ≡ y = omega arith in
-    let rest = same_list (x + 1) (y + 1) xs ys up.1 above.1
-    (later_in x y xs ys (sym same) up.1 there) (later_in y x ys xs same above.1 back) in
-    λ i. same i ∷ rest i
-
--- numbers that ascend one by one rise
-pub rising : (xs : List ℕ) → IsAscending nat_cmp xs → IsStrictlyIncreasing xs
-rising xs up =
-    subst IsStrictlyIncreasing (map-id xs)
-    (IsStrictlyIncreasing-from_sorted _ (strict number_keys (λ x. x) xs up))
+has_each : (xs ys : List ℕ) → ((q : ℕ) → Contains xs q → Contains ys q) → (q : ℕ)
+    → list_any (eq_by_cmp nat_cmp q) xs ≡ true → list_any (eq_by_cmp nat_cmp q) ys ≡ true
+has_each xs ys there q t =
+    list_any-from_Contains (eq_by_cmp_equiv number_keys.total) q ys
+    (there q (Contains-from_any (tied number_keys) q xs t))
 
 pub same_prefixes : (pool prefixes : List ℕ) → IsStrictlyIncreasing pool
     → IsAscending nat_cmp prefixes → ((q : ℕ) → Contains pool q ↔ Contains prefixes q)
     → pool ≡ prefixes
 same_prefixes pool prefixes up ascend same =
-    same_list 0 0 pool prefixes (rises_any pool up) (rises_any prefixes (rising prefixes ascend))
-    (λ q. (same q).0) (λ q. (same q).1)
+    btree_set_from_contains number_keys.total (record { keys = pool }) (record { keys = prefixes })
+    (sorted_from_strictly_increasing pool up)
+    (subst (IsStrictlySortedBy nat_cmp) (map-id prefixes)
+    (strict number_keys (λ x. x) prefixes ascend)) (λ q.
+    same_truth _ _ (has_each pool prefixes (λ q. (same q).0) q)
+    (has_each prefixes pool (λ q. (same q).1) q)) number_keys.exact
 
 -- ---- A prefix more
 

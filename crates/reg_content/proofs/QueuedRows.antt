@@ -5,6 +5,7 @@ use Rattle.std.proofs.Common.{filter_map, refl, sym, ap, subst, ◌∙◌, inl, 
 use Rattle.std.proofs.Common.{Option, Some, None, option_map, option_to_list}
 use Rattle.std.specs.List.{cons_option, flat_map}
 use Rattle.std.specs.FinMap.{get}
+use Rattle.std.proofs.lemmas.List.{append-nil}
 use Rattle.sqlite.specs.Effect.{Database}
 use Rattle.sqlite.specs.Order.{Row, column}
 use Rattle.sqlite.specs.declared.types.Value.TheVariants.{Text}
@@ -98,10 +99,6 @@ with_own row name c is seat value rows (inr one) =
     ∙ ap (λ r. cons_option r []) (shown_advised row one.row name c seat one.x is one.reads)
     ∙ ap (λ o. (name, as_queued o c) ∷ []) (sym one.is)
 
-unfollowed : {X : Type 0} (xs : List X) → xs ++ [] ≡ xs
-unfollowed [] = refl
-unfollowed (x ∷ xs) = ap (λ more. x ∷ more) (unfollowed xs)
-
 module _ (db : Database) (was : IsStored db) where
   abbrev w : World
   w = bare_world (parts_of db)
@@ -135,7 +132,7 @@ module _ (db : Database) (was : IsStored db) where
           (option_map (as_queued (get w.advice (office.queue.pair s).0)) o))) (sym none.1)
       go rows value (inr one) =
           (λ i. filter_map queued_reader (flat_map (with_advice advice) (one.alone i)))
-          ∙ ap (filter_map queued_reader) (unfollowed (with_advice advice one.row))
+          ∙ ap (filter_map queued_reader) (append-nil (with_advice advice one.row))
           ∙ with_own one.row name one.x one.reads (office.queue.pair s).0 (get w.advice (office.queue.pair s).0) advice
           (alone_at seat_keys (db.trees 14) (advice_agrees row) (office.queue.pair s).0 (whole_rows office.advice laws.advice _ was)
           (own_advice_at row s is))

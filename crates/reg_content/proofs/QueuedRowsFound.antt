@@ -7,6 +7,7 @@ use Rattle.std.specs.List.{cons_option}
 use Rattle.std.specs.FinMap.{find, get, get-from_entries}
 use Rattle.std.specs.Ordering.{eq_by_cmp}
 use Rattle.std.specs.Cmp.{eq_by_cmp_equiv}
+use Rattle.std.proofs.lemmas.Simd.{map-map}
 use Rattle.sqlite.specs.Order.{Row}
 use Rattle.sqlite.specs.State.{State, Shown}
 use Rattle.sqlite.specs.declared.types.Value.TheVariants.{Text}
@@ -20,7 +21,7 @@ use Rattle.reg_core.proofs.KeyOrders.{name_keys, seat_keys}
 use Rattle.reg_records.specs.Queued.{queued_in}
 use Rattle.reg_records.specs.declared.queued.QueuedRequest.{QueuedRequest}
 use Rattle.reg_tables.specs.Joining.{queued_rows}
-use Rattle.reg_tables.specs.Texts.{select_queued}
+use Rattle.reg_tables.specs.declared.texts.TheConstants.{SELECT_QUEUED}
 use Rattle.reg_tables.proofs.JoinLemmas.{queued_selected}
 use Rattle.reg_tables.proofs.SelectLemmas.{office_begins}
 use Rattle.reg_statements.specs.Content.{IsStored, parts_of, seat_at}
@@ -90,15 +91,9 @@ module _ (w : World) (expert : List ℕ) (name : RequestName) where
 
 -- ---- All requests
 
-seen_rows : (values : List QueuedRequest)
-    → map seen_row values
-    ≡ map (λ (e : RequestName × Queued). queue_row e.0 e.1) (map queued_pair values)
-seen_rows [] = refl
-seen_rows (value ∷ values) = ap (λ more. seen_row value ∷ more) (seen_rows values)
-
 module _ (old new : State) (shown : List Row) (was : IsStored old.now) (expert : List ℕ)
     (values : List QueuedRequest) (up : are_queued values)
-    (answer : Shown select_queued (Text expert ∷ []) old new shown)
+    (answer : Shown SELECT_QUEUED.now (Text expert ∷ []) old new shown)
     (reads : ReadAs queued_in shown values) where
   abbrev pairs : List (RequestName × Queued)
   pairs = map queued_pair values
@@ -121,7 +116,7 @@ module _ (old new : State) (shown : List Row) (was : IsStored old.now) (expert :
   -- the requests that are assigned to an expert, as the expert sees them
   pub queue_found : map seen_row values ≡ queue_rows (queue_of expert (bare_world (parts_of old.now)))
   queue_found =
-      seen_rows values
+      sym (map-map (λ (e : RequestName × Queued). queue_row e.0 e.1) queued_pair values)
       ∙ sym (ap (map (λ (e : RequestName × Queued). queue_row e.0 e.1))
       (entries_are name_keys (queue_of expert (bare_world (parts_of old.now))) pairs
       (pairs_ascend name_keys queued_pair queued_in values up) each))

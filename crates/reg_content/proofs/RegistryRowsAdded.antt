@@ -9,7 +9,8 @@ use Rattle.sqlite.specs.Effect.{Database}
 use Rattle.sqlite.specs.Order.{Row}
 use Rattle.reg_maps.specs.Maps.{text_cmp, update}
 use Rattle.reg_maps.specs.RowMaps.{held_in}
-use Rattle.reg_maps.proofs.MapLaws.{get-at_insert, text_keys, tied}
+use Rattle.reg_maps.proofs.KeySets.{each_key, still_in}
+use Rattle.reg_maps.proofs.MapLaws.{text_keys, tied}
 use Rattle.reg_ranges.specs.declared.range.Range.{Range}
 use Rattle.reg_core.specs.World.{Place, place_cmp}
 use Rattle.reg_core.proofs.KeyOrders.{place_keys}
@@ -20,32 +21,21 @@ use Rattle.reg_tables.specs.Schema.{ranges_table}
 use Rattle.reg_tables.specs.Selecting.{stored}
 use Rattle.reg_statements.specs.Content.{IsStored, assembled, content_of, parts_of}
 use Rattle.reg_statements.specs.Content.{range_at, registry_table}
-use Rattle.reg_statements.specs.Defined.{IsFree, KeepsTies, with_row}
+use Rattle.reg_statements.specs.Defined.{HasFreeKey, KeepsTies, with_row}
 use Rattle.reg_content.specs.Registries.{CanFollow, with_range}
+use Rattle.reg_content.proofs.Found.{nothing}
 use Rattle.reg_statements.proofs.RegistryRows.{ranges-at, registry-at}
 use Rattle.reg_content.proofs.RegistryRowsMaps.{AreAtFirst, place_free, range_more, registry_more}
 use Rattle.reg_statements.specs.Office as office
-
-no_more : {X Y : Type 0} (f : X → Y) (r : Option X) → option_map f r ≡ None → r ≡ None
-no_more f None none = refl
-no_more f (Some x) none = absurd (cc)
 
 some_of : {X Y : Type 0} (f : X → Y) (r : Option X) (y : Y) → option_map f r ≡ Some y → IsSome r
 some_of f None y is = absurd (cc)
 some_of f (Some x) y is = refl
 
--- what was there is there after one more
-still_there : (largest : FinMap text_cmp ℕ) (name : List ℕ) (max : ℕ) (q : List ℕ)
-    → IsSome (get largest q) → IsSome (get (insert largest name max) q)
-still_there largest name max q there =
-    subst IsSome (sym (get-at_insert text_keys largest name max q))
-    (elim (eq_by_cmp text_cmp q name) as (λ b. IsSome (cond b (Some max) (get largest q)))
-    [ true ↦ refl | false ↦ there ])
-
 -- one registry more
 pub registry_added : (r : Registry) (db : Database) → IsStored db
     → get (content_of db).registries r.name ≡ None
-    → (IsFree office.registries r (parts_of db)
+    → (HasFreeKey office.registries r (parts_of db)
     × KeepsTies (with_row office.registries r) (parts_of db))
     × (assembled (with_row office.registries r (parts_of db)) ≡ record (content_of db) {
       registries = insert (content_of db).registries r.name
@@ -55,13 +45,13 @@ registry_added r db was none =
     let largest = (parts_of db).maxes in
     let m = (parts_of db).ranges in
     let absent : get largest r.name ≡ None =
-    no_more (registry_table m r.name) (get largest r.name)
+    nothing (registry_table m r.name) (get largest r.name)
     (sym (registry-at largest m r.name) ∙ none) in (
       (
         absent,
         λ tied. record {
           ranges = λ place there.
-              still_there largest r.name r.max place.0 (tied.ranges place there);
+              still_in text_keys largest r.name r.max place.0 (tied.ranges place there);
           holds = tied.holds;
           minutes = tied.minutes;
         },
@@ -102,7 +92,7 @@ at_first rows place x is =
 
 one_range : (r : RegistryRange) (db : Database) → IsStored db
     → CanFollow (content_of db).registries r.registry r.range
-    → (IsFree office.ranges r (parts_of db) × KeepsTies (with_row office.ranges r) (parts_of db))
+    → (HasFreeKey office.ranges r (parts_of db) × KeepsTies (with_row office.ranges r) (parts_of db))
     × (assembled (with_row office.ranges r (parts_of db)) ≡ record (content_of db) {
       registries = update (content_of db).registries r.registry (with_range r.range);
     })
@@ -119,7 +109,7 @@ one_range r db was follows =
       (
         place_free m r.registry r.range first low,
         λ tied. record {
-          ranges = owned m largest place r.range there tied.ranges;
+          ranges = each_key place_keys m place (λ p. IsSome (get largest p.0)) r.range tied.ranges there;
           holds = tied.holds;
           minutes = tied.minutes;
         },
@@ -127,24 +117,11 @@ one_range r db was follows =
       ap (λ registries. record (content_of db) { registries = registries })
           (range_more m r.registry r.range first low largest),
     )
-  where
-    owned : (m : FinMap place_cmp Range) (largest : FinMap text_cmp ℕ) (place : Place) (x : Range)
-        → IsSome (get largest place.0)
-        → ((p : Place) → IsSome (get m p) → IsSome (get largest p.0))
-        → (p : Place) → IsSome (get (insert m place x) p) → IsSome (get largest p.0)
-    owned m largest place x there all p is =
-        elim (eq_by_cmp place_cmp p place) as (λ b. eq_by_cmp place_cmp p place ≡ b
-        → IsSome (cond b (Some x) (get m p)) → IsSome (get largest p.0)) [
-          | true ↦ λ t is.
-              subst (λ (p : Place). IsSome (get largest p.0)) (sym (tied place_keys p place t))
-              there
-          | false ↦ λ t is. all p is
-        ] refl (subst IsSome (get-at_insert place_keys m place x p) is)
 
 -- one range more of a registry, which is this one
 pub range_added : (r : RegistryRange) (range : Range) → r.range ≡ range → (db : Database)
     → IsStored db → CanFollow (content_of db).registries r.registry range
-    → (IsFree office.ranges r (parts_of db) × KeepsTies (with_row office.ranges r) (parts_of db))
+    → (HasFreeKey office.ranges r (parts_of db) × KeepsTies (with_row office.ranges r) (parts_of db))
     × (assembled (with_row office.ranges r (parts_of db)) ≡ record (content_of db) {
       registries = update (content_of db).registries r.registry (with_range range);
     })

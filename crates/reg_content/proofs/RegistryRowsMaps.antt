@@ -12,7 +12,9 @@ use Rattle.std.proofs.lemmas.List.{map-append}
 use Rattle.std.proofs.lemmas.List.Elements.{recursion_from_All}
 use Rattle.reg_maps.specs.Maps.{only_if, same_text, text_cmp, update}
 use Rattle.reg_maps.specs.RowMaps.{AreAscending}
-use Rattle.reg_maps.proofs.MapLaws.{All-entries, IsKeyOrder, get-at_insert, get-select, get-update, same_at, text_keys, tied, entries_are}
+use Rattle.reg_maps.proofs.MapLaws.{All-entries, IsKeyOrder, entries_are, get-at_insert, get-select, get-update}
+use Rattle.reg_maps.proofs.MapLaws.{same_at, select-insert_unchosen, text_keys, tied}
+use Rattle.reg_maps.proofs.Orderings.{equal}
 use Rattle.reg_maps.proofs.KeyTests.{text_test}
 use Rattle.reg_maps.proofs.Ascending.{ascending_from_is_sorted}
 use Rattle.reg_ranges.specs.declared.range.Range.{Range}
@@ -21,13 +23,10 @@ use Rattle.reg_core.proofs.KeyOrders.{place_keys}
 use Rattle.reg_statements.specs.Content.{ranges_of, registries_in, registry_table}
 use Rattle.reg_content.specs.Registries.{with_range}
 use Rattle.reg_statements.proofs.RegistryRows.{registry-at}
-use Rattle.reg_content.proofs.Found.{each_passes, none_passes}
+use Rattle.reg_content.proofs.Found.{chosen_by, each_passes, itself, none_passes}
 
 same_name : (a b : List ℕ) → same_text a b ≡ true → a ≡ b
 same_name a b t = tied text_keys a b (sym (text_test a b) ∙ t)
-
-itself : (a : List ℕ) → same_text a a ≡ true
-itself a = text_test a a ∙ (eq_by_cmp_equiv text_keys.total).refl a
 
 missing : {X Y : Type 0} (r : Option X) (s : Option Y) → (IsSome r → IsSome s) → s ≡ None → r ≡ None
 missing None s h none = refl
@@ -108,17 +107,6 @@ module _ {K X : Type 0} {R : K → K → Ordering} (o : IsKeyOrder R) (k : K) wh
 abbrev pub AreAtFirst : FinMap place_cmp Range → Type 0
 AreAtFirst m = (place : Place) (x : Range) → get m place ≡ Some x → place.1 ≡ x.lo
 
-below : (a b : ℕ) → a < b → nat_cmp a b ≡ Less
-below a b h = sym (nat_cmp_is a b Less h)
-
-level : (r : Ordering) → is_eq r ≡ true → r ≡ Equal
-level Less t = absurd (cc)
-level Equal t = refl
-level Greater t = absurd (cc)
-
-one_text : (a : List ℕ) → text_cmp a a ≡ Equal
-one_text a = level (text_cmp a a) ((eq_by_cmp_equiv text_keys.total).refl a)
-
 module _ (m : FinMap place_cmp Range) (name : List ℕ) (r : Range) (first : AreAtFirst m)
     (low : AllByRecursion (λ x. x.lo < r.lo) (map (λ e. e.1) (entries (ranges_of name m)))) where
   abbrev place : Place
@@ -132,13 +120,9 @@ module _ (m : FinMap place_cmp Range) (name : List ℕ) (r : Range) (first : Are
 
   at_name : (q : Place) (x : Range) → get (ranges_of name m) q ≡ Some x → IsMine (q, x)
   unfolding IsMine
-  at_name q x is = go (same_text q.0 name) refl (sym (range-at name m q) ∙ is)
-    where
-      go : (b : Bool) → same_text q.0 name ≡ b
-          → option_and_then (λ x. only_if b x) (get m q) ≡ Some x
-          → (q.0 ≡ name) × (q.1 ≡ x.lo)
-      go true t there = (same_name q.0 name t, first q x (sym (each_passes (get m q)) ∙ there))
-      go false t there = absurd (let none = none_passes (get m q) in cc)
+  at_name q x is =
+      let it = chosen_by place_keys (λ place. place.0) name m q x is in
+      (it.0, first q x it.1)
 
   under : (es : List (Place × Range)) → AllByRecursion IsMine es
       → AllByRecursion (λ x. x.lo < r.lo) (map (λ e. e.1) es)
@@ -148,8 +132,9 @@ module _ (m : FinMap place_cmp Range) (name : List ℕ) (r : Range) (first : Are
   under (e ∷ es) all low =
       let less : e.0.1 < r.lo = subst (λ n. n < r.lo) (sym all.0.1) low.0 in (
         (λ i. ordering_then (text_cmp (all.0.0 i) name) (nat_cmp e.0.1 r.lo))
-            ∙ ap (λ s. ordering_then s (nat_cmp e.0.1 r.lo)) (one_text name)
-            ∙ below e.0.1 r.lo less,
+            ∙ ap (λ s. ordering_then s (nat_cmp e.0.1 r.lo))
+            (equal (text_cmp name name) ((eq_by_cmp_equiv text_keys.total).refl name))
+            ∙ sym (nat_cmp_is e.0.1 r.lo Less less),
         under es all.1 low.1,
       )
 
@@ -186,23 +171,11 @@ module _ (m : FinMap place_cmp Range) (name : List ℕ) (r : Range) (first : Are
 
   other_ranges : (other : List ℕ) → eq_by_cmp text_cmp other name ≡ false
       → ranges_of other (insert m place r) ≡ ranges_of other m
-  other_ranges other differ = same_at place_keys _ _ (λ q.
-      range-at other (insert m place r) q
-      ∙ ap (option_and_then (λ x. only_if (same_text q.0 other) x))
-      (get-at_insert place_keys m place r q)
-      ∙ elim (eq_by_cmp place_cmp q place) as (λ b. eq_by_cmp place_cmp q place ≡ b
-      → option_and_then (λ x. only_if (same_text q.0 other) x) (cond b (Some r) (get m q))
-      ≡ option_and_then (λ x. only_if (same_text q.0 other) x) (get m q)) [
-        | true ↦ λ t.
-            let here = tied place_keys q place t in
-            let no : same_text q.0 other ≡ false =
-            ap (λ (p : Place). same_text p.0 other) here ∙ text_test name other
-            ∙ (eq_by_cmp_equiv text_keys.total).symm name other ∙ differ in
-            ap (λ b. only_if b r) no ∙ sym (none_passes (get m q))
-            ∙ ap (λ b. option_and_then (λ x. only_if b x) (get m q)) (sym no)
-        | false ↦ λ t. refl
-      ] refl
-      ∙ sym (range-at other m q))
+  other_ranges other differ =
+      let no : same_text name other ≡ false =
+      text_test name other ∙ (eq_by_cmp_equiv text_keys.total).symm name other ∙ differ in
+      select-insert_unchosen place_keys (λ place x. only_if (same_text place.0 other) x) m place
+      (λ x. ap (λ b. only_if b x) no) r
 
   mapped : (max : ℕ) → registry_table (insert m place r) name max
       ≡ with_range r (registry_table m name max)

@@ -4,11 +4,10 @@ use Rattle.std.proofs.Common.{take, get_or, true, false, cond, Some, Ok, Result}
 use Rattle.std.proofs.Common.{option_map, refl, sym, ap, subst, ◌∙◌, arith}
 use Rattle.std.specs.FinMap.{FinMap, get, insert}
 use Rattle.std.specs.List.{AllByRecursion}
-use Rattle.std.specs.Ordering.{eq_by_cmp}
 use Rattle.std.proofs.lemmas.List.{take_more}
 use Rattle.sqlite.specs.State.{State}
-use Rattle.reg_maps.specs.Maps.{replaced, text_cmp, update}
-use Rattle.reg_maps.proofs.MapLaws.{get-at_insert, get-inserted, same_at, text_keys}
+use Rattle.reg_maps.specs.Maps.{text_cmp, update}
+use Rattle.reg_maps.proofs.MapLaws.{get-inserted, text_keys}
 use Rattle.reg_ranges.specs.Tables.{IsPartition, Table}
 use Rattle.reg_ranges.specs.declared.range.Range.{Range}
 use Rattle.reg_ranges.proofs.Increasing.{Rises, rises_any}
@@ -17,6 +16,7 @@ use Rattle.reg_tables.proofs.Enduring.{endures_then}
 use Rattle.reg_tables.proofs.MakeLemmas.{on_ok}
 use Rattle.reg_content.specs.Calls.{Steps}
 use Rattle.reg_content.specs.Registries.{CanFollow, with_range}
+use Rattle.reg_content.proofs.MarksWritten.{update-inserted}
 
 -- ---- Two writes
 
@@ -80,16 +80,6 @@ abbrev pub table_of : ℕ → List Range → Table
 table_of max ranges = record { max = max; ranges = ranges }
 
 module _ (m : FinMap text_cmp Table) (name : List ℕ) where
-  twice : (t u : Table) → insert (insert m name t) name u ≡ insert m name u
-  twice t u = same_at text_keys _ _ (λ q.
-      get-at_insert text_keys (insert m name t) name u q
-      ∙ elim (eq_by_cmp text_cmp q name) as (λ b. eq_by_cmp text_cmp q name ≡ b
-      → cond b (Some u) (get (insert m name t) q) ≡ cond b (Some u) (get m q)) [
-        | true ↦ λ e. refl
-        | false ↦ λ e. get-at_insert text_keys m name t q ∙ ap (λ b. cond b (Some t) (get m q)) e
-      ] refl
-      ∙ sym (get-at_insert text_keys m name u q))
-
   -- a registry with the first ranges of a table gets the next one
   pub next_range : (table : Table) (i : ℕ) (r : Range) → i < length table.ranges
       → r ≡ get_or table.ranges i r → IsPartition table
@@ -107,8 +97,7 @@ module _ (m : FinMap text_cmp Table) (name : List ℕ) where
           subst (λ (next : Range). AllByRecursion (λ r. r.lo < next.lo) (take i table.ranges))
               (sym here) low,
         ),
-        ap (λ o. replaced (insert m name some) name (option_map (with_range r) o)) there
-            ∙ twice some (with_range r some)
+        update-inserted text_keys m name some (with_range r)
             ∙ ap (λ (next : Range). insert m name
             (table_of table.max (take i table.ranges ++ next ∷ []))) here
             ∙ ap (λ rs. insert m name (table_of table.max rs))

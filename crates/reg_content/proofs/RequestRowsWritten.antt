@@ -8,7 +8,7 @@ use Rattle.sqlite.specs.declared.types.Value.TheVariants.{Text}
 use Rattle.reg_ranges.specs.Rfcs.{PublishedRfc}
 use Rattle.reg_ranges.specs.Words.{stream_word, track_word}
 use Rattle.reg_core.specs.declared.ask.Ask.{Ask}
-use Rattle.reg_core.specs.declared.ask.Ask.TheVariants as ask
+use Rattle.reg_core.specs.declared.ask.Ask.TheVariants.{Renew}
 use Rattle.reg_core.specs.declared.ask.Want.{Want}
 use Rattle.reg_core.specs.declared.ask.Want.TheVariants as want
 use Rattle.reg_core.specs.declared.request.State.{State}
@@ -68,18 +68,12 @@ ruleset kept = (
 -- a column for each of the table's
 pub request_long : (a : Ask) (r : Request) → r.ask ≡ a
     → length (request_values r) ≡ length requests_table.columns
-request_long (ask.Code a) r is = rw is refl
-request_long (ask.Early a) r is = rw is refl
-request_long (ask.Renew a) r is = rw is refl
-request_long (ask.Permanent a) r is = rw is refl
-request_long (ask.Block a) r is = rw is refl
+request_long (Renew a) r is = rw is refl
+request_long ask r is = rw is refl
 
 pub request_kept : (account reference : List ℕ) (a : Ask) (s : State)
     → cast_all requests_table.columns
     (Text account ∷ Text reference ∷ ask_values a ++ state_values s)
     ≡ Text account ∷ Text reference ∷ ask_values a ++ state_values s
-request_kept account reference (ask.Code a) s = simp kept
-request_kept account reference (ask.Early a) s = simp kept
-request_kept account reference (ask.Renew a) s = simp kept
-request_kept account reference (ask.Permanent a) s = simp kept
-request_kept account reference (ask.Block a) s = simp kept
+request_kept account reference (Renew a) s = simp kept
+request_kept account reference ask s = simp kept

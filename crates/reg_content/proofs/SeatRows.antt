@@ -29,7 +29,7 @@ use Rattle.reg_records.proofs.AdvisedLaws.{advised_alone, advised_with}
 use Rattle.reg_tables.specs.Joining.{advice_agrees}
 use Rattle.reg_tables.specs.Seats.{is_seat_of, seat_columns, seat_rows, seats_rows}
 use Rattle.reg_tables.specs.Selecting.{stored}
-use Rattle.reg_tables.specs.Texts.{select_seats}
+use Rattle.reg_tables.specs.declared.texts.TheConstants.{SELECT_SEATS}
 use Rattle.reg_tables.specs.Values.{same_value}
 use Rattle.reg_tables.proofs.QueuedAdvice.{advice_queued}
 use Rattle.reg_tables.proofs.SeatJoin.{seats_selected}
@@ -166,7 +166,7 @@ opinions_at (v ∷ values) = ap (cons_option (opinion_at v)) (opinions_at values
 module _ (old new : State) (shown : List Row) (was : IsStored old.now) (name : RequestName)
     (values : List AdvisedSeat)
     (up : IsAscending (λ a b. seat_cmp (seat_pair a).0 (seat_pair b).0) values)
-    (answer : Shown select_seats (Text name.0 ∷ Text name.1 ∷ []) old new shown)
+    (answer : Shown SELECT_SEATS.now (Text name.0 ∷ Text name.1 ∷ []) old new shown)
     (reads : ReadAs advised_in shown values) where
   abbrev w : World
   w = content_of old.now

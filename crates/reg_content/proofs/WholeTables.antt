@@ -7,7 +7,7 @@ use Rattle.std.proofs.lemmas.Simd.{map-map}
 use Rattle.reg_maps.proofs.MapLaws.{text_keys}
 use Rattle.reg_core.specs.CapRows.{cap_rows}
 use Rattle.reg_core.specs.Link.{link_rows}
-use Rattle.reg_tables.specs.Selecting.{Selects, columns_of, ordered_by}
+use Rattle.reg_tables.specs.Selecting.{SelectsFrom, columns_of, ordered_by}
 use Rattle.reg_statements.specs.Defined.{Chooses, rows_where}
 use Rattle.reg_statements.specs.Office as office
 use Rattle.reg_statements.specs.Parts.{Parts}
@@ -19,29 +19,19 @@ use Rattle.reg_core.proofs.KeyOrders.{link_keys}
 
 -- ---- Statements
 
-abbrev cap_columns : List (List ℕ)
-cap_columns =
-    codes "digest" ∷ codes "account" ∷ codes "kind" ∷ codes "until" ∷ []
-
-pub all_caps : Selects 2 select_caps 1 [] (columns_of 4)
-    (ordered_by (1 ∷ []))
+pub all_caps : SelectsFrom 2 select_caps 1 [] (columns_of 4) (ordered_by (1 ∷ []))
 unfolding understood everything
 all_caps = record {
-  names = cap_columns;
+  names = codes "digest" ∷ codes "account" ∷ codes "kind" ∷ codes "until" ∷ [];
   is = λ more indexes. refl;
   plain = (refl, refl);
   unlisted = λ more indexes. refl;
 }
 
-abbrev link_columns : List (List ℕ)
-link_columns =
-    codes "principal" ∷ codes "agent" ∷ []
-
-pub all_links : Selects 13 select_agents 25 [] (columns_of 2)
-    (ordered_by (1 ∷ 2 ∷ []))
+pub all_links : SelectsFrom 13 select_agents 25 [] (columns_of 2) (ordered_by (1 ∷ 2 ∷ []))
 unfolding understood everything
 all_links = record {
-  names = link_columns;
+  names = codes "principal" ∷ codes "agent" ∷ [];
   is = λ more indexes. refl;
   plain = (refl, refl);
   unlisted = λ more indexes. refl;

@@ -1,7 +1,7 @@
 -- What a call leaves of a connection to an office's store.
-use Rattle.std.specs.Prelude.{◌≡◌, Result, IfOk, OnOk, OnErr}
+use Rattle.std.specs.Prelude.{◌≡◌, ◌⊎◌, [], false, Result, IfOk, IsTrue, OnOk, OnErr}
 use Rattle.sqlite.specs.Effect.{Database}
-use Rattle.sqlite.specs.State.{State, HasCleanDisk, KeepsCommit}
+use Rattle.sqlite.specs.State.{State, HasCleanDisk, IsRolledBack, IsUnchanged, KeepsCommit, KeepsCounts, Shows}
 use Rattle.sqlite.specs.Steps.{FailsToCommit}
 use Rattle.sqlite.specs.declared.error.Error.{Error}
 use Rattle.reg_core.specs.World.{World}
@@ -75,3 +75,14 @@ pub record IsUncommitted (old new : State) (fault : Fault) : Type 0 where
   pub error : Error
   pub told : fault ≡ fault_of error
   pub cause : HasCleanDisk new → FailsToCommit old new error
+
+-- a transaction was committed: what it saw is shown and kept outside of it, and all else is as it was
+abbrev pub IsCommitted : State → State → Type 0
+IsCommitted old new =
+    IsTrue old.in_transaction × Shows old new old.now old.now false × KeepsCounts old new
+    × (new.marks ≡ [])
+
+-- it was rolled back, or none was open and nothing is changed
+abbrev pub IsUndone : State → State → Type 0
+IsUndone old new =
+    IsRolledBack old new ⊎ ((old.in_transaction ≡ false) × IsUnchanged old new)

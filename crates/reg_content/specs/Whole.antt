@@ -4,7 +4,7 @@ use Rattle.reg_core.specs.CapRows.{cap_row}
 use Rattle.reg_core.specs.Link.{link_row}
 use Rattle.reg_core.specs.declared.capability.CapRow.{CapRow}
 use Rattle.reg_core.specs.declared.link.LinkRow.{LinkRow}
-use Rattle.reg_records.specs.declared.agents.Link.{Link}
+use Rattle.reg_records.specs.declared.links.Link.{Link}
 use Rattle.reg_records.specs.declared.caps.Grant.{Grant}
 use Rattle.reg_content.specs.declared.whole.TheConstants.{SELECT_AGENTS, SELECT_CAPS}
 

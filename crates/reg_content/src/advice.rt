@@ -21,6 +21,7 @@ use sqlite::{Alter, Connection, Transaction};
 use std::alloc::Global;
 
 /// An expert's advice on a request.
+#[tactic(auto, using(reg_tables::proofs::Statements::advice_by_key))]
 pub fn advice<S: Alter>(
     alloc: Global,
     conn: &mut Connection<S>,
@@ -47,6 +48,7 @@ pub fn advice<S: Alter>(
 
 /// Puts an expert's advice on a request in the place of the one that the expert gave before, or
 /// adds it where there is none.
+#[tactic(auto, using(crate::proofs::Statements::puts_advice))]
 pub fn put_advice<S: Alter>(
     tx: &mut Transaction<'_, S>,
     account: &Account,

@@ -1,17 +1,19 @@
 //! Blocks that were given, in their table.
-ghost use Rattle.std.specs.Prelude.{◌≡◌, ◌&&◌, true, None, IfOk, IsSome, map};
+ghost use Rattle.std.specs.Prelude.{◌≡◌, ◌&&◌, true, None, IfOk, map};
 ghost use Rattle.std.specs.Prelude.{option_and_then, option_map};
 ghost use Rattle.std.specs.FinMap.{get, insert};
 ghost use Rattle.std.specs.Ordering.{eq_by_cmp};
 ghost use Rattle.sqlite.specs.Held.{state};
-ghost use Rattle.reg_maps.specs.Maps.{only_if, same_text, update};
-ghost use Rattle.reg_blocks.specs.Block.{Clash, SizedPrefix, block_cmp};
-ghost use Rattle.reg_core.specs.Holding.{holder_in, holding_row, holding_rows, with_mark};
+ghost use Rattle.reg_maps.specs.Maps.{only_if, same_text};
+ghost use Rattle.reg_blocks.specs.Block.{block_cmp};
+ghost use Rattle.reg_core.specs.Holding.{holder_in, holding_row, holding_rows};
 ghost use Rattle.reg_core.specs.Holding.{listed_row, listed_rows, masked, masked_blocks};
 ghost use Rattle.reg_core.specs.View.{holdings_of};
-ghost use Rattle.reg_core.specs.World.{World};
+ghost use Rattle.reg_core.specs.World.{World, applied};
+ghost use Rattle.reg_core.specs.declared.change.Change.TheVariants.{SetPrivate};
 ghost use Rattle.reg_records.specs.Blocks.{is_holding};
 ghost use Rattle.reg_content.specs.Calls.{IsKeeping, Looks, Steps};
+ghost use Rattle.reg_content.specs.Changing.{SharesNone};
 
 use crate::kept::{add, change, find, list};
 use reg_blocks::block::Block;
@@ -29,6 +31,7 @@ use sqlite::{Alter, Connection, Transaction};
 use std::alloc::{AllocError, Global};
 
 /// All blocks that were given, in order, as the public sees them.
+#[tactic(auto, using(reg_tables::proofs::Statements::all_blocks))]
 pub fn blocks<S: Alter>(alloc: Global, conn: &mut Connection<S>) -> Result<Rows<Listed>, Fault>
     requires { IsKeeping (state S.Store conn.old) }
     ensures { Looks (state S.Store conn.old) (state S.Store conn.new) result
@@ -39,6 +42,7 @@ pub fn blocks<S: Alter>(alloc: Global, conn: &mut Connection<S>) -> Result<Rows<
 }
 
 /// All blocks of an account, in order.
+#[tactic(auto, using(reg_tables::proofs::Statements::blocks_of_holder))]
 pub fn holdings<S: Alter>(
     alloc: Global,
     conn: &mut Connection<S>,
@@ -53,6 +57,7 @@ pub fn holdings<S: Alter>(
 }
 
 /// A block, if it is one of an account's.
+#[tactic(auto, using(reg_tables::proofs::Statements::block_by_key))]
 pub fn holding<S: Alter>(
     alloc: Global,
     conn: &mut Connection<S>,
@@ -69,6 +74,7 @@ pub fn holding<S: Alter>(
 }
 
 /// Adds a block that was not given yet.
+#[tactic(auto, using(crate::proofs::Statements::adds_block))]
 pub fn add_block<S: Alter>(tx: &mut Transaction<'_, S>, holding: &Holding) -> Result<(), Fault>
     ensures same_reference { tx.new.conn.ghost_name ≡ tx.old.conn.ghost_name }
     ensures steps { Steps (state S.Store tx.old.conn.now) (state S.Store tx.new.conn.now) result
@@ -82,6 +88,7 @@ pub fn add_block<S: Alter>(tx: &mut Transaction<'_, S>, holding: &Holding) -> Re
 }
 
 /// Marks a block that was given as private or not. No other block shares an address with it.
+#[tactic(auto, using(reg_tables::proofs::EditStatements::change_block_writes))]
 pub fn set_private<S: Alter>(
     tx: &mut Transaction<'_, S>,
     block: &Block,
@@ -89,10 +96,7 @@ pub fn set_private<S: Alter>(
 ) -> Result<(), Fault>
     ensures same_reference { tx.new.conn.ghost_name ≡ tx.old.conn.ghost_name }
     ensures steps { Steps (state S.Store tx.old.conn.now) (state S.Store tx.new.conn.now) result
-        (λ (w : World). IsSome (get w.blocks block.now)
-        × ((other : SizedPrefix) → IsSome (get w.blocks other) → Clash other block.now
-        → other ≡ block.now))
-        (λ (w : World). record w { blocks = update w.blocks block.now (with_mark private) }) }
+        (SharesNone block.now) (λ (w : World). applied w (SetPrivate block.now private)) }
 {
     change::<S, Holding>(
         tx,

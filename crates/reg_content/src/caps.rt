@@ -17,6 +17,7 @@ use sqlite::{Alter, Connection, Transaction};
 use std::alloc::Global;
 
 /// The capability at a digest.
+#[tactic(auto, using(reg_tables::proofs::Statements::cap_by_key))]
 pub fn cap<S: Alter>(
     alloc: Global,
     conn: &mut Connection<S>,
@@ -31,6 +32,7 @@ pub fn cap<S: Alter>(
 }
 
 /// Adds a capability at a digest that has none.
+#[tactic(auto, using(crate::proofs::Statements::adds_cap))]
 pub fn add_cap<S: Alter>(
     tx: &mut Transaction<'_, S>,
     digest: &Digest,
@@ -50,6 +52,7 @@ pub fn add_cap<S: Alter>(
 }
 
 /// Takes the capability at a digest away, if there is one.
+#[tactic(auto, using(crate::proofs::Statements::takes_cap))]
 pub fn take_cap<S: Alter>(tx: &mut Transaction<'_, S>, digest: &Digest) -> Result<(), Fault>
     ensures same_reference { tx.new.conn.ghost_name ≡ tx.old.conn.ghost_name }
     ensures steps { Steps (state S.Store tx.old.conn.now) (state S.Store tx.new.conn.now) result

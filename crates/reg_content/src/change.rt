@@ -1,20 +1,20 @@
 //! Changes, each in one transaction.
-ghost use Rattle.std.specs.Prelude.{◌≡◌, ◌⊎◌, [], false, true, IfErr, IsTrue, OnErr, OnOk};
+ghost use Rattle.std.specs.Prelude.{◌≡◌, false, true, IfErr, OnErr, OnOk};
 ghost use Rattle.sqlite.specs.Held.{state};
-ghost use Rattle.sqlite.specs.State.{HasCleanDisk, IsRolledBack, IsUnchanged, KeepsCounts, Shows, Survives};
+ghost use Rattle.sqlite.specs.State.{HasCleanDisk, Survives};
 ghost use Rattle.reg_core.specs.WellKept.{WellKept, CanApply};
 ghost use Rattle.reg_core.specs.World.{World, applied};
 ghost use Rattle.reg_tables.specs.Connection.{Holds};
-ghost use Rattle.reg_content.specs.Calls.{Alters, IsKeeping, IsUncommitted, Steps};
-ghost use Rattle.reg_content.specs.Changing.{Fits, writes_row};
+ghost use Rattle.reg_content.specs.Calls.{Alters, IsCommitted, IsKeeping, IsUncommitted, IsUndone, Steps};
+ghost use Rattle.reg_content.specs.Changing.{ChangeFits, writes_row};
 ghost use Rattle.reg_statements.specs.Content.{world_in};
 
 use crate::advice::put_advice;
-use crate::agents::set_agent;
 use crate::blocks::set_private;
 use crate::caps::{add_cap, take_cap, take_caps};
 use crate::give::{give_block, give_value, submit};
 use crate::holds::set_hold;
+use crate::links::set_agent;
 use crate::pool::add_prefix;
 use crate::queue::add_seat;
 use crate::registries::add_registry;
@@ -62,16 +62,10 @@ fn writes_row(change: &Change) -> bool
 /// memory is `Memory`, and any other `Store`.
 fn commit<S: Alter>(tx: Transaction<'_, S>) -> Result<(), Fault>
     ensures ended { tx.exit.0.now.in_transaction ≡ false }
-    ensures committed { HasCleanDisk (state S.Store tx.exit.0.now)
-        → OnOk result (IsTrue (state S.Store tx.entry.conn.now).in_transaction
-        × Shows (state S.Store tx.entry.conn.now) (state S.Store tx.exit.0.now)
-        (state S.Store tx.entry.conn.now).now (state S.Store tx.entry.conn.now).now false
-        × KeepsCounts (state S.Store tx.entry.conn.now) (state S.Store tx.exit.0.now)
-        × ((state S.Store tx.exit.0.now).marks ≡ [])) }
-    ensures undone { HasCleanDisk (state S.Store tx.exit.0.now)
-        → OnErr result (IsRolledBack (state S.Store tx.entry.conn.now) (state S.Store tx.exit.0.now)
-        ⊎ (((state S.Store tx.entry.conn.now).in_transaction ≡ false)
-        × IsUnchanged (state S.Store tx.entry.conn.now) (state S.Store tx.exit.0.now))) }
+    ensures committed { HasCleanDisk (state S.Store tx.exit.0.now) → OnOk result
+        (IsCommitted (state S.Store tx.entry.conn.now) (state S.Store tx.exit.0.now)) }
+    ensures undone { HasCleanDisk (state S.Store tx.exit.0.now) → OnErr result
+        (IsUndone (state S.Store tx.entry.conn.now) (state S.Store tx.exit.0.now)) }
     ensures survives { Survives (state S.Store tx.entry.conn.now) (state S.Store tx.exit.0.now)
         (λ db. db ≡ (state S.Store tx.entry.conn.now).now.trees) }
     ensures fault { IfErr result (IsUncommitted (state S.Store tx.entry.conn.now)
@@ -88,7 +82,7 @@ fn make<S: Alter>(alloc: Global, tx: &mut Transaction<'_, S>, change: &Change) -
     requires { writes_row change.now ≡ true }
     ensures same_reference { tx.new.conn.ghost_name ≡ tx.old.conn.ghost_name }
     ensures steps { Steps (state S.Store tx.old.conn.now) (state S.Store tx.new.conn.now) result
-        (Fits change.now) (λ (w : World). applied w change.now) }
+        (ChangeFits change.now) (λ (w : World). applied w change.now) }
 {
     match change {
         Change::Grant(digest, cap) => add_cap(tx, digest, cap),

@@ -1,6 +1,6 @@
 //! Entries in their table.
-ghost use Rattle.std.specs.Prelude.{◌≡◌, true, false, IfOk, IsSome, IsTrue, map, option_map};
-ghost use Rattle.std.specs.FinMap.{get, insert};
+ghost use Rattle.std.specs.Prelude.{◌≡◌, true, false, IfOk, IsTrue, map, option_map};
+ghost use Rattle.std.specs.FinMap.{get};
 ghost use Rattle.std.specs.List.Sorted.{IsStrictlyIncreasing};
 ghost use Rattle.sqlite.specs.Held.{state};
 ghost use Rattle.reg_maps.specs.RowMaps.{IsTable, held_in};
@@ -12,6 +12,7 @@ ghost use Rattle.reg_core.specs.World.{World, place_cmp};
 ghost use Rattle.reg_tables.specs.Connection.{Endures, Holds, IsIdle, Stays};
 ghost use Rattle.reg_tables.specs.Schema.{entries_table};
 ghost use Rattle.reg_content.specs.Calls.{IsKeeping, Looks, Steps};
+ghost use Rattle.reg_content.specs.Changing.{MayBeHeld, with_registration};
 ghost use Rattle.reg_content.specs.Marks.{IsUnheld};
 ghost use Rattle.reg_statements.specs.Content.{registration_at};
 
@@ -31,6 +32,7 @@ use sqlite::{Alter, Connection, Transaction};
 use std::alloc::Global;
 
 /// The entry of a registry at a value.
+#[tactic(auto, using(reg_tables::proofs::Statements::entry_by_key))]
 pub fn entry<S: Alter>(
     alloc: Global,
     conn: &mut Connection<S>,
@@ -55,6 +57,7 @@ pub fn entry<S: Alter>(
 }
 
 /// All entries of a registry, by value. Their values ascend whatever the premise.
+#[tactic(auto, using(reg_tables::proofs::Statements::entries_of_registry))]
 pub fn entries<S: Alter>(
     alloc: Global,
     conn: &mut Connection<S>,
@@ -77,6 +80,7 @@ pub fn entries<S: Alter>(
 
 /// The entries of all registries, by registry and then by value, without their marks. Where there
 /// is an answer, the rows of the table are these entries, no two at one place.
+#[tactic(auto, using(reg_tables::proofs::Statements::all_entries))]
 pub fn all_entries<S: Alter>(alloc: Global, conn: &mut Connection<S>) -> Result<Vec<Entry>, Fault>
     requires { IsIdle (state S.Store conn.old) }
     ensures idle { IsIdle (state S.Store conn.new) }
@@ -96,11 +100,8 @@ pub fn all_entries<S: Alter>(alloc: Global, conn: &mut Connection<S>) -> Result<
 pub fn put_entry<S: Alter>(tx: &mut Transaction<'_, S>, entry: &Entry) -> Result<(), Fault>
     ensures same_reference { tx.new.conn.ghost_name ≡ tx.old.conn.ghost_name }
     ensures steps { Steps (state S.Store tx.old.conn.now) (state S.Store tx.new.conn.now) result
-        (λ (w : World). entry.now.term.held ≡ true → IsSome entry.now.term.expires)
-        (λ (w : World). record w {
-          entries = insert w.entries (entry.now.registry, entry.now.value)
-              (registration_in entry.now);
-        }) }
+        (λ (w : World). MayBeHeld entry.now)
+        (with_registration (entry.now.registry, entry.now.value) (registration_in entry.now)) }
 {
     let hold = Hold {
         registry: entry.registry,
@@ -115,14 +116,13 @@ pub fn put_entry<S: Alter>(tx: &mut Transaction<'_, S>, entry: &Entry) -> Result
 }
 
 /// Puts an entry without its mark at its value of its registry, where none stands that is held.
+#[tactic(auto, using(crate::proofs::Statements::puts_entry))]
 fn put_unheld<S: Alter>(tx: &mut Transaction<'_, S>, entry: &Entry) -> Result<(), Fault>
     ensures same_reference { tx.new.conn.ghost_name ≡ tx.old.conn.ghost_name }
     ensures steps { Steps (state S.Store tx.old.conn.now) (state S.Store tx.new.conn.now) result
         (IsUnheld (entry.now.registry, entry.now.value))
-        (λ (w : World). record w {
-          entries = insert w.entries (entry.now.registry, entry.now.value)
-              (with_hold false (registration_in entry.now));
-        }) }
+        (with_registration (entry.now.registry, entry.now.value)
+        (with_hold false (registration_in entry.now))) }
 {
     formed(entry);
     put::<S, Entry>(tx, PUT_ENTRY, &entry_values(entry))

@@ -1,16 +1,12 @@
 //! Changes that write more than one row.
-ghost use Rattle.std.specs.Prelude.{◌≡◌, true, IsSome, None, Some, option_map};
-ghost use Rattle.std.specs.FinMap.{get, insert};
+ghost use Rattle.std.specs.Prelude.{◌≡◌, None, option_map};
+ghost use Rattle.std.specs.FinMap.{get};
 ghost use Rattle.sqlite.specs.Held.{state};
-ghost use Rattle.reg_core.specs.Entry.{registration_in};
-ghost use Rattle.reg_core.specs.Holding.{holder_in};
-ghost use Rattle.reg_core.specs.World.{World, pending, with_state};
-ghost use Rattle.reg_core.specs.declared.request.Case.{Case};
-ghost use Rattle.reg_core.specs.declared.request.Given.TheVariants as given;
-ghost use Rattle.reg_core.specs.declared.request.State.TheVariants.{Approved};
-ghost use Rattle.reg_records.specs.Requests.Forms.{gives_its_kind};
+ghost use Rattle.reg_core.specs.World.{World, applied};
+ghost use Rattle.reg_core.specs.declared.change.Change.TheVariants.{GiveBlock, GiveValue, Submit};
 ghost use Rattle.reg_core.specs.Minutes.{minute_of};
 ghost use Rattle.reg_content.specs.Calls.{Steps};
+ghost use Rattle.reg_content.specs.Changing.{CanGiveBlock, CanGiveValue};
 
 use crate::blocks::add_block;
 use crate::entries::put_entry;
@@ -35,9 +31,7 @@ pub fn submit<S: Alter>(
     ensures same_reference { tx.new.conn.ghost_name ≡ tx.old.conn.ghost_name }
     ensures steps { Steps (state S.Store tx.old.conn.now) (state S.Store tx.new.conn.now) result
         (λ (w : World). get w.requests (account.now, reference.now) ≡ None)
-        (λ (w : World). record w {
-          requests = insert w.requests (account.now, reference.now) (pending ask.now);
-        }) }
+        (λ (w : World). applied w (Submit account.now reference.now ask.now)) }
 {
     let request = Request {
         account: *account,
@@ -75,15 +69,8 @@ pub fn give_value<S: Alter>(
 ) -> Result<(), Fault>
     ensures same_reference { tx.new.conn.ghost_name ≡ tx.old.conn.ghost_name }
     ensures steps { Steps (state S.Store tx.old.conn.now) (state S.Store tx.new.conn.now) result
-        (λ (w : World). ((case : Case)
-        × (get w.requests (account.now, reference.now) ≡ Some case)
-        × (gives_its_kind case.ask (Approved (given.Value entry.now.value)) ≡ true))
-        × (entry.now.term.held ≡ true → IsSome entry.now.term.expires))
-        (λ (w : World). record (with_state w (account.now, reference.now)
-        (Approved (given.Value entry.now.value))) {
-          entries = insert w.entries (entry.now.registry, entry.now.value)
-              (registration_in entry.now);
-        }) }
+        (CanGiveValue (account.now, reference.now) entry.now)
+        (λ (w : World). applied w (GiveValue account.now reference.now entry.now)) }
 {
     set_state(alloc, tx, account, reference, &entry.approval())?;
     put_entry(tx, entry)?;
@@ -100,14 +87,8 @@ pub fn give_block<S: Alter>(
 ) -> Result<(), Fault>
     ensures same_reference { tx.new.conn.ghost_name ≡ tx.old.conn.ghost_name }
     ensures steps { Steps (state S.Store tx.old.conn.now) (state S.Store tx.new.conn.now) result
-        (λ (w : World). ((case : Case)
-        × (get w.requests (account.now, reference.now) ≡ Some case)
-        × (gives_its_kind case.ask (Approved (given.Block holding.now.block)) ≡ true))
-        × (get w.blocks holding.now.block ≡ None))
-        (λ (w : World). record (with_state w (account.now, reference.now)
-        (Approved (given.Block holding.now.block))) {
-          blocks = insert w.blocks holding.now.block (holder_in holding.now);
-        }) }
+        (CanGiveBlock (account.now, reference.now) holding.now)
+        (λ (w : World). applied w (GiveBlock account.now reference.now holding.now)) }
 {
     set_state(alloc, tx, account, reference, &holding.approval())?;
     add_block(tx, holding)?;

@@ -82,6 +82,7 @@ pub(crate) fn set_hold<S: Alter>(
 }
 
 /// Marks an entry that expires and is not held.
+#[tactic(auto, using(crate::proofs::Statements::adds_hold))]
 pub(crate) fn add_hold<S: Alter>(tx: &mut Transaction<'_, S>, hold: &Hold) -> Result<(), Fault>
     ensures same_reference { tx.new.conn.ghost_name ≡ tx.old.conn.ghost_name }
     ensures steps { Steps (state S.Store tx.old.conn.now) (state S.Store tx.new.conn.now) result
@@ -95,6 +96,7 @@ pub(crate) fn add_hold<S: Alter>(tx: &mut Transaction<'_, S>, hold: &Hold) -> Re
 }
 
 /// Takes the mark of an entry away, if it has one.
+#[tactic(auto, using(crate::proofs::Statements::takes_hold))]
 pub(crate) fn take_hold<S: Alter>(tx: &mut Transaction<'_, S>, hold: &Hold) -> Result<(), Fault>
     ensures same_reference { tx.new.conn.ghost_name ≡ tx.old.conn.ghost_name }
     ensures steps { Steps (state S.Store tx.old.conn.now) (state S.Store tx.new.conn.now) result
@@ -125,6 +127,7 @@ fn is_marked<S: Alter>(
 }
 
 /// Whether the entry at a value of a registry has a mark.
+#[tactic(auto, using(reg_tables::proofs::Statements::hold_by_key))]
 fn is_held<S: Alter>(
     alloc: Global,
     conn: &mut Connection<S>,
@@ -145,6 +148,7 @@ fn is_held<S: Alter>(
 }
 
 /// The marks of a registry, where an entry of these expires.
+#[tactic(auto, using(reg_tables::proofs::Statements::holds_of_registry))]
 fn marks_if<S: Alter>(
     alloc: Global,
     conn: &mut Connection<S>,

@@ -1,16 +1,17 @@
 //! The rows of any table of an office: found and listed by a test, added, put at their keys,
 //! changed and taken away.
-ghost use Rattle.std.specs.Prelude.{◌≡◌, ◌⊎◌, Bool, true, IfErr, IfOk};
+ghost use Rattle.std.specs.Prelude.{◌≡◌, Bool, true, IfErr, IfOk};
 ghost use Rattle.sqlite.specs.Held.{state};
 ghost use Rattle.sqlite.specs.Values.{bound};
 ghost use Rattle.reg_tables.specs.Kinds.{IsQuery, WritesRows};
-ghost use Rattle.reg_statements.specs.Defined.{Adds, AllCan, Changes, Chooses, IsDefined, IsFound};
-ghost use Rattle.reg_statements.specs.Defined.{IsFree, KeepsTies, Puts, Takes, rows_where};
-ghost use Rattle.reg_statements.specs.Defined.{with_changed, with_row, without_row};
+ghost use Rattle.reg_statements.specs.Defined.{InsertsRows, Chooses, IsDefined, IsFound};
+ghost use Rattle.reg_statements.specs.Defined.{HasFreeKey, KeepsTies, Puts, TakesRows, rows_where};
+ghost use Rattle.reg_statements.specs.Defined.{with_row, without_row};
 ghost use Rattle.reg_statements.specs.Loading.{IsAscending, ReadsInOrder, ReadsOne};
 ghost use Rattle.reg_statements.specs.Parts.{TableDef};
-ghost use Rattle.reg_statements.specs.Reading.{GivesTooMany, IsFault, IsMet, IsMisread};
+ghost use Rattle.reg_statements.specs.Reading.{GivesTooMany, IsFault, IsMet, IsNotRead};
 ghost use Rattle.reg_content.specs.Calls.{IsKeeping, LooksIn, StepsIn};
+ghost use Rattle.reg_content.specs.Changing.{ChangesRows};
 
 use reg_keeper::keeper::Fault;
 use reg_records::record::Keyed;
@@ -51,10 +52,9 @@ pub fn find<S: Reports + Loads, T: Kept>(
     requires plain { IsQuery sql.now }
     ensures row { LooksIn (state S.Store conn.old) (state S.Store conn.new) result
         (λ p found. IsFound T.table sql.now (bound params.now) found p) }
-    ensures fault { IfErr result (λ fault. IsFault (IsMet S.Reported S.Unloaded
-        (GivesTooMany S.Store sql.now (bound params.now) conn.new)) (state S.Store conn.old)
-        (state S.Store conn.new) fault ⊎ IsMisread sql.now (bound params.now) (state S.Store conn.old)
-        (state S.Store conn.new) (ReadsOne T.of) fault) }
+    ensures fault { IfErr result (IsNotRead (IsMet S.Reported S.Unloaded
+        (GivesTooMany S.Store sql.now (bound params.now) conn.new)) sql.now (bound params.now)
+        (state S.Store conn.old) (state S.Store conn.new) (ReadsOne T.of)) }
 {
     one::<S, T>(alloc, conn, sql, params)
 }
@@ -72,10 +72,9 @@ pub fn list<S: Reports + Loads, T: Kept>(
     ensures rows { LooksIn (state S.Store conn.old) (state S.Store conn.new) result
         (λ p rows. (test : T.Key → T.Value → Bool) → Chooses T.table sql.now (bound params.now) test
         → rows.items ≡ rows_where T.table test p) }
-    ensures fault { IfErr result (λ fault. IsFault (IsMet S.Reported S.Unloaded
-        (GivesTooMany S.Store sql.now (bound params.now) conn.new)) (state S.Store conn.old)
-        (state S.Store conn.new) fault ⊎ IsMisread sql.now (bound params.now) (state S.Store conn.old)
-        (state S.Store conn.new) (ReadsInOrder T.of T.order) fault) }
+    ensures fault { IfErr result (IsNotRead (IsMet S.Reported S.Unloaded
+        (GivesTooMany S.Store sql.now (bound params.now) conn.new)) sql.now (bound params.now)
+        (state S.Store conn.old) (state S.Store conn.new) (ReadsInOrder T.of T.order)) }
 {
     all::<S, T>(alloc, conn, sql, params)
 }
@@ -86,11 +85,11 @@ pub fn add<S: Reports, T: Kept>(
     sql: &str,
     values: &[ValueRef<'_>],
 ) -> Result<(), Fault>
-    requires { Adds T.table sql.now }
+    requires { InsertsRows T.table sql.now }
     ensures same_reference { tx.new.conn.ghost_name ≡ tx.old.conn.ghost_name }
     ensures steps { (row : T) → T.table.form row ≡ true → bound values.now ≡ T.table.values row
         → StepsIn (state S.Store tx.old.conn.now) (state S.Store tx.new.conn.now) result
-        (λ p. IsFree T.table row p × KeepsTies (with_row T.table row) p) (with_row T.table row) }
+        (λ p. HasFreeKey T.table row p × KeepsTies (with_row T.table row) p) (with_row T.table row) }
     ensures fault { IfErr result (IsFault S.Reported (state S.Store tx.old.conn.now)
         (state S.Store tx.new.conn.now)) }
 {
@@ -125,12 +124,8 @@ pub fn change<S: Reports, T: Kept>(
 ) -> Result<(), Fault>
     requires { WritesRows sql.now }
     ensures same_reference { tx.new.conn.ghost_name ≡ tx.old.conn.ghost_name }
-    ensures steps { (test : T.Key → T.Value → Bool) (can : T.Value → Bool)
-        (changed : T.Value → T.Value)
-        → Changes T.table sql.now (bound params.now) test can changed
-        → StepsIn (state S.Store tx.old.conn.now) (state S.Store tx.new.conn.now) result
-        (λ p. AllCan T.table test can p × KeepsTies (with_changed T.table test changed) p)
-        (with_changed T.table test changed) }
+    ensures steps { ChangesRows T.table sql.now (bound params.now) (state S.Store tx.old.conn.now)
+        (state S.Store tx.new.conn.now) result }
     ensures fault { IfErr result (IsFault S.Reported (state S.Store tx.old.conn.now)
         (state S.Store tx.new.conn.now)) }
 {
@@ -144,7 +139,7 @@ pub fn take<S: Reports, T: Kept>(
     sql: &str,
     key: &[ValueRef<'_>],
 ) -> Result<(), Fault>
-    requires { Takes T.table sql.now }
+    requires { TakesRows T.table sql.now }
     ensures same_reference { tx.new.conn.ghost_name ≡ tx.old.conn.ghost_name }
     ensures steps { (k : T.Key) → bound key.now ≡ T.table.key.cells k
         → StepsIn (state S.Store tx.old.conn.now) (state S.Store tx.new.conn.now) result

@@ -2,7 +2,6 @@
 #![tactic(auto)]
 
 pub mod advice;
-pub mod agents;
 pub mod blocks;
 pub mod caps;
 pub mod change;
@@ -10,6 +9,7 @@ pub mod entries;
 mod give;
 mod holds;
 pub mod kept;
+pub mod links;
 mod minutes;
 pub mod pending;
 pub mod pool;

@@ -76,6 +76,7 @@ pub(crate) fn minuted_all<S: Alter>(
 }
 
 /// Adds the minute that a renewal names which has none yet.
+#[tactic(auto, using(crate::proofs::Statements::adds_minute))]
 pub(crate) fn add_minute<S: Alter>(
     tx: &mut Transaction<'_, S>,
     account: &Account,
@@ -120,6 +121,7 @@ fn minute_if<S: Alter>(
 }
 
 /// The minute that the request of an account under a reference names, if it names one.
+#[tactic(auto, using(reg_tables::proofs::Statements::minute_by_key))]
 fn minute<S: Alter>(
     alloc: Global,
     conn: &mut Connection<S>,

@@ -19,6 +19,7 @@ use sqlite::{Alter, Connection, Transaction};
 use std::alloc::Global;
 
 /// The prefixes of the pool.
+#[tactic(auto, using(reg_tables::proofs::Statements::all_pool))]
 pub fn pool<S: Alter>(alloc: Global, conn: &mut Connection<S>) -> Result<Pool, Fault>
     requires { IsKeeping (state S.Store conn.old) }
     ensures { Looks (state S.Store conn.old) (state S.Store conn.new) result
@@ -29,6 +30,7 @@ pub fn pool<S: Alter>(alloc: Global, conn: &mut Connection<S>) -> Result<Pool, F
 }
 
 /// Whether a prefix is in the pool.
+#[tactic(auto, using(reg_tables::proofs::Statements::prefix_by_key))]
 pub fn is_pooled<S: Alter>(
     alloc: Global,
     conn: &mut Connection<S>,
@@ -43,6 +45,7 @@ pub fn is_pooled<S: Alter>(
 }
 
 /// Adds a prefix that is not in the pool.
+#[tactic(auto, using(crate::proofs::Statements::adds_prefix))]
 pub fn add_prefix<S: Alter>(tx: &mut Transaction<'_, S>, prefix: u32) -> Result<(), Fault>
     ensures same_reference { tx.new.conn.ghost_name ≡ tx.old.conn.ghost_name }
     ensures steps { Steps (state S.Store tx.old.conn.now) (state S.Store tx.new.conn.now) result

@@ -1,8 +1,9 @@
 //! Seats of experts in the table of the queue.
 ghost use Rattle.std.specs.Prelude.{◌≡◌, false};
-ghost use Rattle.std.specs.FinMap.{contains_key, insert};
+ghost use Rattle.std.specs.FinMap.{contains_key};
 ghost use Rattle.sqlite.specs.Held.{state};
-ghost use Rattle.reg_core.specs.World.{World};
+ghost use Rattle.reg_core.specs.World.{World, applied};
+ghost use Rattle.reg_core.specs.declared.change.Change.TheVariants.{Assign};
 ghost use Rattle.reg_content.specs.Calls.{IsKeeping, Looks, Steps};
 
 use crate::kept::{add, find};
@@ -16,6 +17,7 @@ use sqlite::{Alter, Connection, Transaction};
 use std::alloc::Global;
 
 /// Whether a request is assigned to an expert.
+#[tactic(auto, using(reg_tables::proofs::Statements::queue_by_key))]
 pub fn is_queued<S: Alter>(
     alloc: Global,
     conn: &mut Connection<S>,
@@ -42,6 +44,7 @@ pub fn is_queued<S: Alter>(
 }
 
 /// Assigns a request to an expert to whom it is not assigned.
+#[tactic(auto, using(crate::proofs::Statements::adds_seat))]
 pub fn add_seat<S: Alter>(
     tx: &mut Transaction<'_, S>,
     account: &Account,
@@ -52,9 +55,7 @@ pub fn add_seat<S: Alter>(
     ensures steps { Steps (state S.Store tx.old.conn.now) (state S.Store tx.new.conn.now) result
         (λ (w : World).
         contains_key w.queue ((account.now, reference.now), expert.now) ≡ false)
-        (λ (w : World). record w {
-          queue = insert w.queue ((account.now, reference.now), expert.now) tt;
-        }) }
+        (λ (w : World). applied w (Assign account.now reference.now expert.now)) }
 {
     let seat = Seat {
         account: *account,

@@ -25,6 +25,7 @@ use sqlite::{Alter, Connection, Transaction};
 use std::alloc::{AllocError, Global};
 
 /// The names of all registries, in order.
+#[tactic(auto, using(reg_tables::proofs::Statements::all_registries))]
 pub fn names<S: Alter>(alloc: Global, conn: &mut Connection<S>) -> Result<Rows<Name>, Fault>
     requires { IsKeeping (state S.Store conn.old) }
     ensures { Looks (state S.Store conn.old) (state S.Store conn.new) result
@@ -75,6 +76,7 @@ pub fn add_registry<S: Alter>(
 }
 
 /// Adds a registry that has no ranges yet, where there is none of the name.
+#[tactic(auto, using(crate::proofs::Statements::adds_registry))]
 fn add_name<S: Alter>(tx: &mut Transaction<'_, S>, name: &Name, max: u32) -> Result<(), Fault>
     ensures same_reference { tx.new.conn.ghost_name ≡ tx.old.conn.ghost_name }
     ensures steps { Steps (state S.Store tx.old.conn.now) (state S.Store tx.new.conn.now) result
@@ -89,6 +91,7 @@ fn add_name<S: Alter>(tx: &mut Transaction<'_, S>, name: &Name, max: u32) -> Res
 }
 
 /// Adds a range to a registry whose ranges all begin below it.
+#[tactic(auto, using(crate::proofs::Statements::adds_range))]
 fn add_range<S: Alter>(tx: &mut Transaction<'_, S>, name: &Name, range: &Range) -> Result<(), Fault>
     ensures same_reference { tx.new.conn.ghost_name ≡ tx.old.conn.ghost_name }
     ensures steps { Steps (state S.Store tx.old.conn.now) (state S.Store tx.new.conn.now) result
@@ -106,6 +109,7 @@ fn add_range<S: Alter>(tx: &mut Transaction<'_, S>, name: &Name, range: &Range) 
 }
 
 /// The largest value of a registry.
+#[tactic(auto, using(reg_tables::proofs::Statements::registry_by_key))]
 fn max<S: Alter>(alloc: Global, conn: &mut Connection<S>, name: &Name) -> Result<Option<u32>, Fault>
     requires { IsKeeping (state S.Store conn.old) }
     ensures { Looks (state S.Store conn.old) (state S.Store conn.new) result
@@ -116,6 +120,7 @@ fn max<S: Alter>(alloc: Global, conn: &mut Connection<S>, name: &Name) -> Result
 }
 
 /// The ranges of a registry, in order.
+#[tactic(auto, using(reg_tables::proofs::Statements::ranges_of_registry))]
 fn ranges_of<S: Alter>(
     alloc: Global,
     conn: &mut Connection<S>,

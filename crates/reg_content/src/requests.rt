@@ -1,6 +1,6 @@
 //! Requests in their table.
-ghost use Rattle.std.specs.Prelude.{◌≡◌, ◌∷◌, true, Some, None, option_map, string_bytes};
-ghost use Rattle.std.specs.FinMap.{get, insert};
+ghost use Rattle.std.specs.Prelude.{◌≡◌, ◌∷◌, true, None, option_map, string_bytes};
+ghost use Rattle.std.specs.FinMap.{get};
 ghost use Rattle.sqlite.specs.Held.{state};
 ghost use Rattle.sqlite.specs.Held.{state as store_state};
 ghost use Rattle.sqlite.specs.Values.{bound};
@@ -9,13 +9,11 @@ ghost use Rattle.reg_core.specs.File.{waiting};
 ghost use Rattle.reg_core.specs.Request.{case_of, request_row, request_rows};
 ghost use Rattle.reg_core.specs.View.{requests_of};
 ghost use Rattle.reg_core.specs.WellKept.{has_request_form};
-ghost use Rattle.reg_core.specs.World.{World, pending, with_state};
-ghost use Rattle.reg_core.specs.declared.request.Case.{Case};
+ghost use Rattle.reg_core.specs.World.{World, with_state};
 ghost use Rattle.reg_core.specs.declared.request.State.TheVariants.{Pending};
-ghost use Rattle.reg_records.specs.Requests.Forms.{gives_its_kind};
-ghost use Rattle.reg_core.specs.Minutes.{bare_ask};
 ghost use Rattle.reg_records.specs.Requests.Values.{given_text, state_values};
 ghost use Rattle.reg_content.specs.Calls.{IsKeeping, Looks, Steps};
+ghost use Rattle.reg_content.specs.Changing.{AsksFor, with_pending};
 
 use crate::kept::{add, change, find, list};
 use crate::minutes::{Minuted, minuted_all};
@@ -35,6 +33,7 @@ use sqlite::{Alter, Connection, Transaction};
 use std::alloc::Global;
 
 /// The request of an account under a reference.
+#[tactic(auto, using(reg_tables::proofs::Statements::request_by_key))]
 pub fn own_one<S: Alter>(
     alloc: Global,
     conn: &mut Connection<S>,
@@ -59,6 +58,7 @@ pub fn own_one<S: Alter>(
 }
 
 /// All requests of an account, by reference.
+#[tactic(auto, using(reg_tables::proofs::Statements::requests_of_account))]
 pub fn own<S: Alter>(
     alloc: Global,
     conn: &mut Connection<S>,
@@ -74,6 +74,7 @@ pub fn own<S: Alter>(
 }
 
 /// All requests, by account and then by reference.
+#[tactic(auto, using(reg_tables::proofs::Statements::all_requests))]
 pub fn all<S: Alter>(alloc: Global, conn: &mut Connection<S>) -> Result<Rows<Request>, Fault>
     requires { IsKeeping (state S.Store conn.old) }
     ensures { Looks (state S.Store conn.old) (state S.Store conn.new) result
@@ -85,6 +86,7 @@ pub fn all<S: Alter>(alloc: Global, conn: &mut Connection<S>) -> Result<Rows<Req
 }
 
 /// The requests that wait, by account and then by reference.
+#[tactic(auto, using(reg_tables::proofs::Statements::requests_in_state))]
 pub fn waiting<S: Alter>(alloc: Global, conn: &mut Connection<S>) -> Result<Rows<Request>, Fault>
     requires { IsKeeping (state S.Store conn.old) }
     ensures { Looks (state S.Store conn.old) (state S.Store conn.new) result
@@ -97,21 +99,20 @@ pub fn waiting<S: Alter>(alloc: Global, conn: &mut Connection<S>) -> Result<Rows
 }
 
 /// Adds a pending request, without the minute that it names, at a name that has none.
+#[tactic(auto, using(crate::proofs::Statements::adds_request))]
 pub fn add_request<S: Alter>(tx: &mut Transaction<'_, S>, request: &Request) -> Result<(), Fault>
     requires { request.now.state ≡ Pending }
     ensures same_reference { tx.new.conn.ghost_name ≡ tx.old.conn.ghost_name }
     ensures steps { Steps (state S.Store tx.old.conn.now) (state S.Store tx.new.conn.now) result
         (λ (w : World). get w.requests (request.now.account, request.now.reference) ≡ None)
-        (λ (w : World). record w {
-          requests = insert w.requests (request.now.account, request.now.reference)
-              (pending (bare_ask request.now.ask));
-        }) }
+        (with_pending request.now) }
 {
     formed(request);
     add::<S, Request>(tx, INSERT_REQUESTS, &request_values(request, &None))
 }
 
 /// Puts a request that is there in another state. What is given is what its ask is for.
+#[tactic(auto, using(reg_tables::proofs::EditStatements::change_request_writes))]
 pub fn set_state<S: Alter>(
     alloc: Global,
     tx: &mut Transaction<'_, S>,
@@ -122,9 +123,7 @@ pub fn set_state<S: Alter>(
     ensures same_reference { tx.new.conn.ghost_name ≡ tx.old.conn.ghost_name }
     ensures steps { Steps (store_state S.Store tx.old.conn.now)
         (store_state S.Store tx.new.conn.now) result
-        (λ (w : World). (case : Case)
-        × (get w.requests (account.now, reference.now) ≡ Some case)
-        × (gives_its_kind case.ask state.now ≡ true))
+        (AsksFor (account.now, reference.now) state.now)
         (λ (w : World). with_state w (account.now, reference.now) state.now) }
 {
     state.formed();

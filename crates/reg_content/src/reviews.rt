@@ -53,6 +53,7 @@ pub fn file<S: Alter>(
 }
 
 /// The experts to whom a request is assigned, and all advice on it, by expert.
+#[tactic(auto, using(reg_tables::proofs::Statements::seats_of_request))]
 pub(crate) fn seats<S: Alter>(
     alloc: Global,
     conn: &mut Connection<S>,
@@ -77,6 +78,7 @@ pub(crate) fn seats<S: Alter>(
 
 /// All requests that are assigned to an expert, with the expert's own advice, by account and then
 /// by reference.
+#[tactic(auto, using(reg_tables::proofs::Statements::queued_of_expert))]
 pub fn queue<S: Alter>(
     alloc: Global,
     conn: &mut Connection<S>,

@@ -11,8 +11,8 @@ use reg_core::capability::CapRow;
 use reg_core::link::LinkRow;
 use reg_core::rows::Rows;
 use reg_keeper::keeper::Fault;
-use reg_records::agents::Link;
 use reg_records::caps::Grant;
+use reg_records::links::Link;
 use sqlite::{Alter, Connection};
 use std::alloc::{AllocError, Global};
 
@@ -23,6 +23,7 @@ pub const SELECT_CAPS: &str = "SELECT digest, account, kind, until FROM caps ORD
 pub const SELECT_AGENTS: &str = "SELECT principal, agent FROM agents ORDER BY principal, agent";
 
 /// All capabilities, by digest.
+#[tactic(auto, using(crate::proofs::WholeTables::all_caps))]
 pub fn caps<S: Alter>(alloc: Global, conn: &mut Connection<S>) -> Result<Rows<CapRow>, Fault>
     requires { IsKeeping (state S.Store conn.old) }
     ensures { Looks (state S.Store conn.old) (state S.Store conn.new) result
@@ -33,6 +34,7 @@ pub fn caps<S: Alter>(alloc: Global, conn: &mut Connection<S>) -> Result<Rows<Ca
 }
 
 /// All principals with their agents, by principal and then by agent.
+#[tactic(auto, using(crate::proofs::WholeTables::all_links))]
 pub fn links<S: Alter>(alloc: Global, conn: &mut Connection<S>) -> Result<Rows<LinkRow>, Fault>
     requires { IsKeeping (state S.Store conn.old) }
     ensures { Looks (state S.Store conn.old) (state S.Store conn.new) result

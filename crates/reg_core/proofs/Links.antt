@@ -11,9 +11,9 @@ use Rattle.std.specs.Ordering.{eq_by_cmp, ordering_then}
 use Rattle.std.proofs.lemmas.Cmp.{tied_itself}
 use Rattle.std.proofs.lemmas.List.Elements.{All-map, recursion_from_All}
 use Rattle.std.proofs.lemmas.Slice.Eq.{bytes_eq-Decides}
-use Rattle.reg_maps.specs.Maps.{text_cmp, same_text, only_if, select}
+use Rattle.reg_maps.specs.Maps.{text_cmp, same_text, only_if}
 use Rattle.reg_maps.proofs.KeySets.{is_inserted}
-use Rattle.reg_maps.proofs.MapLaws.{text_keys, same_at, get-at_insert, get-removed, get-select, All-entries, Contains-map, Contains-keys, ascending-keys}
+use Rattle.reg_maps.proofs.MapLaws.{get-chosen, text_keys, same_at, get-at_insert, get-removed, get-select, All-entries, Contains-map, Contains-keys, ascending-keys}
 use Rattle.reg_core.specs.Link.{agent_rows, principal_names}
 use Rattle.reg_core.specs.Lists.{AccountList}
 use Rattle.reg_core.specs.View.{agents_of, principals_of, principal_rows_of, requests_by, requests_of}
@@ -153,32 +153,17 @@ same_agent k l p less =
     by Equal h = absurd (cc)
     by Greater h = absurd (cc)
 
--- a link that is chosen is one of all, and passes the test
-chosen : (links : FinSet link_cmp) (test : Link → Bool) (link : Link) (u : Unit {0})
-    → get (select (λ (link : Link) (u : Unit {0}). only_if (test link) u) links) link ≡ Some u
-    → (get links link ≡ Some u) × (test link ≡ true)
-chosen links test link u is =
-    by (get links link) (test link)
-    (sym (get-select link_keys (λ (link : Link) (u : Unit {0}). only_if (test link) u) links link)
-    ∙ is)
-  where
-    by : (o : Option (Unit {0})) (b : Bool) → option_and_then (λ x. only_if b x) o ≡ Some u
-        → (o ≡ Some u) × (b ≡ true)
-    by None b e = absurd (cc)
-    by (Some x) true e = (e, refl)
-    by (Some x) false e = absurd (cc)
-
 module _ (w : World) (account : List ℕ) where
   agent_found : (link : Link) (u : Unit {0}) → get (agents_of account w) link ≡ Some u
       → (get w.agents link ≡ Some u) × (link.0 ≡ account)
   agent_found link u is =
-      let found = chosen w.agents (λ link. same_text link.0 account) link u is in
+      let found = get-chosen link_keys (λ link u. same_text link.0 account) w.agents link u is in
       (found.0, (bytes_eq-Decides link.0 account).0 found.1)
 
   principal_found : (link : Link) (u : Unit {0}) → get (principals_of account w) link ≡ Some u
       → (get w.agents link ≡ Some u) × (link.1 ≡ account)
   principal_found link u is =
-      let found = chosen w.agents (λ link. same_text link.1 account) link u is in
+      let found = get-chosen link_keys (λ link u. same_text link.1 account) w.agents link u is in
       (found.0, (bytes_eq-Decides link.1 account).0 found.1)
 
   -- a link that is there has its row

@@ -1,12 +1,11 @@
 -- The tests of sameness decide equality.
-use Rattle.std.proofs.Common.{◌≡◌, ℕ, Bool, true, ◌&&◌, List, refl, subst, ap, rules}
+use Rattle.std.proofs.Common.{◌≡◌, ℕ, Bool, true, ◌&&◌, List, refl, subst, ap, rules, Option, Some, None}
 use Rattle.std.proofs.lemmas.Bool.{and_parts, eqb-true, eq-eqb}
 use Rattle.std.specs.Bool.{Decides, beq}
 use Rattle.std.specs.Cmp.{booleans_Decides}
 use Rattle.std.specs.Option.{option_eq}
 use Rattle.std.specs.Str.{bytes_eq}
 use Rattle.std.proofs.lemmas.Slice.Eq.{bytes_eq-Decides}
-use Rattle.std.specs.Prelude.{Option, Some, None}
 use Rattle.reg_maps.specs.Maps.{same_text}
 use Rattle.reg_core.specs.Advice.{same_advice, is_given}
 use Rattle.reg_core.specs.Ask.{same_want, same_code, same_early, same_renewal, same_permanence, same_size, same_block, same_ask}

@@ -1,5 +1,5 @@
 -- The values of a registry are those at which it has an entry, and they ascend.
-use Rattle.std.proofs.Common.{◌≡◌, ℕ, Bool, true, false, List, [], ◌∷◌, refl, sym, ap, subst, ◌∙◌, inl, inr, arith}
+use Rattle.std.proofs.Common.{◌≡◌, ℕ, true, List, [], ◌∷◌, refl, sym, ap, subst, ◌∙◌, inl, inr, arith}
 use Rattle.std.specs.Prelude.{Option, Some, None, Contains, IsTrue, ◌↔◌, is_some, map, option_and_then}
 use Rattle.std.specs.declared.cmp.Ordering.TheVariants.{Less, Equal}
 use Rattle.std.specs.FinMap.{FinMap, get, contains_key, entries, keys}
@@ -12,7 +12,7 @@ use Rattle.std.proofs.lemmas.Map.Keys.{IsStrictlyIncreasing-from_sorted}
 use Rattle.std.proofs.lemmas.Simd.{map-map}
 use Rattle.std.proofs.lemmas.Slice.Eq.{bytes_eq-Decides}
 use Rattle.reg_maps.specs.Maps.{same_text, only_if, text_cmp}
-use Rattle.reg_maps.proofs.MapLaws.{text_keys, get-select, All-entries, ascending-keys, Contains-map, Contains-entries}
+use Rattle.reg_maps.proofs.MapLaws.{get-chosen, text_keys, get-select, All-entries, ascending-keys, Contains-map, Contains-entries}
 use Rattle.reg_ranges.proofs.LeastGap.{has_cases}
 use Rattle.reg_core.specs.Entry.{entry_row, page_entry}
 use Rattle.reg_core.specs.LeastFree.{values_in}
@@ -26,34 +26,18 @@ use Rattle.reg_core.proofs.KeyOrders.{place_keys}
 
 module _ (registry : List ℕ) (m : FinMap place_cmp Registration) where
   -- an entry of the registry has a place of its own
-  is_own : (place : Place) (a : Registration) (at : Option Registration)
-      → option_and_then (λ a. only_if (same_text place.0 registry) a) at ≡ Some a
+  is_own : (place : Place) (a : Registration) → get (entries_of registry m) place ≡ Some a
       → place.0 ≡ registry
-  is_own place a None e = absurd (cc)
-  is_own place a (Some old) e = chosen (same_text place.0 registry) refl e
-    where
-      chosen : (b : Bool) → same_text place.0 registry ≡ b → only_if b old ≡ Some a
-          → place.0 ≡ registry
-      chosen true t e = (bytes_eq-Decides place.0 registry).0 t
-      chosen false t e = absurd (cc)
+  is_own place a found =
+      let is = get-chosen place_keys (λ place a. same_text place.0 registry) m place a found in
+      (bytes_eq-Decides place.0 registry).0 is.1
 
   -- and stands at its value
   pub own_found : (place : Place) (a : Registration) → get (entries_of registry m) place ≡ Some a
       → get m (registry, place.1) ≡ Some a
   own_found place a found =
-      from (get m place) refl (sym (get-select place_keys _ m place) ∙ found)
-    where
-      kept : (b : Bool) (old : Registration) → only_if b old ≡ Some a → old ≡ a
-      kept true old e = cc
-      kept false old e = absurd (cc)
-
-      from : (at : Option Registration) → get m place ≡ at
-          → option_and_then (λ a. only_if (same_text place.0 registry) a) at ≡ Some a
-          → get m (registry, place.1) ≡ Some a
-      from None is e = absurd (cc)
-      from (Some old) is e =
-          ap (λ name. get m (name, place.1)) (sym (is_own place a (Some old) e))
-          ∙ is ∙ ap Some (kept (same_text place.0 registry) old e)
+      let is = get-chosen place_keys (λ place a. same_text place.0 registry) m place a found in
+      ap (λ name. get m (name, place.1)) (sym (is_own place a found)) ∙ is.0
 
   at_value : (place : Place) (a : Registration) → get (entries_of registry m) place ≡ Some a
       → contains_key m (registry, place.1) ≡ true
@@ -103,8 +87,7 @@ module _ (registry : List ℕ) (m : FinMap place_cmp Registration) where
       recursion_from_All (λ place. place.0 ≡ registry) (keys (entries_of registry m))
       (All-map (λ place. place.0 ≡ registry) (λ e. e.0) (entries (entries_of registry m))
       (All-entries place_keys.total (λ e. e.0.0 ≡ registry) (entries_of registry m)
-      (λ place a found.
-      is_own place a (get m place) (sym (get-select place_keys _ m place) ∙ found))))
+      is_own))
 
   -- of two of its places in order the values are in order
   value_below : (k l : Place) → k.0 ≡ registry → l.0 ≡ registry → place_cmp k l ≡ Less

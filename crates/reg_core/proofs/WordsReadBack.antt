@@ -6,37 +6,19 @@ use Rattle.reg_core.specs.Advice.{verdicts, verdict_word, read_verdict}
 use Rattle.reg_core.specs.AskKind.{ask_kinds, ask_kind_word, read_ask_kind}
 use Rattle.reg_core.specs.Capability.{kinds, kind_word, read_kind}
 use Rattle.reg_core.specs.Request.{states, state_word, read_state}
-use Rattle.reg_core.specs.declared.advice.Verdict.TheVariants.{For, Against}
+use Rattle.reg_core.specs.declared.advice.Verdict.TheVariants.{For}
 use Rattle.reg_core.specs.declared.ask_kind.AskKind.TheVariants as ask
-use Rattle.reg_core.specs.declared.capability.Kind.TheVariants.{Applicant, Expert, Clerk}
+use Rattle.reg_core.specs.declared.capability.Kind.TheVariants.{Applicant}
 use Rattle.reg_core.specs.declared.request.StateWord.TheVariants as state
 
 pub verdicts_read : ReadsWords verdict_word read_verdict
-verdicts_read = reads_words verdicts verdict_word (elim [
-  | For ↦ refl
-  | Against ↦ refl
-])
+verdicts_read = reads_words verdicts verdict_word (elim [ For ↦ refl | _ ↦ refl ])
 
 pub kinds_read : ReadsWords kind_word read_kind
-kinds_read = reads_words kinds kind_word (elim [
-  | Applicant ↦ refl
-  | Expert ↦ refl
-  | Clerk ↦ refl
-])
+kinds_read = reads_words kinds kind_word (elim [ Applicant ↦ refl | _ ↦ refl ])
 
 pub ask_kinds_read : ReadsWords ask_kind_word read_ask_kind
-ask_kinds_read = reads_words ask_kinds ask_kind_word (elim [
-  | ask.Code ↦ refl
-  | ask.Early ↦ refl
-  | ask.Renew ↦ refl
-  | ask.Permanent ↦ refl
-  | ask.Block ↦ refl
-])
+ask_kinds_read = reads_words ask_kinds ask_kind_word (elim [ ask.Code ↦ refl | _ ↦ refl ])
 
 pub states_read : ReadsWords state_word read_state
-states_read = reads_words states state_word (elim [
-  | state.Pending ↦ refl
-  | state.Approved ↦ refl
-  | state.Declined ↦ refl
-  | state.Withdrawn ↦ refl
-])
+states_read = reads_words states state_word (elim [ state.Pending ↦ refl | _ ↦ refl ])

@@ -28,7 +28,7 @@ use Rattle.reg_core.specs.declared.request.State.TheVariants.{Approved}
 -- ---- No address is given twice
 
 -- each block that was given lies in a prefix of the pool, and no two share an address
-pub record AreApart (w : World) : Type 0 where
+pub record StandApart (w : World) : Type 0 where
   pub in_pool : (block : SizedPrefix) → IsSome (get w.blocks block)
       → contains_key w.pool (leading_24 block) ≡ true
   pub apart : (a b : SizedPrefix) → IsSome (get w.blocks a) → IsSome (get w.blocks b)
@@ -38,7 +38,7 @@ pub record AreApart (w : World) : Type 0 where
 abbrev pub BlocksAreApart : (List ℕ → List ℕ) → Type 0
 BlocksAreApart digest_of =
     (w : World) (events : List Event) → WellKept w → have_forms events ≡ true
-    → AreApart (world_after digest_of w events)
+    → StandApart (world_after digest_of w events)
 
 -- ---- The block due
 

@@ -144,7 +144,7 @@ line_of no.Exists = 22
 line_of no.Bits = 23
 
 -- the refusal applies, and none that applies stands in an earlier line
-pub record IsFirst (rows : Ground) (account : List ℕ) (ask : Ask) (refusal : Refusal) :
+pub record IsFirstRefusal (rows : Ground) (account : List ℕ) (ask : Ask) (refusal : Refusal) :
     Type 0 where
   pub applies : Applies rows account ask refusal
   pub first : (other : Refusal) → Applies rows account ask other
@@ -153,7 +153,7 @@ pub record IsFirst (rows : Ground) (account : List ℕ) (ask : Ask) (refusal : R
 -- of the refusals that apply to an ask the first is answered, and none applies to what is allowed
 pub record FirstRefusalsAreAnswered : Type 0 where
   pub refused : (rows : Ground) (account : List ℕ) (ask : Ask) (refusal : Refusal)
-      → allowance_on rows account ask ≡ Err refusal → IsFirst rows account ask refusal
+      → allowance_on rows account ask ≡ Err refusal → IsFirstRefusal rows account ask refusal
   pub allowed : (rows : Ground) (account : List ℕ) (ask : Ask) (allowance : Allowance)
       → allowance_on rows account ask ≡ Ok allowance → (refusal : Refusal)
       → ¬ (Applies rows account ask refusal)

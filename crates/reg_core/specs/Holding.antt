@@ -43,26 +43,26 @@ has_holder_form h = is_name h.account && is_text h.organization && is_text h.add
 -- ---- What the public sees
 
 -- a holder as the public sees it
-pub record Shown : Type 0 where
+pub record ShownHolding : Type 0 where
   pub organization : Option (List ℕ)
   pub address : Option (List ℕ)
 
 -- a private holder is shown with no organization and no address, any other with both; the account
 -- is never shown
-abbrev pub masked : Holder → Shown
+abbrev pub masked : Holder → ShownHolding
 masked h = record {
   organization = only_if (not h.private) h.organization;
   address = only_if (not h.private) h.address;
 }
 
 -- all blocks that were given, as the public sees them
-abbrev pub masked_blocks : FinMap block_cmp Holder → FinMap block_cmp Shown
+abbrev pub masked_blocks : FinMap block_cmp Holder → FinMap block_cmp ShownHolding
 masked_blocks m = select (λ block h. Some (masked h)) m
 
-abbrev pub listed_row : SizedPrefix → Shown → Listed
+abbrev pub listed_row : SizedPrefix → ShownHolding → Listed
 listed_row block s =
     record { block = block; organization = s.organization; address = s.address }
 
 -- the listing of blocks, in order
-abbrev pub listed_rows : FinMap block_cmp Shown → List Listed
+abbrev pub listed_rows : FinMap block_cmp ShownHolding → List Listed
 listed_rows m = map (λ e. listed_row e.0 e.1) (entries m)

@@ -341,7 +341,7 @@ SameReview w v name =
 
 -- no registry, entry, request, prefix of the pool or block goes away, and each keeps what it is; a
 -- request that is decided keeps its experts and all advice on it; where such renewals move terms
-pub record Stays (IsRenewed : ℕ → ℕ → Type 0) (w v : World) : Type 0 where
+pub record StaysGiven (IsRenewed : ℕ → ℕ → Type 0) (w v : World) : Type 0 where
   pub registries : (name : List ℕ) (table : Table) → get w.registries name ≡ Some table
       → get v.registries name ≡ Some table
   pub entries : (place : Place) (a : Registration) → get w.entries place ≡ Some a
@@ -358,7 +358,7 @@ pub record Stays (IsRenewed : ℕ → ℕ → Type 0) (w v : World) : Type 0 whe
 abbrev pub GivenStays : (List ℕ → List ℕ) → Type 0
 GivenStays digest_of =
     (w : World) (events : List Event) → WellKept w → have_forms events ≡ true
-    → Stays (IsRenewedIn events) w (world_after digest_of w events)
+    → StaysGiven (IsRenewedIn events) w (world_after digest_of w events)
 
 -- ---- What a clerk takes away
 

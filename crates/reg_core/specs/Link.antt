@@ -14,7 +14,7 @@ link_row link = record { principal = link.0; agent = link.1 }
 abbrev pub link_rows : FinSet link_cmp → List LinkRow
 link_rows links = map (λ e. link_row e.0) (entries links)
 
--- the agents of links, and their principals, in order
+-- the accounts on each side of links, in order
 abbrev pub agent_rows : FinSet link_cmp → List (List ℕ)
 agent_rows links = map (λ link. link.1) (keys links)
 

@@ -118,8 +118,8 @@ reply_without unseen (Refused refusal) = Refused refusal
 -- ---- Striking
 
 -- none of these requests is there
-abbrev pub HasNone : (RequestName → Bool) → World → Type 0
-HasNone unseen w = (name : RequestName) → unseen name ≡ true → get w.requests name ≡ None
+abbrev pub HasNoneUnseen : (RequestName → Bool) → World → Type 0
+HasNoneUnseen unseen w = (name : RequestName) → unseen name ≡ true → get w.requests name ≡ None
 
 -- an event in two runs, the second of which is struck: before and after it both worlds show the
 -- account the same, and it is answered alike; an answer that lists requests of others may differ
@@ -134,7 +134,7 @@ pub record AreAlikeTo (account : List ℕ) (unseen : RequestName → Bool) (s t 
   pub rows : reply_without unseen s.reply ≡ reply_without unseen t.reply
   pub untouched : (name : RequestName) → unseen name ≡ true
       → get t.after.requests name ≡ get t.before.requests name
-  pub without : HasNone unseen t.before → t.reply ≡ reply_without unseen s.reply
+  pub without : HasNoneUnseen unseen t.before → t.reply ≡ reply_without unseen s.reply
 
 -- the run of the list without the events about unseen requests is alike at each event that is
 -- left, and at the end

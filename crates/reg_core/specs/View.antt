@@ -6,7 +6,7 @@ use Rattle.std.specs.Ordering.{nat_cmp}
 use Rattle.reg_maps.specs.Maps.{text_cmp, same_text, only_if, select}
 use Rattle.reg_blocks.specs.Block.{block_cmp}
 use Rattle.reg_ranges.specs.Tables.{Table}
-use Rattle.reg_core.specs.Holding.{Shown, masked_blocks}
+use Rattle.reg_core.specs.Holding.{ShownHolding, masked_blocks}
 use Rattle.reg_core.specs.Request.{word_of}
 use Rattle.reg_core.specs.World.{World, RequestName, name_cmp, place_cmp, link_cmp}
 use Rattle.reg_core.specs.declared.advice.Advice.{Advice}
@@ -23,7 +23,7 @@ pub record Published : Type 0 where
   pub registries : FinMap text_cmp Table
   pub entries : FinMap place_cmp Registration
   pub pool : FinSet nat_cmp
-  pub blocks : FinMap block_cmp Shown
+  pub blocks : FinMap block_cmp ShownHolding
 
 abbrev pub published : World → Published
 published w = record {

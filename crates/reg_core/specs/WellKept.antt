@@ -131,25 +131,25 @@ pub record WellKept (w : World) : Type 0 where
 -- not there; a request that it closes or gives something is, and a block that it marks; an entry that
 -- it marks is, with the other mark; and an agent that it adds is none yet, and one that it takes away
 -- is one
-abbrev pub IsNew : World → Change → Type 0
-IsNew w (Grant digest cap) = get w.caps digest ≡ None
-IsNew w (Revoke digest) = Unit {0}
-IsNew w (RevokeAll digests) = Unit {0}
-IsNew w (Define name table) = get w.registries name ≡ None
-IsNew w (AddPool prefix) = contains_key w.pool prefix ≡ false
-IsNew w (Submit account reference ask) = get w.requests (account, reference) ≡ None
-IsNew w (Close account reference state) = IsSome (get w.requests (account, reference))
-IsNew w (Assign account reference expert) =
+abbrev pub ChangeIsNew : World → Change → Type 0
+ChangeIsNew w (Grant digest cap) = get w.caps digest ≡ None
+ChangeIsNew w (Revoke digest) = Unit {0}
+ChangeIsNew w (RevokeAll digests) = Unit {0}
+ChangeIsNew w (Define name table) = get w.registries name ≡ None
+ChangeIsNew w (AddPool prefix) = contains_key w.pool prefix ≡ false
+ChangeIsNew w (Submit account reference ask) = get w.requests (account, reference) ≡ None
+ChangeIsNew w (Close account reference state) = IsSome (get w.requests (account, reference))
+ChangeIsNew w (Assign account reference expert) =
     contains_key w.queue ((account, reference), expert) ≡ false
-IsNew w (Advise account reference expert advice) = Unit {0}
-IsNew w (GiveValue account reference entry) = IsSome (get w.requests (account, reference))
-IsNew w (GiveBlock account reference holding) =
+ChangeIsNew w (Advise account reference expert advice) = Unit {0}
+ChangeIsNew w (GiveValue account reference entry) = IsSome (get w.requests (account, reference))
+ChangeIsNew w (GiveBlock account reference holding) =
     IsSome (get w.requests (account, reference)) × (get w.blocks holding.block ≡ None)
-IsNew w (SetPrivate block private) = IsSome (get w.blocks block)
-IsNew w (SetHold name value held) =
+ChangeIsNew w (SetPrivate block private) = IsSome (get w.blocks block)
+ChangeIsNew w (SetHold name value held) =
     (a : Registration) × (get w.entries (name, value) ≡ Some a) × (a.term.held ≡ not held)
-IsNew w (SetAgent principal agent reads) = contains_key w.agents (principal, agent) ≡ not reads
+ChangeIsNew w (SetAgent principal agent reads) = contains_key w.agents (principal, agent) ≡ not reads
 
 -- the change is new to the world, and leaves it well kept
 abbrev pub CanApply : World → Change → Type 0
-CanApply w change = IsNew w change × WellKept (applied w change)
+CanApply w change = ChangeIsNew w change × WellKept (applied w change)

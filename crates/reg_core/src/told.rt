@@ -35,7 +35,8 @@ pub enum Told {
     Holdings(Rows<Holding>),
     /// Whether an account is the caller's agent now.
     Agent(Account, bool),
-    /// The caller's agents, or its principals, in order.
+    /// The accounts on the other side of the caller's links, in order: those that it named, or those
+    /// that named it.
     Accounts(Rows<Account>),
     /// A request that is queued to the caller.
     Queued(QueueRow),

@@ -2,46 +2,26 @@
 -- for longer, or the block that is due.
 use Rattle.std.proofs.Common.{◌≡◌, ◌<◌, ℕ, Bool, true, false, List, [], refl, sym, ap, subst, ◌∙◌}
 use Rattle.std.specs.Prelude.{Some, None, Result, Ok, Err, Contains, is_some, option_and_then}
-use Rattle.std.specs.FinMap.{get}
-use Rattle.std.specs.Cmp.{second_so}
+use Rattle.reg_decisions.proofs.Common.{get, second_so, first_item, is_expert_policy, unmet, Table}
+use Rattle.reg_decisions.proofs.Common.{treatment_of, Policy, early_unmet, renewable, renewed_term}
+use Rattle.reg_decisions.proofs.Common.{settleable, settled_term, Term, values_in, IsOfAsk, is_name}
+use Rattle.reg_decisions.proofs.Common.{has_table_form, published, WellKept, World, Ask, BlockAsk}
+use Rattle.reg_decisions.proofs.Common.{SizedPrefix, CodeAsk, EarlyAsk, RenewalAsk, PermanenceAsk}
+use Rattle.reg_decisions.proofs.Common.{Registration, Want, Refusal, Given, by_test, went_on, was_some}
+use Rattle.reg_decisions.proofs.Common.{not_some, own_is, opened, value_policy, least_policy, all_met}
+use Rattle.reg_decisions.proofs.Common.{all_met_early, table_partition}
 use Rattle.reg_ranges.specs.FreeValues.{IsLeastFree, least_value}
-use Rattle.reg_ranges.specs.Requirements.{first_item, is_expert_policy, unmet}
-use Rattle.reg_ranges.specs.Tables.{Table, treatment_of}
 use Rattle.reg_ranges.proofs.LeastFree.{least_value_is_least}
-use Rattle.reg_ranges.specs.declared.policy.Policy.{Policy}
 use Rattle.reg_ranges.specs.declared.policy.Treatment.TheVariants.{Under}
-use Rattle.reg_early.specs.EarlyRequirements.{early_unmet}
-use Rattle.reg_early.specs.Terms.{renewable, renewed_term, settleable, settled_term}
-use Rattle.reg_early.specs.declared.term.Term.{Term}
 use Rattle.reg_core.specs.Allowance.{◌>>=◌, Ground, or_refusal, policy_for, is_met, is_met_early, value_for, own_entry, may_renew, may_settle, allowance_on, allowed_on, allowed, value_ground, ground_of, least_wanted, is_reviewed, policy_wanted, needs_advice, entry_asked, entry_asked_early, entry_kept, holding_asked}
 use Rattle.reg_core.specs.Award.{Allowance, AwardedEntry, renewed, settled, awarded_entry, new_holding, given_in, entry_on}
-use Rattle.reg_core.specs.LeastFree.{values_in}
-use Rattle.reg_core.specs.Laws.{IsOfAsk}
 use Rattle.reg_core.specs.MayBeGiven.{NoneIsFreeBelow, IsWanted, IsUnder, MayBeGiven, MayBeGivenEarly, MayBeRenewed, MayBeSettled, IsAskedDuly, IsDuly}
-use Rattle.reg_core.specs.Names.{is_name}
-use Rattle.reg_core.specs.Registry.{has_table_form}
-use Rattle.reg_core.specs.View.{published}
-use Rattle.reg_core.specs.WellKept.{WellKept}
-use Rattle.reg_core.specs.World.{World}
-use Rattle.reg_core.specs.declared.ask.Ask.{Ask}
 use Rattle.reg_core.specs.declared.ask.Ask.TheVariants.{Code, Early, Renew, Permanent, Block}
-use Rattle.reg_core.specs.declared.ask.BlockAsk.{BlockAsk}
-use Rattle.reg_blocks.specs.Block.{SizedPrefix}
-use Rattle.reg_core.specs.declared.ask.CodeAsk.{CodeAsk}
-use Rattle.reg_core.specs.declared.ask.EarlyAsk.{EarlyAsk}
-use Rattle.reg_core.specs.declared.ask.RenewalAsk.{RenewalAsk}
-use Rattle.reg_core.specs.declared.ask.PermanenceAsk.{PermanenceAsk}
-use Rattle.reg_core.specs.declared.entry.Registration.{Registration}
-use Rattle.reg_core.specs.declared.ask.Want.{Want}
 use Rattle.reg_core.specs.declared.ask.Want.TheVariants.{Value, Least}
-use Rattle.reg_core.specs.declared.refusal.Refusal.{Refusal}
 use Rattle.reg_core.specs.declared.refusal.Refusal.TheVariants as no
-use Rattle.reg_core.specs.declared.request.Given.{Given}
 use Rattle.reg_decisions.proofs.Blocks.{due_is_due}
-use Rattle.reg_core.proofs.Cases.{by_test}
 use Rattle.reg_core.proofs.Terms.{renews, settles}
 use Rattle.reg_core.proofs.ValuesIn.{has_entry, no_entry}
-use Rattle.reg_core.proofs.Checks.{went_on, was_some, not_some, own_is, opened, value_policy, least_policy, all_met, all_met_early, table_partition}
 
 -- ---- What is allowed
 
@@ -310,7 +290,6 @@ module _ (w : World) (kept : WellKept w) (registry : List ℕ) (table : Table)
       → Contains (values_in registry w.entries) u)
       → NoneIsFreeBelow w registry policy v
   none_below least policy v asked taken u low under =
-      let both : Some table ≡ Some under.table = sym is_there ∙ under.is_there in
       let same : table ≡ under.table = cc in
       let range : treatment_of table u ≡ Some (Under least) =
       ap (λ t. treatment_of t u) same ∙ under.range ∙ ap (λ p. Some (Under p)) (sym asked) in
@@ -398,7 +377,6 @@ pub allowed_duly : (w : World) → WellKept w → (account : List ℕ) (ask : As
     → allowance.award ≡ awarded_entry e → IsDuly w today account ask (entry_on today e)
 allowed_duly w kept account (Code ask) today allowance e h award =
     let is = code_allows (ground_of (published w) (Code ask)) account ask allowance h in
-    let both = is.awards ∙ award in
     let same : entry_asked account ask is.value ≡ e = cc in
     subst (λ x. IsDuly w today account (Code ask) (entry_on today x)) same (
       record { registry_is = refl; label_is = refl; assignee_is = refl; term_is = refl },
@@ -406,7 +384,6 @@ allowed_duly w kept account (Code ask) today allowance e h award =
     )
 allowed_duly w kept account (Early ask) today allowance e h award =
     let is = early_allows (ground_of (published w) (Early ask)) account ask allowance h in
-    let both = is.awards ∙ award in
     let same : entry_asked_early account ask is.value ≡ e = cc in
     subst (λ x. IsDuly w today account (Early ask) (entry_on today x)) same (
       record { registry_is = refl; label_is = refl; assignee_is = refl; term_is = refl },
@@ -414,7 +391,6 @@ allowed_duly w kept account (Early ask) today allowance e h award =
     )
 allowed_duly w kept account (Renew ask) today allowance e h award =
     let is = renewal_allows (ground_of (published w) (Renew ask)) account ask allowance h in
-    let both = is.awards ∙ award in
     let same : entry_kept ask.registry ask.value is.own (renewed is.own.term) ≡ e = cc in
     subst (λ x. IsDuly w today account (Renew ask) (entry_on today x)) same (
       refl,
@@ -426,7 +402,6 @@ allowed_duly w kept account (Renew ask) today allowance e h award =
     )
 allowed_duly w kept account (Permanent ask) today allowance e h award =
     let is = permanence_allows (ground_of (published w) (Permanent ask)) account ask allowance h in
-    let both = is.awards ∙ award in
     let same : entry_kept ask.registry ask.value is.own (settled is.own.term) ≡ e = cc in
     subst (λ x. IsDuly w today account (Permanent ask) (entry_on today x)) same (
       refl,

@@ -1,24 +1,18 @@
 -- The block due in a world, and the blocks that an account holds.
-use Rattle.std.proofs.Common.{◌≡◌, ℕ, Bool, true, false, List, [], ◌∷◌, map, refl, sym, ap, subst, ◌∙◌, arith}
+use Rattle.std.proofs.Common.{◌≡◌, ℕ, true, List, [], ◌∷◌, map, refl, sym, ap, subst, ◌∙◌, arith}
 use Rattle.std.specs.Prelude.{Option, Some, None, IsSome, IfSome, is_some, option_and_then, filter_map}
-use Rattle.std.specs.FinMap.{FinMap, get, keys, contains_key, entries}
+use Rattle.reg_decisions.proofs.Common.{FinMap, get, keys, contains_key, entries, bytes_eq-Decides, same_text}
+use Rattle.reg_decisions.proofs.Common.{only_if, keyed, SizedPrefix, Clash, block_cmp, leading_24, Size}
+use Rattle.reg_decisions.proofs.Common.{masked, masked_blocks, published, holdings_of, World, Holder}
+use Rattle.reg_decisions.proofs.Common.{block_keys, get-chosen}
 use Rattle.std.proofs.lemmas.List.Elements.{All-contains}
 use Rattle.std.proofs.lemmas.Map.Keys.{IsStrictlyIncreasing-from_sorted}
-use Rattle.std.proofs.lemmas.Slice.Eq.{bytes_eq-Decides}
-use Rattle.reg_maps.specs.Maps.{same_text, only_if, keyed}
 use Rattle.reg_maps.proofs.MapLaws.{get-select, entries-select, ascending-keys, Contains-keys, has_row, number_keys}
-use Rattle.reg_blocks.specs.Block.{SizedPrefix, Clash, block_cmp, leading_24}
 use Rattle.reg_blocks.specs.Due.{block_due}
-use Rattle.reg_blocks.specs.declared.size.Size.{Size}
 use Rattle.reg_blocks.proofs.EndsDecideClash.{clash_by_ends}
 use Rattle.reg_blocks.proofs.TrialFindsTheBlockDue.{block_due-IsAnswer}
 use Rattle.reg_core.specs.BlockDue.{due_in}
 use Rattle.reg_core.specs.BlocksGiven.{IsDueIn, BlocksDueAreLeast}
-use Rattle.reg_core.specs.Holding.{masked, masked_blocks}
-use Rattle.reg_core.specs.View.{published, holdings_of}
-use Rattle.reg_core.specs.World.{World}
-use Rattle.reg_core.specs.declared.holding.Holder.{Holder}
-use Rattle.reg_core.proofs.KeyOrders.{block_keys}
 
 -- ---- The block due
 
@@ -93,22 +87,6 @@ pub holding_found : (account : List ℕ) (w : World) (block : SizedPrefix) (h : 
     → get (holdings_of account w) block ≡ Some h
     → (get w.blocks block ≡ Some h) × (h.account ≡ account)
 holding_found account w block h is_there =
-    from (get w.blocks block) refl (sym (get-select block_keys
-    (λ block h. only_if (same_text h.account account) h) w.blocks block) ∙ is_there)
-  where
-    shown : (k : Holder) → get w.blocks block ≡ Some k
-        → (b : Bool) → same_text k.account account ≡ b → only_if b k ≡ Some h
-        → (get w.blocks block ≡ Some h) × (h.account ≡ account)
-    shown k is true t e =
-        let same : k ≡ h = cc in (
-          is ∙ ap Some same,
-          subst (λ (x : Holder). x.account ≡ account) same
-              ((bytes_eq-Decides k.account account).0 t),
-        )
-    shown k is false t e = absurd (cc)
-
-    from : (o : Option Holder) → get w.blocks block ≡ o
-        → option_and_then (λ (h : Holder). only_if (same_text h.account account) h) o ≡ Some h
-        → (get w.blocks block ≡ Some h) × (h.account ≡ account)
-    from None is e = absurd (cc)
-    from (Some k) is e = shown k is (same_text k.account account) refl e
+    let is = get-chosen block_keys (λ block h. same_text h.account account) w.blocks block h
+    is_there in
+    (is.0, (bytes_eq-Decides h.account account).0 is.1)

@@ -1,16 +1,9 @@
 -- Capabilities that a test chooses, and the token in use, which is not among them.
-use Rattle.std.proofs.Common.{◌≡◌, ℕ, Bool, true, false, List, [], ◌∷◌, refl, sym, ap}
-use Rattle.std.specs.Prelude.{Some, IsSome, is_some, All}
-use Rattle.std.specs.FinMap.{FinMap, get, entries}
-use Rattle.std.proofs.lemmas.Bool.{or_parts}
+use Rattle.std.proofs.Common.{◌≡◌, ℕ, Bool, false, List, [], ◌∷◌, sym, ap, Some, IsSome, is_some, All}
+use Rattle.reg_decisions.proofs.Common.{both_ways, false_from_ne_true, FinMap, get, entries, or_parts}
+use Rattle.reg_decisions.proofs.Common.{bytes_eq-Decides, text_cmp, same_text, All-entries, text_keys}
+use Rattle.reg_decisions.proofs.Common.{cap_row, cap_rows, caps_that, has_token, Cap, CapRow}
 use Rattle.std.proofs.lemmas.List.Elements.{All-nil, All-cons, All-map, All-filter}
-use Rattle.std.proofs.lemmas.Slice.Eq.{bytes_eq-Decides}
-use Rattle.reg_maps.specs.Maps.{text_cmp, same_text}
-use Rattle.reg_maps.proofs.MapLaws.{All-entries, text_keys}
-use Rattle.reg_core.specs.CapRows.{cap_row, cap_rows, caps_that}
-use Rattle.reg_core.specs.Rules.{has_token}
-use Rattle.reg_core.specs.declared.capability.Cap.{Cap}
-use Rattle.reg_core.specs.declared.capability.CapRow.{CapRow}
 
 -- the digest is not the one in use, and has a capability
 abbrev pub IsOther : FinMap text_cmp Cap → List ℕ → List ℕ → Type 0
@@ -27,12 +20,8 @@ chosen_there caps chosen =
 
 -- a text differs from another as that one differs from it
 differs : (a b : List ℕ) → same_text b a ≡ false → same_text a b ≡ false
-differs a b other = by (same_text a b) refl
-  where
-    by : (same : Bool) → same_text a b ≡ same → same_text a b ≡ false
-    by true is =
-        let t = (bytes_eq-Decides b a).1 (sym ((bytes_eq-Decides a b).0 is)) in absurd (cc)
-    by false is = is
+differs a b other = false_from_ne_true (same_text a b) (λ is.
+    both_ways (same_text b a) other ((bytes_eq-Decides b a).1 (sym ((bytes_eq-Decides a b).0 is))))
 
 -- where the token in use is not among rows that are there, each of their digests is another's
 others : (caps : FinMap text_cmp Cap) (in_use : List ℕ) (rows : List CapRow)

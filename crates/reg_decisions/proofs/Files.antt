@@ -1,24 +1,19 @@
 -- A request's experts, and the advice on it, as the world has them.
-use Rattle.std.proofs.Common.{◌≡◌, ℕ, Bool, true, false, ◌||◌, List, [], ◌∷◌, refl, sym, ap, subst, ◌∙◌}
-use Rattle.std.specs.Prelude.{Option, Some, None, option_and_then, is_some, All}
-use Rattle.std.specs.Cmp.{first_so, second_so}
-use Rattle.std.specs.Cmp.Derive.{both_true}
-use Rattle.std.specs.FinMap.{FinMap, get, entries, contains_key}
+use Rattle.std.proofs.Common.{◌≡◌, ℕ, Bool, true, List, refl, ap, subst, ◌∙◌}
+use Rattle.std.specs.Prelude.{Option, Some, None, option_and_then, is_some, All, Contains}
+use Rattle.reg_decisions.proofs.Common.{first_so, second_so, both_true, FinMap, get, entries, contains_key}
+use Rattle.reg_decisions.proofs.Common.{bytes_eq-Decides, same_text, only_if, get-select, All-entries}
+use Rattle.reg_decisions.proofs.Common.{Contains-map, Contains-entries, IsAdvised, World, RequestName, Seat}
+use Rattle.reg_decisions.proofs.Common.{seat_cmp, Advice, seat_keys, same_text-itself, get-chosen}
 use Rattle.std.specs.List.{list_any}
-use Rattle.std.proofs.lemmas.List.Elements.{All-nil, All-cons, All-head, All-tail, All-weaker, All-contains, All-map}
-use Rattle.std.proofs.lemmas.Slice.Eq.{bytes_eq-Decides}
-use Rattle.reg_maps.specs.Maps.{same_text, only_if}
-use Rattle.reg_maps.proofs.MapLaws.{get-select, All-entries, Contains-map, Contains-entries}
+use Rattle.std.proofs.lemmas.List.Elements.{All-contains, All-map}
+use Rattle.std.proofs.lemmas.List.Folds.{Any-from_list_any, list_any_at}
+use Rattle.std.proofs.lemmas.Bool.Decides.{same_from_decides}
 use Rattle.reg_core.specs.Advice.{is_among, is_favourable, same_verdict}
 use Rattle.reg_core.specs.File.{same_name, seats_of, experts_of, opinion, opinions_of, was_advised}
-use Rattle.reg_core.specs.Laws.{IsAdvised}
-use Rattle.reg_core.specs.World.{World, RequestName, Seat, seat_cmp}
-use Rattle.reg_core.specs.declared.advice.Advice.{Advice}
 use Rattle.reg_core.specs.declared.advice.Opinion.{Opinion}
 use Rattle.reg_core.specs.declared.advice.Verdict.{Verdict}
 use Rattle.reg_core.specs.declared.advice.Verdict.TheVariants.{For, Against}
-use Rattle.reg_core.proofs.SamenessIsDecided.{same_text-itself}
-use Rattle.reg_core.proofs.KeyOrders.{seat_keys}
 
 -- ---- Names
 
@@ -40,22 +35,8 @@ module _ {X : Type 0} (name : RequestName) (m : FinMap seat_cmp X) where
   pub seat_found : (seat : Seat) (x : X) → get (seats_of name m) seat ≡ Some x
       → get m (name, seat.1) ≡ Some x
   seat_found seat x h =
-      from (get m seat) refl
-      (sym (get-select seat_keys (λ seat x. only_if (same_name seat.0 name) x) m seat) ∙ h)
-    where
-      shown : (b : Bool) (y : X) → same_name seat.0 name ≡ b → get m seat ≡ Some y
-          → only_if b y ≡ Some x → get m (name, seat.1) ≡ Some x
-      shown true y t is_there h =
-          let named = same_name-is seat.0 name t in
-          let same : y ≡ x = cc in
-          subst (λ n. get m (n, seat.1) ≡ Some x) named (is_there ∙ ap Some same)
-      shown false y t is_there h = absurd (cc)
-
-      from : (o : Option X) → get m seat ≡ o
-          → option_and_then (λ x. only_if (same_name seat.0 name) x) o ≡ Some x
-          → get m (name, seat.1) ≡ Some x
-      from None is_there h = absurd (cc)
-      from (Some y) is_there h = shown (same_name seat.0 name) y refl is_there h
+      let is = get-chosen seat_keys (λ seat x. same_name seat.0 name) m seat x h in
+      subst (λ n. get m (n, seat.1) ≡ Some x) (same_name-is seat.0 name is.1) is.0
 
   -- and each row of it is among them
   pub found_seat : (expert : List ℕ) (x : X) → get m (name, expert) ≡ Some x
@@ -70,28 +51,14 @@ module _ {X : Type 0} (name : RequestName) (m : FinMap seat_cmp X) where
 -- of what holds of each, it holds of one that passes a test
 one_passes : {A : Type 0} (P : A → Type 0) (test : A → Bool) (xs : List A) → All P xs
     → list_any test xs ≡ true → (x : A) × P x × (test x ≡ true)
-one_passes {A = A} P test [] all h = absurd (cc)
-one_passes {A = A} P test (x ∷ xs) all h =
-    elim (test x) as
-    (λ b. test x ≡ b → (b || list_any test xs) ≡ true → (y : A) × P y × (test y ≡ true)) [
-      | true ↦ λ t h. (x, All-head P x xs all, t)
-      | false ↦ λ t h. one_passes P test xs (All-tail P x xs all) h
-    ] refl h
+one_passes P test xs all h =
+    let at = Any-from_list_any test xs h in
+    (at.1, All-contains P xs at.1 all (at.0, at.2, at.3), at.4)
 
--- a test that one in the list passes is passed by one of the list
-each_passes : {A : Type 0} (test : A → Bool) (xs : List A)
-    → All (λ x. test x ≡ true → list_any test xs ≡ true) xs
-each_passes {A = A} test [] = All-nil (λ x. test x ≡ true → list_any test [] ≡ true)
-each_passes {A = A} test (x ∷ xs) =
-    All-cons (λ y. test y ≡ true → list_any test (x ∷ xs) ≡ true) x xs
-    (λ t. ap (λ b. b || list_any test xs) t)
-    (All-weaker (λ y. test y ≡ true → list_any test xs ≡ true)
-    (λ y. test y ≡ true → list_any test (x ∷ xs) ≡ true)
-    (λ y passes t. later (test x) (passes t)) xs (each_passes test xs))
-  where
-    later : (b : Bool) → list_any test xs ≡ true → (b || list_any test xs) ≡ true
-    later true h = refl
-    later false h = h
+-- and a test that one of the list passes is passed by the list
+passes_one : {A : Type 0} (test : A → Bool) (xs : List A) (x : A) → Contains xs x → test x ≡ true
+    → list_any test xs ≡ true
+passes_one test xs x at t = list_any_at test xs at.0 x at.1 (ap test at.2 ∙ t)
 
 -- ---- Experts
 
@@ -126,23 +93,15 @@ module _ (w : World) (name : RequestName) where
           let expert_there =
           Contains-map (λ (e : Seat × Unit {0}). e.0.1) (entries (seats_of name w.queue))
           ((name, expert), u) row in
-          All-contains
-          (λ other. same_text other expert ≡ true → is_among expert (experts_of w name) ≡ true)
-          (experts_of w name) expert
-          (each_passes (λ other. same_text other expert) (experts_of w name)) expert_there
+          passes_one (λ other. same_text other expert) (experts_of w name) expert expert_there
           (same_text-itself expert)
 
   -- so the test of a request's experts is the test of the assignments
   pub among_experts : (expert : List ℕ)
       → is_among expert (experts_of w name) ≡ contains_key w.queue (name, expert)
   among_experts expert =
-      same_tests (is_among expert (experts_of w name)) (contains_key w.queue (name, expert))
-      (among_assigned expert) (assigned_among expert)
-    where
-      same_tests : (a b : Bool) → (a ≡ true → b ≡ true) → (b ≡ true → a ≡ true) → a ≡ b
-      same_tests true b f g = sym (f refl)
-      same_tests false true f g = g refl
-      same_tests false false f g = refl
+      same_from_decides (is_among expert (experts_of w name)) (contains_key w.queue (name, expert))
+      (among_assigned expert, assigned_among expert) (λ t. t, λ t. t)
 
   each_opinion : All (λ (o : Opinion). get w.advice (name, o.expert) ≡ Some o.advice)
       (opinions_of w name)
@@ -177,6 +136,5 @@ module _ (w : World) (name : RequestName) where
       (found_seat name w.advice so.0 so.2 so.3) in
       let among = Contains-map (λ (e : Seat × Advice). opinion e.0 e.1)
       (entries (seats_of name w.advice)) ((name, so.0), so.2) row in
-      All-contains (λ o. test o ≡ true → list_any test (opinions_of w name) ≡ true)
-      (opinions_of w name) (opinion (name, so.0) so.2) (each_passes test (opinions_of w name)) among
+      passes_one test (opinions_of w name) (opinion (name, so.0) so.2) among
       (both_true (ap (λ v. same_verdict v For) so.4) (assigned_among so.0 so.1))

@@ -1,49 +1,30 @@
 -- What each rule decides to change fits the world over whose rows it was decided, and so does what
 -- each step changes.
 use Rattle.std.proofs.Common.{◌≡◌, ℕ, Bool, true, List, map, refl, ap, subst, arith}
-use Rattle.std.proofs.lemmas.Bool.Decides.{nat_tests}
-use Rattle.std.specs.Cmp.{first_so, second_so}
-use Rattle.std.specs.Cmp.Derive.{both_true}
+use Rattle.reg_decisions.proofs.Common.{nat_tests, first_so, second_so, both_true, get, contains_key}
+use Rattle.reg_decisions.proofs.Common.{is_in_clock, utc_day, Table, is_text, has_advice_form, allowance_on}
+use Rattle.reg_decisions.proofs.Common.{ground_of, holding_asked, Award, awarded_entry, new_holding, entry_on}
+use Rattle.reg_decisions.proofs.Common.{holding_from, has_ask_form, last_until, has_cap_form, has_day_form}
+use Rattle.reg_decisions.proofs.Common.{is_name, is_digest, withdraw_rule, private_rule, agent_rule}
+use Rattle.reg_decisions.proofs.Common.{decline_rule, hold_rule, assign_rule, advise_rule, change_to_give}
+use Rattle.reg_decisions.proofs.Common.{approve_rule, define_rule, pool_rule, grant_rule, revoke_rule}
+use Rattle.reg_decisions.proofs.Common.{revoke_digits_rule, revoke_account_rule, submit_rule, Queued}
+use Rattle.reg_decisions.proofs.Common.{published, cap_at, WellKept, CanApply, has_grant_form}
+use Rattle.reg_decisions.proofs.Common.{has_registry_form, has_request_form, World, Link, Place, RequestName}
+use Rattle.reg_decisions.proofs.Common.{pending, Advice, Ask, SizedPrefix, Cap, CapRow, Holder, Change}
+use Rattle.reg_decisions.proofs.Common.{Registration, Refusal, Case, Given, Pending, Approved, Declined}
+use Rattle.reg_decisions.proofs.Common.{Withdrawn, Make, IsQueued}
 use Rattle.std.specs.Prelude.{Option, Some, None, Result, Ok, nat_le, not}
-use Rattle.std.specs.FinMap.{get, contains_key}
-use Rattle.reg_early.specs.Moment.{is_in_clock, utc_day}
 use Rattle.reg_early.proofs.MomentsHaveDays.{IsDay-utc_day}
-use Rattle.reg_ranges.specs.Tables.{Table}
-use Rattle.reg_ranges.specs.Texts.{is_text}
-use Rattle.reg_core.specs.Advice.{has_advice_form}
-use Rattle.reg_core.specs.Allowance.{allowance_on, ground_of, holding_asked}
-use Rattle.reg_core.specs.Award.{Award, awarded_entry, new_holding, entry_on, holding_from}
-use Rattle.reg_core.specs.Ask.{has_ask_form}
-use Rattle.reg_core.specs.Capability.{last_until, has_cap_form}
-use Rattle.reg_core.specs.Entry.{has_day_form}
 use Rattle.reg_core.specs.Laws.{GivesDigests, ChangesFit, IsOfAsk}
-use Rattle.reg_core.specs.Names.{is_name, is_digest}
-use Rattle.reg_core.specs.Rules.{withdraw_rule, private_rule, agent_rule, decline_rule, hold_rule, assign_rule, advise_rule, change_to_give, approve_rule, define_rule, pool_rule, grant_rule, revoke_rule, revoke_digits_rule, revoke_account_rule, submit_rule}
-use Rattle.reg_core.specs.View.{Queued, published, cap_at}
-use Rattle.reg_core.specs.WellKept.{WellKept, CanApply, has_grant_form, has_registry_form, has_request_form}
-use Rattle.reg_core.specs.World.{World, Link, Place, RequestName, pending}
-use Rattle.reg_core.specs.declared.advice.Advice.{Advice}
-use Rattle.reg_core.specs.declared.ask.Ask.{Ask}
 use Rattle.reg_core.specs.declared.ask.Ask.TheVariants.{Block}
-use Rattle.reg_blocks.specs.Block.{SizedPrefix}
-use Rattle.reg_core.specs.declared.capability.Cap.{Cap}
-use Rattle.reg_core.specs.declared.capability.CapRow.{CapRow}
-use Rattle.reg_core.specs.declared.holding.Holder.{Holder}
-use Rattle.reg_core.specs.declared.change.Change.{Change}
 use Rattle.reg_core.specs.declared.change.Change.TheVariants.{Grant, Revoke, RevokeAll, Define, AddPool, Submit, Close, Assign, Advise, GiveValue, GiveBlock, SetPrivate, SetHold, SetAgent}
-use Rattle.reg_core.specs.declared.decide.Decision.TheVariants.{Make}
-use Rattle.reg_core.specs.declared.entry.Registration.{Registration}
-use Rattle.reg_core.specs.declared.refusal.Refusal.{Refusal}
-use Rattle.reg_core.specs.declared.request.Case.{Case}
-use Rattle.reg_core.specs.declared.request.Given.{Given}
-use Rattle.reg_core.specs.declared.request.State.TheVariants.{Pending, Approved, Declined, Withdrawn}
 use Rattle.reg_decisions.proofs.Allowances.{allowed_duly, allowed_of_ask, allows_block}
 use Rattle.reg_decisions.proofs.Blocks.{due_is_due}
 use Rattle.reg_core.proofs.Keeping.Changes.{can_grant, can_revoke, can_revoke_all, can_define, can_add_pool, can_submit, can_close, can_assign, can_advise, can_give, can_hold, can_link}
 use Rattle.reg_decisions.proofs.Keeping.Blocks.{can_give_block, can_mark}
 use Rattle.reg_decisions.proofs.Outcomes.Deciding.{where_made, Defines, Pools, Grants, Revokes, RevokesOne, RevokesAll, Submits, Withdraws, Lists, Links, Declines, HoldsEntry, Assigns, Advises, Approves, define_decides, pool_decides, grant_decides, revoke_decides, revoke_digits_decides, revoke_account_decides, submit_decides, withdraw_decides, listing_decides, agent_decides, decline_decides, hold_decides, assign_decides, advise_decides, approve_decides}
 use Rattle.reg_decisions.proofs.Outcomes.Dues.{Due, has_change_form, changes_due}
-use Rattle.reg_core.proofs.Queues.{IsQueued}
 
 -- a definition that is to be made fits the world that has this registry, or none, under the name
 pub define_fits : (w : World) (name : List ℕ) (table : Table) (change : Change) → WellKept w
@@ -192,7 +173,6 @@ given_fits w name case today (new_holding h) needs kept is_there day allows =
         → CanApply w (GiveBlock name.0 name.1 (holding_from h))
     at (Block ask) asks allows of =
         let is = allows_block (ground_of (published w) (Block ask)) name.0 ask _ allows in
-        let awards = is.awards in
         let same : holding_asked name.0 ask is.block ≡ h = cc in
         subst (λ x. CanApply w (GiveBlock name.0 name.1 (holding_from x))) same
         (can_give_block w name case ask is.block kept is_there asks

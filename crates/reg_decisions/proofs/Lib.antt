@@ -1,3 +1,4 @@
+pub mod Common
 pub mod Stepping
 pub mod Blocks
 pub mod Files

@@ -1,20 +1,10 @@
 -- What a step looks up: the caller's capability, and its own requests.
-use Rattle.std.proofs.Common.{◌≡◌, ℕ, Bool, true, false, List, refl, sym, ap, ◌∙◌}
-use Rattle.std.proofs.lemmas.Slice.Eq.{bytes_eq-Decides}
+use Rattle.std.proofs.Common.{◌≡◌, ℕ, Bool, true, false, List, refl, ap, ◌∙◌}
+use Rattle.reg_decisions.proofs.Common.{get-chosen, bytes_eq-Decides, get, same_text, only_if, get-select}
+use Rattle.reg_decisions.proofs.Common.{admitted, same_kind, requests_of, World, RequestName, Cap, Kind, Case}
+use Rattle.reg_decisions.proofs.Common.{name_keys, same_text-itself}
 use Rattle.std.specs.Prelude.{Option, Some, None, Ok, Err, option_and_then, nat_le, if◌then◌else◌}
-use Rattle.std.specs.FinMap.{get}
-use Rattle.reg_maps.specs.Maps.{same_text, only_if}
-use Rattle.reg_maps.proofs.MapLaws.{get-select}
-use Rattle.reg_core.specs.Answer.{admitted}
-use Rattle.reg_core.specs.Capability.{same_kind}
-use Rattle.reg_core.specs.View.{requests_of}
-use Rattle.reg_core.specs.World.{World, RequestName}
-use Rattle.reg_core.specs.declared.capability.Cap.{Cap}
-use Rattle.reg_core.specs.declared.capability.Kind.{Kind}
-use Rattle.reg_core.specs.declared.request.Case.{Case}
 use Rattle.reg_core.specs.declared.refusal.Refusal.TheVariants as no
-use Rattle.reg_core.proofs.SamenessIsDecided.{same_text-itself}
-use Rattle.reg_core.proofs.KeyOrders.{name_keys}
 
 -- among an account's own requests each of the account's is found under its name
 pub own_request : (account : List ℕ) (reference : List ℕ) (w : World)
@@ -27,41 +17,14 @@ own_request account reference w =
       | Some case ↦ ap (λ b. only_if b case) (same_text-itself account)
     ]
 
--- an account's own row is a row of the world
+-- an account's own row is a row of the world, and the account's
 pub own_row_found : (account : List ℕ) (w : World) (name : RequestName) (case : Case)
-    → get (requests_of account w) name ≡ Some case → get w.requests name ≡ Some case
+    → get (requests_of account w) name ≡ Some case
+    → (get w.requests name ≡ Some case) × (name.0 ≡ account)
 own_row_found account w name case is_there =
-    from (get w.requests name)
-    (sym (get-select name_keys
-    (λ name case. only_if (same_text name.0 account) case) w.requests name) ∙ is_there)
-  where
-    shown : (b : Bool) (row : Case) → only_if b row ≡ Some case → Some row ≡ Some case
-    shown true row h = h
-    shown false row h = absurd (cc)
-
-    from : (o : Option Case)
-        → option_and_then (λ case. only_if (same_text name.0 account) case) o ≡ Some case
-        → o ≡ Some case
-    from None h = absurd (cc)
-    from (Some row) h = shown (same_text name.0 account) row h
-
--- and it is the account's
-pub own_row_is_own : (account : List ℕ) (w : World) (name : RequestName) (case : Case)
-    → get (requests_of account w) name ≡ Some case → name.0 ≡ account
-own_row_is_own account w name case is_there =
-    (bytes_eq-Decides name.0 account).0 (from (get w.requests name)
-    (sym (get-select name_keys
-    (λ name case. only_if (same_text name.0 account) case) w.requests name) ∙ is_there))
-  where
-    shown : (b : Bool) (row : Case) → only_if b row ≡ Some case → b ≡ true
-    shown true row h = refl
-    shown false row h = absurd (cc)
-
-    from : (o : Option Case)
-        → option_and_then (λ case. only_if (same_text name.0 account) case) o ≡ Some case
-        → same_text name.0 account ≡ true
-    from None h = absurd (cc)
-    from (Some row) h = shown (same_text name.0 account) row h
+    let is = get-chosen name_keys (λ name case. same_text name.0 account) w.requests name case
+    is_there in
+    (is.0, (bytes_eq-Decides name.0 account).0 is.1)
 
 -- the capability by which a command is admitted is the one that was found, still valid and of the
 -- kind

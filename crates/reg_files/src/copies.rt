@@ -4,11 +4,8 @@ ghost use Rattle.sqlite.specs.Files.{file_state};
 ghost use Rattle.sqlite.specs.Held.{state};
 ghost use Rattle.reg_publish.specs.Disk.{replaces};
 ghost use Rattle.reg_publish.specs.Names.{names_by};
-ghost use Rattle.reg_program.specs.Copying.{IsUncopied, PrintsCopied, requests_in};
-ghost use Rattle.reg_statements.specs.Content.{world_in};
-ghost use Rattle.reg_tables.specs.Connection.{Holds};
-ghost use Rattle.reg_tables.specs.Version.{number_of};
-ghost use Rattle.reg_files.specs.Copies.{IsCopied, IsNotCopied, IsPut, IsSeenAlone, IsToldOfSome, IsUnput};
+ghost use Rattle.reg_program.specs.Copying.{IsUncopied, PrintsCopied};
+ghost use Rattle.reg_files.specs.Copies.{CopyIsTold, IsNotCopied, CopyIsPut, IsSeenAlone, IsToldOfSome, IsUnput, TellsCount};
 
 use crate::originals::{Originals, SystemOriginals};
 use crate::targets::{Places, SystemPlaces};
@@ -57,7 +54,7 @@ pub struct CopiesIn<O, P> {
 
 impl<O: Originals, P: Places> Copies for CopiesIn<O, P> {
     ghost Copied = { λ copies path folder version requests.
-        IsCopied (P.Opened copies.places path folder) P.Given.Tells P.Given.done
+        CopyIsTold (P.Opened copies.places path folder) P.Given.Tells P.Given.done
         (O.Taken copies.originals path) version requests };
 
     fn copy<W: Write>(
@@ -90,7 +87,7 @@ pub fn copy_by<O: Originals, P: Places, W: Write>(
     output: &mut W,
 ) -> Result<(), Undone>
     ensures copied { OnOk result (PrintsCopied
-        (IsCopied (P.Opened places.now path.now folder.now) P.Given.Tells P.Given.done
+        (CopyIsTold (P.Opened places.now path.now folder.now) P.Given.Tells P.Given.done
         (O.Taken originals.now path.now)) (W.contents output.old) (W.contents output.new)) }
     ensures failed { IfErr result
         (IsNotCopied (P.Opened places.now path.now folder.now) P.Given.Tells P.Given.done
@@ -112,7 +109,7 @@ fn put<P: Places, W: Write>(
 ) -> Result<(), Undone>
     requires { IsSeenAlone snapshot }
     ensures copied { OnOk result (PrintsCopied
-        (IsPut (P.Opened places.now path.now folder.now) P.Given.Tells P.Given.done snapshot)
+        (CopyIsPut (P.Opened places.now path.now folder.now) P.Given.Tells P.Given.done snapshot)
         (W.contents output.old) (W.contents output.new)) }
     ensures failed { IfErr result
         (IsUnput (P.Opened places.now path.now folder.now) P.Given.Tells P.Given.done
@@ -134,7 +131,7 @@ fn put_into<P: Places, W: Write>(
 ) -> Result<(), Undone>
     requires { IsSeenAlone snapshot.old }
     ensures copied { OnOk result (PrintsCopied
-        (IsPut (P.Opened places.now path.now folder.now) P.Given.Tells P.Given.done snapshot.old)
+        (CopyIsPut (P.Opened places.now path.now folder.now) P.Given.Tells P.Given.done snapshot.old)
         (W.contents output.old) (W.contents output.new)) }
     ensures failed { IfErr result
         (IsUnput (P.Opened places.now path.now folder.now) P.Given.Tells P.Given.done
@@ -154,10 +151,8 @@ pub fn put_snapshot<D: Disk, W: Write>(
     output: &mut W,
 ) -> Result<(), Undone>
     requires { IsSeenAlone snapshot.old }
-    ensures printed { OnOk result (PrintsCopied (λ version requests.
-        (version ≡ number_of snapshot.old.look.version)
-        × (Holds (file_state snapshot.new.look.keeper.tables)
-        → requests ≡ requests_in (world_in (file_state snapshot.old.look.keeper.tables))))
+    ensures printed { OnOk result (PrintsCopied (TellsCount snapshot.old.look.version
+        (file_state snapshot.old.look.keeper.tables) (file_state snapshot.new.look.keeper.tables))
         (W.contents output.old) (W.contents output.new)) }
     ensures put { D.Tells → OnOk result (D.done disk.new
         ≡ D.done disk.old ++ replaces (names_by names.now) snapshot.old.bytes.items) }
@@ -183,10 +178,8 @@ fn put_look<S: Alter, D: Disk, W: Write>(
     names: &Names,
     output: &mut W,
 ) -> Result<(), Undone>
-    ensures printed { OnOk result (PrintsCopied (λ version requests.
-        (version ≡ number_of look.old.version)
-        × (Holds (state S.Store look.new.keeper.tables)
-        → requests ≡ requests_in (world_in (state S.Store look.old.keeper.tables))))
+    ensures printed { OnOk result (PrintsCopied (TellsCount look.old.version
+        (state S.Store look.old.keeper.tables) (state S.Store look.new.keeper.tables))
         (W.contents output.old) (W.contents output.new)) }
     ensures put { D.Tells → OnOk result (D.done disk.new
         ≡ D.done disk.old ++ replaces (names_by names.now) bytes.now) }

@@ -14,9 +14,9 @@ use Rattle.reg_head.specs.Fields.{announced, token_of, bearer}
 use Rattle.reg_head.specs.Found.{IsWithinIf, token_at}
 use Rattle.reg_head.specs.Head.{HasHead, fields_of}
 use Rattle.reg_head.specs.Looks.{IsHeadAt, IsHeadless}
-use Rattle.reg_head.specs.Pieces.{Lacks}
+use Rattle.reg_head.specs.Pieces.{LacksBytes}
 use Rattle.reg_head.specs.Reading.{IsAsked, IsMessage, IsNoFurther, IsUnread}
-use Rattle.reg_head.specs.Request.{Asks, request_with, request_by, request_of}
+use Rattle.reg_head.specs.Request.{BytesAsk, request_with, request_by, request_of}
 use Rattle.reg_head.specs.declared.malformed.Malformed.{Malformed}
 use Rattle.reg_head.specs.declared.malformed.Malformed.TheVariants as malformed
 use Rattle.reg_head.specs.declared.message.Message.{Message}
@@ -142,7 +142,7 @@ module _ (before left : Option (List ℕ)) (buf : List ℕ) (headers : List Head
 
     -- the bytes end before the body does
     short : (more : List ℕ) → length (buf ++ more) < spans.len + n
-        → Asks (buf ++ more) (Err malformed.Short)
+        → BytesAsk (buf ++ more) (Err malformed.Short)
     short more lacks =
         let fewer : nat_le n (length (rest ++ more)) ≡ false =
         grind (
@@ -162,7 +162,7 @@ module _ (before left : Option (List ℕ)) (buf : List ℕ) (headers : List Head
         )
 
     pub lacks_body : (after : Option (List ℕ)) (why : Unread) → Consumes before left buf
-        → Lacks left after buf (spans.len + n) why → IsUnread before after why
+        → LacksBytes left after buf (spans.len + n) why → IsUnread before after why
     lacks_body after (unread.Refused malformed.Short) is_read ((more, read_more, fewer), end) =
         record {
           bytes = buf ++ more;
@@ -195,7 +195,7 @@ module _ (before left : Option (List ℕ)) (buf : List ℕ) (headers : List Head
       )
 
       whole : (others : List ℕ)
-          → Asks ((buf ++ more) ++ others) (Ok (request_with head (rest ++ more) n))
+          → BytesAsk ((buf ++ more) ++ others) (Ok (request_with head (rest ++ more) n))
       whole others =
           let all = (rest ++ more) ++ others in
           let fit : nat_le n (length all) ≡ true =

@@ -7,11 +7,11 @@ use Rattle.reg_head.specs.declared.fields.Found.{Found}
 use Rattle.reg_head.specs.declared.fields.Found.TheVariants as found
 
 -- how many values there are: none, this one, or more
-abbrev pub IsFound : List ℕ → List (List ℕ) → Found → Type 0
-IsFound buf values found.None = values ≡ []
-IsFound buf values (found.One span) =
+abbrev pub IsFieldFound : List ℕ → List (List ℕ) → Found → Type 0
+IsFieldFound buf values found.None = values ≡ []
+IsFieldFound buf values (found.One span) =
     IsWithin (length buf) span × (values ≡ span_bytes buf span ∷ [])
-IsFound buf values found.Many = 2 ≤ length values
+IsFieldFound buf values found.Many = 2 ≤ length values
 
 -- the span lies among the bytes, if there is one
 abbrev pub IsWithinIf : ℕ → Option Span → Type 0

@@ -19,8 +19,8 @@ pub record HasHead (bytes : List ℕ) (head : RequestHead) (rest : List ℕ) : T
   pub few : length head.fields ≤ most_fields
 
 -- the bytes do not begin with a head within the limits
-abbrev pub HasNone : List ℕ → Type 0
-HasNone bytes = (head : RequestHead) (rest : List ℕ) → ¬ (HasHead bytes head rest)
+abbrev pub HasNoHead : List ℕ → Type 0
+HasNoHead bytes = (head : RequestHead) (rest : List ℕ) → ¬ (HasHead bytes head rest)
 
 -- a head may still come: more bytes make these one, or they end in its target; and they are fewer
 -- than the most of a head

@@ -5,7 +5,7 @@ use Rattle.httparse.specs.Grammar.{RequestHead, HasNoRequest}
 use Rattle.httparse.specs.Spans.{IsRequestAt, IsRequestWithin}
 use Rattle.httparse.specs.declared.spans.HeaderSpan.{HeaderSpan}
 use Rattle.httparse.specs.declared.spans.RequestSpans.{RequestSpans}
-use Rattle.reg_head.specs.Head.{HasHead, HasNone, MayBecomeHead, most_bytes}
+use Rattle.reg_head.specs.Head.{HasHead, HasNoHead, MayBecomeHead, most_bytes}
 use Rattle.reg_head.specs.declared.malformed.Malformed.TheVariants as malformed
 use Rattle.reg_head.specs.declared.unread.Unread.{Unread}
 use Rattle.reg_head.specs.declared.unread.Unread.TheVariants as unread
@@ -25,10 +25,10 @@ IsWhole buf headers (look.Whole spans) = (head : RequestHead) × IsHeadAt buf he
 IsWhole buf headers look.Refused = Unit {0}
 IsWhole buf headers look.Partial = Unit {0}
 
-abbrev pub IsRefused : List ℕ → Look → Type 0
-IsRefused buf (look.Whole spans) = Unit {0}
-IsRefused buf look.Refused = (more : List ℕ) → HasNone (buf ++ more)
-IsRefused buf look.Partial = Unit {0}
+abbrev pub LookIsRefused : List ℕ → Look → Type 0
+LookIsRefused buf (look.Whole spans) = Unit {0}
+LookIsRefused buf look.Refused = (more : List ℕ) → HasNoHead (buf ++ more)
+LookIsRefused buf look.Partial = Unit {0}
 
 abbrev pub IsPartial : List ℕ → Look → Type 0
 IsPartial buf (look.Whole spans) = Unit {0}
@@ -40,11 +40,11 @@ IsPartial buf look.Partial = HasNoRequest buf × MayBecomeHead buf
 abbrev pub IsHeadless : Option (List ℕ) → Option (List ℕ) → Unread → Type 0
 IsHeadless before left (unread.Refused malformed.Head) =
     (bytes : List ℕ) × Consumes before left bytes × (length bytes ≤ most_bytes)
-    × (((more : List ℕ) → HasNone (bytes ++ more)) ⊎ (IsAtEnd left × HasNone bytes))
+    × (((more : List ℕ) → HasNoHead (bytes ++ more)) ⊎ (IsAtEnd left × HasNoHead bytes))
 IsHeadless before left (unread.Refused malformed.Encoding) = ⊥
 IsHeadless before left (unread.Refused malformed.Length) = ⊥
 IsHeadless before left (unread.Refused malformed.Large) = ⊥
 IsHeadless before left (unread.Refused malformed.Short) = ⊥
 IsHeadless before left unread.Read =
-    (bytes : List ℕ) × Consumes before left bytes × HasNone bytes × MayBecomeHead bytes
+    (bytes : List ℕ) × Consumes before left bytes × HasNoHead bytes × MayBecomeHead bytes
 IsHeadless before left unread.Memory = Unit {0}

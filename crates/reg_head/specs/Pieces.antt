@@ -18,12 +18,12 @@ GrowsShort before left had end =
     (more : List ℕ) × Consumes before left more × (length (had ++ more) < end)
 
 -- why there are fewer than `end` bytes: no more came, or a read failed
-abbrev pub Lacks : Option (List ℕ) → Option (List ℕ) → List ℕ → ℕ → Unread → Type 0
-Lacks before left had end (unread.Refused malformed.Short) =
+abbrev pub LacksBytes : Option (List ℕ) → Option (List ℕ) → List ℕ → ℕ → Unread → Type 0
+LacksBytes before left had end (unread.Refused malformed.Short) =
     GrowsShort before left had end × IsAtEnd left
-Lacks before left had end (unread.Refused malformed.Head) = ⊥
-Lacks before left had end (unread.Refused malformed.Encoding) = ⊥
-Lacks before left had end (unread.Refused malformed.Length) = ⊥
-Lacks before left had end (unread.Refused malformed.Large) = ⊥
-Lacks before left had end unread.Read = GrowsShort before left had end
-Lacks before left had end unread.Memory = Unit {0}
+LacksBytes before left had end (unread.Refused malformed.Head) = ⊥
+LacksBytes before left had end (unread.Refused malformed.Encoding) = ⊥
+LacksBytes before left had end (unread.Refused malformed.Length) = ⊥
+LacksBytes before left had end (unread.Refused malformed.Large) = ⊥
+LacksBytes before left had end unread.Read = GrowsShort before left had end
+LacksBytes before left had end unread.Memory = Unit {0}

@@ -8,7 +8,7 @@ use Rattle.httparse.specs.Grammar.{RequestHead}
 use Rattle.reg_head.specs.Fields.{announced}
 use Rattle.reg_head.specs.Found.{IsWithinIf, token_at}
 use Rattle.reg_head.specs.Head.{HasHead, MayBecomeHead, fields_of, most_bytes}
-use Rattle.reg_head.specs.Request.{Request, Asks, IsSettled}
+use Rattle.reg_head.specs.Request.{Request, BytesAsk, IsSettled}
 use Rattle.reg_head.specs.declared.malformed.Malformed.{Malformed}
 use Rattle.reg_head.specs.declared.malformed.Malformed.TheVariants as malformed
 use Rattle.reg_head.specs.declared.message.Message.{Message}
@@ -19,7 +19,7 @@ use Rattle.reg_head.specs.declared.unread.Unread.TheVariants as unread
 -- ---- A message
 
 -- the parts of a message lie among its bytes
-pub record IsPlaced (m : Message) : Type 0 where
+pub record LiesInBytes (m : Message) : Type 0 where
   pub method : IsWithin (length m.bytes.items) m.method
   pub path : IsWithin (length m.bytes.items) m.path
   pub authorization : IsWithinIf (length m.bytes.items) m.authorization
@@ -27,7 +27,7 @@ pub record IsPlaced (m : Message) : Type 0 where
 
 -- the message has the parts of a request, each at its place
 pub record IsMessage (m : Message) (request : Request) : Type 0 where
-  pub placed : IsPlaced m
+  pub placed : LiesInBytes m
   pub method : span_bytes m.bytes.items m.method ≡ request.method
   pub path : span_bytes m.bytes.items m.path ≡ request.path
   pub token : token_at m.bytes.items m.authorization ≡ request.token
@@ -58,7 +58,7 @@ pub record IsAsked (unread left : Option (List ℕ)) (asked : Result Request Mal
     pub bytes : List ℕ
     pub is_read : Consumes unread left bytes
     pub no_further : IsNoFurther bytes
-    pub asks : IsSettled bytes asked ⊎ (IsAtEnd left × Asks bytes asked)
+    pub asks : IsSettled bytes asked ⊎ (IsAtEnd left × BytesAsk bytes asked)
 
 -- What was read so far is not yet a whole request, and may still become one: if no more came, the
 -- head, which may still come, or the body would be what is wrong.
@@ -66,8 +66,8 @@ pub record IsUnfinished (unread left : Option (List ℕ)) : Type 0 where
   pub bytes : List ℕ
   pub is_read : Consumes unread left bytes
   pub no_further : IsNoFurther bytes
-  pub lacks : (Asks bytes (Err malformed.Head) × MayBecomeHead bytes)
-      ⊎ Asks bytes (Err malformed.Short)
+  pub lacks : (BytesAsk bytes (Err malformed.Head) × MayBecomeHead bytes)
+      ⊎ BytesAsk bytes (Err malformed.Short)
 
 -- why there is no message
 abbrev pub IsUnread : Option (List ℕ) → Option (List ℕ) → Unread → Type 0
@@ -79,4 +79,4 @@ IsUnread before left unread.Memory = Unit {0}
 abbrev pub AskByAllTheirBytes : Type 0
 AskByAllTheirBytes =
     (all : List ℕ) (left : Option (List ℕ)) (asked : Result Request Malformed)
-    → IsAsked (Some all) left asked → Asks all asked
+    → IsAsked (Some all) left asked → BytesAsk all asked

@@ -2,7 +2,7 @@
 use Rattle.std.specs.Prelude.{◌≡◌, ◌⊎◌, List, ◌++◌, ℕ, length, take, nat_le, Result, Ok, Err, Option, if◌then◌else◌}
 use Rattle.httparse.specs.Grammar.{RequestHead}
 use Rattle.reg_head.specs.Fields.{announced, token_of}
-use Rattle.reg_head.specs.Head.{HasHead, HasNone, fields_of}
+use Rattle.reg_head.specs.Head.{HasHead, HasNoHead, fields_of}
 use Rattle.reg_head.specs.declared.malformed.Malformed.{Malformed}
 use Rattle.reg_head.specs.declared.malformed.Malformed.TheVariants as malformed
 
@@ -35,18 +35,18 @@ abbrev pub request_of : RequestHead → List ℕ → Result Request Malformed
 request_of head rest = request_by head rest (announced (fields_of head))
 
 -- what the bytes ask: the request of the head that they begin with, or what is wrong first
-abbrev pub Asks : List ℕ → Result Request Malformed → Type 0
-Asks bytes asked =
+abbrev pub BytesAsk : List ℕ → Result Request Malformed → Type 0
+BytesAsk bytes asked =
     ((head : RequestHead) × (rest : List ℕ) × HasHead bytes head rest
     × (asked ≡ request_of head rest))
-    ⊎ (HasNone bytes × (asked ≡ Err malformed.Head))
+    ⊎ (HasNoHead bytes × (asked ≡ Err malformed.Head))
 
 -- bytes ask one thing
 abbrev pub AskOneThing : Type 0
 AskOneThing =
-    (bytes : List ℕ) (asked other : Result Request Malformed) → Asks bytes asked
-    → Asks bytes other → asked ≡ other
+    (bytes : List ℕ) (asked other : Result Request Malformed) → BytesAsk bytes asked
+    → BytesAsk bytes other → asked ≡ other
 
 -- the bytes ask this, whatever follows them
 abbrev pub IsSettled : List ℕ → Result Request Malformed → Type 0
-IsSettled bytes asked = (more : List ℕ) → Asks (bytes ++ more) asked
+IsSettled bytes asked = (more : List ℕ) → BytesAsk (bytes ++ more) asked

@@ -1,6 +1,6 @@
 //! Reads the body of a request.
 ghost use Rattle.std.specs.Prelude.{◌≡◌, ◌≤◌, ◌<◌, ◌++◌, List, ℕ, OnOk, IfErr, length};
-ghost use Rattle.reg_head.specs.Pieces.{Grows, Lacks};
+ghost use Rattle.reg_head.specs.Pieces.{Grows, LacksBytes};
 ghost use Rattle.reg_head.specs.Watched.{IsWatched};
 
 use crate::malformed::Malformed;
@@ -20,7 +20,7 @@ pub(crate) fn read_up_to<R: Read>(
 ) -> Result<(), Unread>
     ensures ok { OnOk result (Grows (R.remaining reader.old) (R.remaining reader.new) bytes.old.items
         end bytes.new.items × (end ≤ length bytes.new.items)) }
-    ensures err { IfErr result (λ why. Lacks (R.remaining reader.old) (R.remaining reader.new)
+    ensures err { IfErr result (λ why. LacksBytes (R.remaining reader.old) (R.remaining reader.new)
         bytes.old.items end why) }
     ensures watched { IsWatched watch.old watch.new result }
 {

@@ -6,7 +6,7 @@ ghost use Rattle.std.specs.Option.{option_copied};
 ghost use Rattle.std.specs.Str.{str_eq_ignore_ascii_case};
 ghost use Rattle.httparse.specs.Spans.{IsWithin, IsHeaderWithin, header_bytes, span_bytes};
 ghost use Rattle.reg_head.specs.Fields.{length_of as length_said, announced as announced_by, length_by, number_from, skip_spaces as without_spaces, bearer as token_in, token_of as token_given};
-ghost use Rattle.reg_head.specs.Found.{IsFound, IsWithinIf, token_at};
+ghost use Rattle.reg_head.specs.Found.{IsFieldFound, IsWithinIf, token_at};
 ghost use Rattle.reg_head.specs.Head.{named};
 
 use crate::malformed::Malformed;
@@ -115,7 +115,7 @@ fn capped(value: &[u8]) -> usize
 // The values of the fields with this name, which is compared without case.
 fn values_of(buf: &[u8], headers: &[HeaderSpan], name: &[u8]) -> Found
     requires { All (IsHeaderWithin (length buf.now)) headers.now }
-    ensures { IsFound buf.now (named name.now (map (header_bytes buf.now) headers.now)) result }
+    ensures { IsFieldFound buf.now (named name.now (map (header_bytes buf.now) headers.now)) result }
 {
     let mut found = Found::None;
     for header in headers {
@@ -127,8 +127,8 @@ fn values_of(buf: &[u8], headers: &[HeaderSpan], name: &[u8]) -> Found
 // What is found with one header more.
 fn with_header(buf: &[u8], found: Found, header: HeaderSpan, name: &[u8]) -> Found
     requires { IsHeaderWithin (length buf.now) header }
-    ensures { (values : List (List ℕ)) → IsFound buf.now values found
-        → IsFound buf.now (values ++ named name.now (header_bytes buf.now header ∷ [])) result }
+    ensures { (values : List (List ℕ)) → IsFieldFound buf.now values found
+        → IsFieldFound buf.now (values ++ named name.now (header_bytes buf.now header ∷ [])) result }
 {
     if !has_name(buf, header, name) {
         return found;

@@ -3,7 +3,7 @@ ghost use Rattle.std.specs.Prelude.{◌≡◌, ◌≤◌, IfOk, IfErr, length, v
 ghost use Rattle.httparse.specs.Grammar.{RequestHead};
 ghost use Rattle.std.specs.Io.KnownBytes.{Consumes};
 ghost use Rattle.reg_head.specs.Head.{most_bytes, most_fields};
-ghost use Rattle.reg_head.specs.Looks.{IsHeadAt, IsWhole, IsRefused, IsPartial, IsHeadless};
+ghost use Rattle.reg_head.specs.Looks.{IsHeadAt, IsWhole, LookIsRefused, IsPartial, IsHeadless};
 ghost use Rattle.reg_head.specs.Watched.{IsWatched};
 
 use crate::malformed::Malformed;
@@ -30,11 +30,12 @@ enum Look {
     Partial,
 }
 
+#[tactic(auto, using(crate::proofs::Limit::past_limit))]
 fn look_at(buf: &[u8], headers: &mut [HeaderSpan]) -> Look
     requires room { length headers.old ≡ most_fields }
     requires short { length buf.now ≤ most_bytes }
     ensures whole { IsWhole buf.now headers.new result }
-    ensures refused { IsRefused buf.now result }
+    ensures refused { LookIsRefused buf.now result }
     ensures partial { IsPartial buf.now result }
 {
     match parse_request(buf, headers) {

@@ -2,7 +2,7 @@
 ghost use Rattle.std.specs.Prelude.{◌≡◌, length};
 ghost use Rattle.std.specs.Option.{option_copied};
 ghost use Rattle.reg_head.specs.Found.{token_at, IsWithinIf};
-ghost use Rattle.reg_head.specs.Reading.{IsMessage, IsPlaced, request_view};
+ghost use Rattle.reg_head.specs.Reading.{IsMessage, LiesInBytes, request_view};
 ghost use Rattle.reg_head.specs.Request.{Request};
 
 use crate::fields::bearer;
@@ -36,7 +36,7 @@ pub struct Parts<'a> {
 impl Message {
     /// The parts of the request.
     pub fn parts(&self) -> Parts<'_>
-        requires { IsPlaced self.now }
+        requires { LiesInBytes self.now }
         ensures { (request : Request) → IsMessage self.now request → request_view result ≡ request }
     {
         let bytes = self.bytes.as_slice();

@@ -10,7 +10,7 @@ use Rattle.reg_maps.specs.Maps.{text_cmp}
 use Rattle.reg_history.specs.Chain.{Chained, at, begun, chain_from, chained, next_digest, next_line, record_of, says, with_record}
 use Rattle.reg_history.specs.declared.change.Record.{Record}
 use Rattle.reg_history.specs.History.{AddsRecord, IsHistory, IsHistoryOf, SaysJust, IsWrongAfter, TakesRecord, TellsWrong, later}
-use Rattle.reg_history.specs.Overview.{Adds}
+use Rattle.reg_history.specs.Overview.{AddsToOverview}
 use Rattle.reg_history.specs.Replay.{Said, SaysAfter, after, nothing, replay}
 use Rattle.reg_history.specs.Said.{Says, TellsLoss, said_by}
 use Rattle.reg_history.specs.declared.chain.Line.{Line}
@@ -61,7 +61,7 @@ says-more records r =
 pub history-more : (h h' : History) (records : List Record) (moment : List ℕ) (change : Change) (l : Line)
     → IsHistory h records → is_le (text_cmp h.moment moment) ≡ true
     → Says h'.said (after (said_by h.said) change)
-    → Adds h'.overview records (record_of moment change) l
+    → AddsToOverview h'.overview records (record_of moment change) l
     → h'.chain.digests.items ≡ h.chain.digests.items ++ l.digest ∷ []
     → h'.moment ≡ moment → IsHistory h' (records ++ record_of moment change ∷ [])
 history-more h h' records moment change l is ordered said adds digests now =
@@ -87,7 +87,7 @@ history-more h h' records moment change l is ordered said adds digests now =
 pub adds_record : (h h' : History) (records : List Record) (moment : List ℕ) (change : Change) (l : Line)
     → IsHistory h records → is_le (text_cmp h.moment moment) ≡ true
     → Says h'.said (after (said_by h.said) change)
-    → Adds h'.overview records (record_of moment change) l
+    → AddsToOverview h'.overview records (record_of moment change) l
     → h'.chain.digests.items ≡ h.chain.digests.items ++ l.digest ∷ []
     → h'.moment ≡ moment → AddsRecord h' records (record_of moment change) l.bytes.items
 adds_record h h' records moment change l is ordered said adds digests now =

@@ -7,7 +7,7 @@ use Rattle.std.proofs.lemmas.List.{drop-append-le, drop-drop, drop-map, length-m
 use Rattle.std.proofs.lemmas.Map.Text.{is_eq-slice_cmp}
 use Rattle.reg_maps.specs.Maps.{text_cmp}
 use Rattle.reg_history.specs.Chain.{Chained, begun, chained, digest, line, next_digest, record_of}
-use Rattle.reg_history.specs.Overview.{Adds, IsOverview, Notes, last_of, moment_by, tied}
+use Rattle.reg_history.specs.Overview.{AddsToOverview, IsOverview, Notes, last_of, moment_by, tied}
 use Rattle.reg_history.specs.Recorded.{last_changed, registry_of}
 use Rattle.reg_history.specs.declared.chain.Line.{Line}
 use Rattle.reg_history.specs.declared.change.Change.{Change}
@@ -92,7 +92,7 @@ pub overview_more : (o o' : Overview) (records : List Record) (moment : List ℕ
     → o'.first ≡ Some (unwrap_or o.first l.digest) → o'.last ≡ Some l.digest
     → (length o.recent.items ≤ 200
     → o'.recent.items ≡ last_of (o.recent.items ++ tied moment change l.digest ∷ []))
-    → Notes o.changed o'.changed moment change → Adds o' records (record_of moment change) l
+    → Notes o.changed o'.changed moment change → AddsToOverview o' records (record_of moment change) l
 overview_more o o' records moment change l number before is counts last line_is digest_is count' first'
     last' recent' noted =
     let r : Record = record_of moment change in

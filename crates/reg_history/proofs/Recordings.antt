@@ -4,8 +4,8 @@ use Rattle.std.specs.Prelude.{Option, Some, None, MatchOption, is_some, option_t
 use Rattle.reg_history.specs.Chain.{Chained, at, begun, chained, record_of, says}
 use Rattle.reg_history.specs.History.{later, news}
 use Rattle.reg_history.specs.Moment.{moment_text}
-use Rattle.reg_history.specs.Overview.{Adds, IsOverview}
-use Rattle.reg_history.specs.Recording.{Aim, Ends, IsBegun, IsRecorded, KeepsUp, Records, moment_of}
+use Rattle.reg_history.specs.Overview.{AddsToOverview, IsOverview}
+use Rattle.reg_history.specs.Recording.{Aim, Ends, IsBegunOn, IsRecorded, KeepsUp, Records, moment_of}
 use Rattle.reg_history.specs.Replay.{IsLost, Said, StandsIf, changes_to, nothing, recorded, replay, without}
 use Rattle.reg_history.specs.Said.{DoesNotStand, said_by}
 use Rattle.reg_history.specs.declared.chain.Line.{Line}
@@ -26,7 +26,7 @@ use Rattle.reg_history.proofs.Replayed.{keeps_up-kept, keeps_up-left, keeps_up-n
 -- bytes came to a history, with what is shown of it
 pub recorded_more : (w w' : Recorded) (records : List Record) (r : Record) (l : Line)
     → IsRecorded w records → w'.text.items ≡ w.text.items ++ l.bytes.items
-    → Adds w'.overview records r l → IsRecorded w' (records ++ r ∷ [])
+    → AddsToOverview w'.overview records r l → IsRecorded w' (records ++ r ∷ [])
 recorded_more w w' records r l is text adds = record {
   text =
       text ∙ ap (λ t. t ++ l.bytes.items) is.text ∙ sym (text-more records r l adds.line);
@@ -43,7 +43,7 @@ recorded_same w records is = subst (IsRecorded w) (sym (append-nil records)) is
 module _ (aim : Aim) where
   -- a history begins to go on
   pub records_begun : (h : History) (r : Recorder) (text : List ℕ) (moment : ℕ)
-      → IsBegun aim h text moment → r.said ≡ h.said → r.whole.overview ≡ h.overview
+      → IsBegunOn aim h text moment → r.said ≡ h.said → r.whole.overview ≡ h.overview
       → r.whole.text.items ≡ text → r.moment ≡ later h.moment (moment_text moment)
       → Records aim r aim.facts
   records_begun h r text moment is said overview bytes now =

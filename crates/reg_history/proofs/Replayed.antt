@@ -10,7 +10,7 @@ use Rattle.std.proofs.lemmas.Slice.Eq.{bytes_eq-Decides}
 use Rattle.reg_maps.specs.Maps.{same_text}
 use Rattle.reg_history.specs.Subjects.{same_subject, subject_cmp, is_entry, entry_at}
 use Rattle.reg_history.specs.Replay.{Said, SaysAfter, SomeFact, IsAbout, IsLost, NothingIsLost, StandsIf, after, changes_to, facts_say, nothing, recorded, replay, same_given, same_standing, stands, with_standing, with_standing_at, without}
-use Rattle.reg_history.specs.Recording.{AllStand, IsPart, KeepsUp, without_all}
+use Rattle.reg_history.specs.Recording.{AllStand, IsPartSaid, KeepsUp, without_all}
 use Rattle.reg_history.specs.Said.{DoesNotStand, TellsLoss, said_by}
 use Rattle.reg_history.specs.declared.change.Change.{Change}
 use Rattle.reg_history.specs.declared.change.Change.TheVariants.{Made, Term}
@@ -124,14 +124,14 @@ one_recorded (Some before) said fact (inr e) h s =
 
 -- ---- All facts
 
-part-without : (part said : Said) (fact : Fact) → IsPart part said
-    → IsPart (without fact.subject part) (after said (Made fact))
+part-without : (part said : Said) (fact : Fact) → IsPartSaid part said
+    → IsPartSaid (without fact.subject part) (after said (Made fact))
 part-without part said fact h s = elim (cases_Bool (same_subject fact.subject s)) [
   | inl here ↦ rw here (inl refl)
   | inr there ↦ rw there (h s)
 ]
 
-pub changes_replayed : (facts : List Fact) (said part : Said) → IsPart part said
+pub changes_replayed : (facts : List Fact) (said part : Said) → IsPartSaid part said
     → AllStand part facts → (s : Subject)
     → replay said (changes_to part facts) s ≡ facts_say said facts s
 changes_replayed [] said part h stood s = refl
@@ -236,7 +236,7 @@ pub keeps_up-next : (whole : Said) (facts : List Fact) (said said' : Said) (fact
     → KeepsUp whole facts said' rest changes'
 keeps_up-next whole facts said said' fact rest changes changes' k same stood e =
     let now : said' ≡ without fact.subject said = λ i s. same s i in
-    let part-now : IsPart (without fact.subject said) whole = λ s.
+    let part-now : IsPartSaid (without fact.subject said) whole = λ s.
     elim (cases_Bool (same_subject fact.subject s)) [
       | inl here ↦ rw here (inl refl)
       | inr there ↦ rw there (k.part s)
@@ -250,7 +250,7 @@ keeps_up-next whole facts said said' fact rest changes changes' k same stood e =
           ∙ ap (λ (f : Said). changes' ++ changes_to f rest) (sym now);
       stood = λ h. k.stood (stood, subst (λ (f : Said). AllStand f rest) now h);
       left = k.left ∙ ap (λ (f : Said). without_all f rest) (sym now);
-      part = subst (λ (f : Said). IsPart f whole) (sym now) part-now;
+      part = subst (λ (f : Said). IsPartSaid f whole) (sym now) part-now;
       later = λ s before h. k.later s before (inr h);
     }
 

@@ -1,7 +1,7 @@
 -- Facts that are taken, one after the other.
 use Rattle.std.proofs.Common.{◌≡◌, ℕ, ◌+◌, ◌<◌, ◌≤◌, List, [], ◌∷◌, ◌++◌, length, map, take, get_or, refl, sym, ap, ◌∙◌, subst, append_assoc, append-nil}
 use Rattle.std.proofs.lemmas.List.{take_all}
-use Rattle.reg_history.specs.Recording.{Aim, Lists, Took}
+use Rattle.reg_history.specs.Recording.{Aim, ListsFacts, Took}
 use Rattle.reg_history.specs.declared.change.Fact.{Fact}
 use Rattle.reg_history.proofs.Mapped.{mapped_more}
 
@@ -43,7 +43,7 @@ module _ {T : Type 0} (Awaits : Aim → T → List Fact → Type 0) where
 
 -- what a list took is behind it
 pub listed : {V : Type 0} (items : V → List Fact) (v v' : V) (facts : List Fact)
-    → Took (λ aim v rest. Lists aim (items v) rest) v v' facts → items v' ≡ items v ++ facts
+    → Took (λ aim v rest. ListsFacts aim (items v) rest) v v' facts → items v' ≡ items v ++ facts
 listed items v v' facts took =
     let aim : Aim = record { records = []; moment = 0; facts = items v ++ facts } in
     sym (append-nil (items v'))

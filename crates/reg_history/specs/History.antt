@@ -49,8 +49,8 @@ pub record Continues (records : List Record) (moment : ℕ) (facts : List Fact) 
       → says (records ++ news records moment facts) subject ≡ facts_say nothing facts subject
 
 -- the bytes begin as those of a history do, with so many records
-abbrev pub BeginsWith : ℕ → List ℕ → Type 0
-BeginsWith count text =
+abbrev pub BeginsWithRecords : ℕ → List ℕ → Type 0
+BeginsWithRecords count text =
     (records : List Record) × (rest : List ℕ) × (length records ≡ count)
     × ((chained records).text ++ rest ≡ text)
 
@@ -65,7 +65,7 @@ abbrev pub TellsWrong : List ℕ → Unreadable → Type 0
 TellsWrong text Memory = ⊤
 TellsWrong text Header = (rest : List ℕ) → text ≢ header_line ++ rest
 TellsWrong text (Wrong number) =
-    (count : ℕ) × (number ≡ count + 1) × BeginsWith count text
+    (count : ℕ) × (number ≡ count + 1) × BeginsWithRecords count text
 
 -- a record came to a history, with these bytes
 pub record AddsRecord (h : History) (records : List Record) (r : Record) (bytes : List ℕ) : Type 0

@@ -30,8 +30,8 @@ pub record Took {T : Type 0} (Awaits : Aim → T → List Fact → Type 0) (t t'
   pub goes_on : (aim : Aim) (rest : List Fact) → Awaits aim t (facts ++ rest) → Awaits aim t' rest
 
 -- a list is on its way to all facts
-abbrev pub Lists : Aim → List Fact → List Fact → Type 0
-Lists aim listed rest = listed ++ rest ≡ aim.facts
+abbrev pub ListsFacts : Aim → List Fact → List Fact → Type 0
+ListsFacts aim listed rest = listed ++ rest ≡ aim.facts
 
 -- ---- What was said
 
@@ -47,8 +47,8 @@ without_all said [] = said
 without_all said (fact ∷ facts) = without_all (without fact.subject said) facts
 
 -- a part of what is said: of each subject the same, or nothing
-abbrev pub IsPart : Said → Said → Type 0
-IsPart part said = (s : Subject) → (part s ≡ None) ⊎ (part s ≡ said s)
+abbrev pub IsPartSaid : Said → Said → Type 0
+IsPartSaid part said = (s : Subject) → (part s ≡ None) ⊎ (part s ≡ said s)
 
 -- What is so of all facts follows from what is so of those that are left: what is recorded of them,
 -- that what was said stands by them, and what of it is left.
@@ -57,7 +57,7 @@ pub record KeepsUp (whole : Said) (facts : List Fact) (said : Said) (rest : List
   pub made : changes_to whole facts ≡ changes ++ changes_to said rest
   pub stood : AllStand said rest → AllStand whole facts
   pub left : without_all whole facts ≡ without_all said rest
-  pub part : IsPart said whole
+  pub part : IsPartSaid said whole
   pub later : (s : Subject) (before : Details) → SomeFact (StandsBy false s before) rest
       → SomeFact (StandsBy false s before) facts
 
@@ -86,7 +86,7 @@ Awaits aim r rest =
     MatchOption r.lost (Records aim r rest) (λ subject. IsLost (says aim.records) aim.facts subject)
 
 -- it begins with the history of its records, whose bytes these are
-pub record IsBegun (aim : Aim) (h : History) (bytes : List ℕ) (now : ℕ) : Type 0 where
+pub record IsBegunOn (aim : Aim) (h : History) (bytes : List ℕ) (now : ℕ) : Type 0 where
   pub history : IsHistory h aim.records
   pub text : (chained aim.records).text ≡ bytes
   pub moment : now ≡ aim.moment

@@ -5,7 +5,7 @@ ghost use Rattle.reg_maps.specs.Maps.{text_cmp};
 ghost use Rattle.reg_print.specs.Comparing.{Leaves};
 ghost use Rattle.reg_history.specs.Chain.{chained, record_of, says};
 ghost use Rattle.reg_history.specs.History.{AddsRecord, IsHistory, IsHistoryOf, IsWrongAfter, SaysJust, TakesRecord, TellsWrong, later};
-ghost use Rattle.reg_history.specs.Recording.{Aim, Awaits, IsBegun};
+ghost use Rattle.reg_history.specs.Recording.{Aim, Awaits, IsBegunOn};
 ghost use Rattle.reg_history.specs.Unlike.{TellsUnlike, unlike_of};
 ghost use Rattle.reg_history.specs.declared.history.Unlike.TheVariants as unlike;
 ghost use Rattle.reg_history.specs.declared.history.Unreadable.TheVariants as un;
@@ -178,7 +178,7 @@ impl History {
     /// The history goes on at a moment, in seconds since 1970-01-01T00:00:00Z, behind these bytes, which are
     /// its own. Its records are in the recorder, their digests no more. Only want of memory is an error.
     pub fn go_on(self, alloc: Global, text: Vec<u8>, moment: u64) -> Result<Recorder, AllocError>
-        ensures { IfOk result (λ recorder. (aim : Aim) → IsBegun aim self text.items moment
+        ensures { IfOk result (λ recorder. (aim : Aim) → IsBegunOn aim self text.items moment
             → Awaits aim recorder aim.facts) }
     {
         let History {

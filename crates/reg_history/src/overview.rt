@@ -1,7 +1,7 @@
 //! What is shown of a history.
 ghost use Rattle.std.specs.Prelude.{◌≡◌, ◌≤◌, ◌+◌, ◌-◌, ◌++◌, ◌∷◌, [], List, IfOk, OnOk, drop, length, unwrap_or};
 ghost use Rattle.reg_history.specs.Chain.{record_of};
-ghost use Rattle.reg_history.specs.Overview.{Adds, IsOverview, Notes, last_of, moment_by, tied};
+ghost use Rattle.reg_history.specs.Overview.{AddsToOverview, IsOverview, Notes, last_of, moment_by, tied};
 
 use crate::chain::{DIGITS, Line};
 use crate::change::{Change, Record};
@@ -55,7 +55,7 @@ impl Overview {
         change: &Change,
     ) -> Result<Line, AllocError>
         ensures { IfOk result (λ line. (records : List Record) → IsOverview self.old records
-            → Adds self.new records (record_of moment.now change.now) line) }
+            → AddsToOverview self.new records (record_of moment.now change.now) line) }
     {
         let Some(number) = self.count.checked_add(1) else {
             return Err(AllocError);

@@ -1,7 +1,7 @@
 //! What takes facts, one after the other, and a history that goes on by them.
 ghost use Rattle.std.specs.Prelude.{◌≡◌, ◌++◌, ◌∷◌, [], List, IfOk, IfErr, OnOk, option_to_list};
 ghost use Rattle.reg_history.specs.Chain.{at, says};
-ghost use Rattle.reg_history.specs.Recording.{Aim, Awaits, IsRecorded, Ends, Lists, Took};
+ghost use Rattle.reg_history.specs.Recording.{Aim, Awaits, IsRecorded, Ends, ListsFacts, Took};
 ghost use Rattle.reg_history.specs.Said.{TellsLoss};
 ghost use Rattle.reg_history.specs.declared.said.Unrecorded.TheVariants.{Lost};
 
@@ -24,7 +24,7 @@ pub trait Takes {
 }
 
 impl Takes for Vec<Fact> {
-    ghost Awaits = { λ aim facts rest. Lists aim facts.items rest };
+    ghost Awaits = { λ aim facts rest. ListsFacts aim facts.items rest };
 
     fn take(&mut self, _alloc: Global, fact: Fact) -> Result<(), AllocError> {
         self.push(fact)?;

@@ -3,7 +3,7 @@ use Rattle.std.proofs.Common.{◌≡◌, ℕ, true, false, ◌==◌, not, List, 
 use Rattle.std.specs.List.{list_all}
 use Rattle.std.proofs.lemmas.Bool.Decides.{eqb_tells}
 use Rattle.std.proofs.lemmas.List.Folds.{list_all-append}
-use Rattle.reg_html.specs.Escape.{escaped, escaped_byte, followed, is_markup, unescaped, TextsAreInert}
+use Rattle.reg_html.specs.Escape.{escaped, escaped_byte, followed, is_markup, unescaped}
 use Rattle.reg_html.proofs.EscapedUtf8.{IsUtf8-escaped}
 
 -- a byte that stands for itself
@@ -45,7 +45,7 @@ unescaped-byte b more =
     (λ x p. simp (p.amp, p.lt, p.gt, p.quot, p.apos))
     b
 
-unescaped-escaped : (text : List ℕ) → unescaped (escaped text) ≡ Some text
+pub unescaped-escaped : (text : List ℕ) → unescaped (escaped text) ≡ Some text
 unescaped-escaped [] = refl
 unescaped-escaped (b ∷ text) =
     unescaped-byte b (escaped text) ∙ ap (followed b) (unescaped-escaped text)
@@ -57,15 +57,10 @@ no_markup-byte b =
     (λ x p. simp (p.amp, p.lt, p.gt, p.quot, p.apos))
     b
 
-no_markup-escaped : (text : List ℕ) → list_all (λ x. not (is_markup x)) (escaped text) ≡ true
+pub no_markup-escaped : (text : List ℕ) → list_all (λ x. not (is_markup x)) (escaped text) ≡ true
 no_markup-escaped [] = refl
 no_markup-escaped (b ∷ text) =
     rw (list_all-append (λ x. not (is_markup x)) (escaped_byte b) (escaped text))
     (rw (no_markup-byte b) (no_markup-escaped text))
 
-pub texts_are_inert : TextsAreInert
-texts_are_inert text = record {
-  no_markup = no_markup-escaped text;
-  reads_back = unescaped-escaped text;
-  utf8 = IsUtf8-escaped text;
-}
+pub ruleset inert = (no_markup-escaped, unescaped-escaped, IsUtf8-escaped)

@@ -1,12 +1,12 @@
 -- Each tag of markup is closed.
-use Rattle.std.proofs.Common.{◌≡◌, ℕ, true, List, [], ◌∷◌, refl, sym, ap, ◌∙◌}
+use Rattle.std.proofs.Common.{◌≡◌, ℕ, true, List, [], ◌∷◌, refl, ap, ◌∙◌}
 use Rattle.std.specs.Str.{bytes_eq}
 use Rattle.std.proofs.lemmas.Slice.Eq.{bytes_eq-Decides}
 use Rattle.reg_html.specs.Markup.{Markup, nothing, text, element, void, beside, opening_then, markup_then}
-use Rattle.reg_html.specs.Nesting.{Token, closes, tokens_then, written_then, closed_after, TagsAreClosed}
+use Rattle.reg_html.specs.Nesting.{Token, closes, tokens_then, written_then, closed_after}
 
 -- the tokens of markup are written as its bytes
-written : (m : Markup) (more : List Token) (rest : List ℕ)
+pub written : (m : Markup) (more : List Token) (rest : List ℕ)
     → written_then (tokens_then m more) rest ≡ markup_then m (written_then more rest)
 written nothing more rest = refl
 written (text t) more rest = refl
@@ -20,7 +20,7 @@ same_bytes : (s : List ℕ) → bytes_eq s s ≡ true
 same_bytes s = (bytes_eq-Decides s s).1 refl
 
 -- markup leaves the tags unclosed that were unclosed before it
-closed : (m : Markup) (unclosed : List (List ℕ)) (more : List Token)
+pub closed : (m : Markup) (unclosed : List (List ℕ)) (more : List Token)
     → closed_after unclosed (tokens_then m more) ≡ closed_after unclosed more
 closed nothing unclosed more = refl
 closed (text t) [] more = refl
@@ -34,8 +34,4 @@ closed (void tag attributes) (last ∷ unclosed) more = refl
 closed (beside a b) unclosed more =
     closed a unclosed (tokens_then b more) ∙ closed b unclosed more
 
-pub tags_are_closed : TagsAreClosed
-tags_are_closed m = record {
-  written = λ rest. sym (written m [] rest);
-  closed = closed m [] [];
-}
+pub ruleset nested = (written, closed)

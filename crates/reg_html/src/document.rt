@@ -9,6 +9,7 @@ use std::alloc::AllocError;
 
 /// Begins a page: its head, by the place of the style sheet and the title, and its heading. Only want
 /// of memory is an error.
+#[tactic(auto, using(crate::proofs::Pieces::joined))]
 pub fn push_start(out: &mut Vec<u8>, style: &str, title: &str) -> Result<(), AllocError>
     ensures { OnOk result (Appended out.old.items out.new.items (page_start style.now title.now)) }
 {

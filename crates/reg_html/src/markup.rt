@@ -23,6 +23,7 @@ pub enum Piece<'a> {
 }
 
 /// Appends pieces in turn. Only want of memory is an error.
+#[tactic(auto, using(crate::proofs::Pieces::appended_each))]
 pub fn push_all(out: &mut Vec<u8>, pieces: &[Piece<'_>]) -> Result<(), AllocError>
     ensures { OnOk result (Appended out.old.items out.new.items (pieces_then pieces.now)) }
 {
@@ -44,6 +45,7 @@ fn push_piece(out: &mut Vec<u8>, piece: Piece<'_>) -> Result<(), AllocError>
 }
 
 /// Appends markup, as it is. Only want of memory is an error.
+#[tactic(auto, using(crate::proofs::Pieces::bytes))]
 pub fn push(out: &mut Vec<u8>, markup: &str) -> Result<(), AllocError>
     ensures { OnOk result (Appended out.old.items out.new.items (λ rest. markup.now ++ rest)) }
 {
@@ -59,6 +61,7 @@ fn push_number(out: &mut Vec<u8>, n: u64) -> Result<(), AllocError>
     Ok(())
 }
 
+#[tactic(auto, using(crate::proofs::Pieces::joined))]
 fn push_link(out: &mut Vec<u8>, target: &str, title: &str) -> Result<(), AllocError>
     ensures { OnOk result
         (Shown out.old.items out.new.items (link target.now title.now)) }

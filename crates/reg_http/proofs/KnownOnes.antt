@@ -8,8 +8,8 @@ use Rattle.reg_wire.specs.Laws.{CallsRunAsTheModel}
 use Rattle.reg_wire.specs.declared.wire_fault.WireFault.{WireFault}
 use Rattle.reg_wire.specs.declared.wire_fault.WireFault.TheVariants as fault
 use Rattle.reg_head.specs.Reading.{AskByAllTheirBytes}
-use Rattle.reg_head.specs.Request.{Asks}
-use Rattle.reg_http.specs.Known.{AreAnswers, IsAnswerTo, IsWritten, KnownConnectionsAreAnswered}
+use Rattle.reg_head.specs.Request.{BytesAsk}
+use Rattle.reg_http.specs.Known.{AreKnownAnswers, IsAnswerTo, IsWrittenOver, KnownConnectionsAreAnswered}
 use Rattle.reg_http.specs.Listening.{moment_by}
 use Rattle.reg_http.specs.Meeting.{Came, Dated, Ended, InTurn, Meeting, Meets, first_of, rest_of, wholes}
 use Rattle.reg_http.specs.Response.{response_text}
@@ -40,9 +40,9 @@ module _ (by_all : AskByAllTheirBytes) {S : Type 0} (Serves : S → Call → Res
   record IsReplied (came : ℕ) (all text : List ℕ) (before now : S) (whole : ℕ) : Type 0 where
     x : Exchange
     answer : IsAnswerTo came all x
-    asks : Asks x.bytes x.asked
+    asks : BytesAsk x.bytes x.asked
     responds : Responds Serves before x.moment x.asked x.told now
-    written : (others : ℕ) → IsWritten text (response_text x.told) (whole + others) others
+    written : (others : ℕ) → IsWrittenOver text (response_text x.told) (whole + others) others
 
   -- nothing was written, and nothing has changed; or it was answered
   abbrev IsHeard : ℕ → List ℕ → List ℕ → S → S → ℕ → Type 0
@@ -57,7 +57,7 @@ module _ (by_all : AskByAllTheirBytes) {S : Type 0} (Serves : S → Call → Res
     replied : (told : Response) (bs : List ℕ) (whole : ℕ)
         → IsAnswered Serves came before now (Some all) left told → Appends (Some []) wrote bs
         → ((text : List ℕ) → text ≡ bs → (others : ℕ)
-        → IsWritten text (response_text told) (whole + others) others)
+        → IsWrittenOver text (response_text told) (whole + others) others)
         → Heard came all wrote before now whole
     replied told bs whole h appends written =
         let is = wrote_it wrote bs appends in (
@@ -109,7 +109,7 @@ module _ (by_all : AskByAllTheirBytes) {S : Type 0} (Serves : S → Call → Res
     wrote : List (Option (List ℕ))
     exchanges : List Exchange
     grown : has ≡ had ++ wrote
-    answers : AreAnswers coming readings wrote exchanges answered
+    answers : AreKnownAnswers coming readings wrote exchanges answered
     lead : Lead Serves before exchanges after
 
   module _ (came : ℕ) (all text : List ℕ) (more : List (List ℕ)) (readings : List (Option Duration))
@@ -120,7 +120,7 @@ module _ (by_all : AskByAllTheirBytes) {S : Type 0} (Serves : S → Call → Res
         → AllHeard (all ∷ more) readings had has (whole + others) before after
     heard_then (inl none) rest =
         let AnsweredBy : ℕ → Type 0 =
-        λ n. AreAnswers more (rest_of readings) rest.wrote rest.exchanges n in
+        λ n. AreKnownAnswers more (rest_of readings) rest.wrote rest.exchanges n in
         let e : others ≡ whole + others = omega (arith, none.2) in
         record {
           wrote = Some text ∷ rest.wrote;
@@ -192,7 +192,7 @@ module _ (by_all : AskByAllTheirBytes) (of_model : CallsRunAsTheModel) {S : Type
       all_heard by_all Over coming h.turns answered left readings later [] wrote first last h.each
       h.came h.dated h.ended h.in_turn in
       let AnswersIn : List (Option (List ℕ)) → Type 0 =
-      λ texts. AreAnswers coming readings texts all.exchanges answered in
+      λ texts. AreKnownAnswers coming readings texts all.exchanges answered in
       record {
         exchanges = all.exchanges;
         answers = subst AnswersIn (sym all.grown) all.answers;

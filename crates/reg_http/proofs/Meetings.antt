@@ -7,7 +7,7 @@ use Rattle.reg_wire.specs.Exchange.{Call}
 use Rattle.reg_wire.specs.declared.wire_fault.WireFault.{WireFault}
 use Rattle.reg_wire.specs.declared.wire_fault.WireFault.TheVariants as fault
 use Rattle.reg_http.specs.Listening.{ChangesByTurns, count_of, moment_by, sent_of}
-use Rattle.reg_http.specs.Meeting.{Came, Comes, Dated, Ended, Ends, Exchanges, InTurn, IsSentBy, Meeting, Meets, ServesInTurn, Takes, WhereKnown, rest_of, unread_of, wholes}
+use Rattle.reg_http.specs.Meeting.{Came, Comes, Dated, Ended, EndsOneMore, Exchanges, InTurn, IsSentBy, Meeting, Meets, ServesInTurn, TakesNext, WhereKnown, rest_of, unread_of, wholes}
 use Rattle.reg_http.specs.Responding.{IsUnanswered}
 use Rattle.reg_http.specs.Serving.{IsAnswered, FailsBy}
 use Rattle.reg_http.specs.declared.log.Sent.{Sent}
@@ -160,13 +160,13 @@ module _ {S : Type 0} (Serves : S → Call → Response → S → Type 0) (blank
   came_one t (Some xs) (Some ys) h = (h.0, h.1)
 
   dated_one : (m : Meeting) (reading : Option Duration) (old new : Option (List (Option Duration)))
-      → m.moment ≡ moment_by reading → Takes old new reading
+      → m.moment ≡ moment_by reading → TakesNext old new reading
       → WhereKnown Dated old new (Some m ∷ [])
   dated_one m reading None new is h = tt
   dated_one m reading (Some xs) None is h = absurd h
   dated_one m reading (Some xs) (Some ys) is h = (is ∙ ap moment_by h.0, h.1)
 
-  ended_one : (m : Meeting) (old new : Option (List (Option (List ℕ)))) → Ends old new m.wrote
+  ended_one : (m : Meeting) (old new : Option (List (Option (List ℕ)))) → EndsOneMore old new m.wrote
       → WhereKnown Ended old new (Some m ∷ [])
   ended_one m None new h = tt
   ended_one m (Some xs) None h = absurd h
@@ -191,7 +191,7 @@ module _ {S : Type 0} (Serves : S → Call → Response → S → Type 0) (blank
       (coming left : Option (List (Option (List ℕ))))
       (readings later : Option (List (Option Duration))) (had has : Option (List (Option (List ℕ))))
       (before after : S) (sent : Option Sent) → Comes coming left (Some unread)
-      → moment ≡ moment_by reading → Takes readings later reading
+      → moment ≡ moment_by reading → TakesNext readings later reading
       → Exchanges Serves blank moment unread had has before after sent
       → ServesInTurn Serves blank 1 (count_of sent) coming left readings later had has before after
   a_meeting moment unread reading coming left readings later had has before after sent comes is takes

@@ -7,7 +7,7 @@ use Rattle.reg_keeper.specs.declared.keeper.Fault.{Fault}
 use Rattle.reg_keeper.proofs.Premises.{goes_on_both, goes_on_there}
 use Rattle.reg_print.specs.declared.answer.Answer.{Answer}
 use Rattle.reg_print.specs.declared.answer.Answer.TheVariants as answer
-use Rattle.reg_wire.specs.Exchange.{Call, FaultOf, Gives, IsAnswered, IsNotOfStore, PremiseGoesOn}
+use Rattle.reg_wire.specs.Exchange.{Call, FaultOf, GivesAnswer, IsNotStorage, IsNotOfStore, PremiseGoesOn}
 use Rattle.reg_wire.specs.Laws.{CallsRunAsTheModel}
 use Rattle.reg_head.specs.Request.{Request}
 use Rattle.reg_head.specs.declared.malformed.Malformed.{Malformed}
@@ -17,7 +17,7 @@ use Rattle.reg_http.specs.declared.response.Response.{Response}
 use Rattle.reg_http.specs.declared.response.Response.TheVariants as response
 use Rattle.reg_http.proofs.Exchanges.{requests_of_model}
 
-answer_is_no_storage : (a : Answer) → IsAnswered a → response.Answer a ≢ storage
+answer_is_no_storage : (a : Answer) → IsNotStorage a → response.Answer a ≢ storage
 answer_is_no_storage (answer.Reply reply) h same = false≢true (ap is_storage same)
 answer_is_no_storage (answer.Wire refusal) h same = false≢true (ap is_storage same)
 answer_is_no_storage answer.Storage h same = absurd h
@@ -39,7 +39,7 @@ module _ {S : Type 0} (world : S → World) (Holds Sound : S → Type 0) (fails 
         × GoesOn Holds Sound before after (IsNotOfStore fault)
 
     given_goes_on : (call : Call) (result : Result Answer Fault) → told ≡ given_response result
-        → Gives world Holds Sound fails before call result after → GoesOnBy
+        → GivesAnswer world Holds Sound fails before call result after → GoesOnBy
     given_goes_on call (Ok a) is gives =
         (None, λ same. answer_is_no_storage a gives.is_answered (sym is ∙ same), gives.makes.premise)
     given_goes_on call (Err fault) is gives =
@@ -53,7 +53,7 @@ module _ {S : Type 0} (world : S → World) (Holds Sound : S → Type 0) (fails 
         (None, λ same. malformed_is_no_storage why (sym h.0 ∙ same), goes_on_there h.1)
 
     given_answers : (call : Call) (result : Result Answer Fault) → told ≡ given_response result
-        → Gives world Holds Sound fails before call result after → Holds after
+        → GivesAnswer world Holds Sound fails before call result after → Holds after
         → Answers (world before) call told (world after)
     given_answers call (Ok a) is gives holds =
         inl (is ∙ ap response.Answer (gives.answers holds), gives.makes.made holds)

@@ -5,7 +5,7 @@ use Rattle.std.specs.Io.KnownBytes.{IsAtEnd}
 use Rattle.reg_wire.specs.Exchange.{Call}
 use Rattle.reg_wire.specs.declared.wire_fault.WireFault.{WireFault}
 use Rattle.reg_wire.specs.declared.wire_fault.WireFault.TheVariants as fault
-use Rattle.reg_head.specs.Request.{Request, Asks, IsSettled}
+use Rattle.reg_head.specs.Request.{Request, BytesAsk, IsSettled}
 use Rattle.reg_head.specs.declared.malformed.Malformed.{Malformed}
 use Rattle.reg_http.specs.Listening.{ChangesByTurns, count_of, sent_of}
 use Rattle.reg_http.specs.Serving.{Exchange, IsAnswered, IsServed, FailsBy, Lead}
@@ -13,9 +13,9 @@ use Rattle.reg_http.specs.declared.response.Response.{Response}
 
 -- what was read asks it, also where no more came
 asks_it : (left : Option (List ℕ)) (bytes : List ℕ) (asked : Result Request Malformed)
-    → IsSettled bytes asked ⊎ (IsAtEnd left × Asks bytes asked) → Asks bytes asked
+    → IsSettled bytes asked ⊎ (IsAtEnd left × BytesAsk bytes asked) → BytesAsk bytes asked
 asks_it left bytes asked (inl settled) =
-    subst (λ (t : List ℕ). Asks t asked) (append-nil bytes) (settled [])
+    subst (λ (t : List ℕ). BytesAsk t asked) (append-nil bytes) (settled [])
 asks_it left bytes asked (inr (end, asks)) = asks
 
 module _ {S : Type 0} (Serves : S → Call → Response → S → Type 0) where

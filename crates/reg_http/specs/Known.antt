@@ -2,7 +2,7 @@
 use Rattle.std.specs.Prelude.{◌≡◌, ◌⊎◌, ◌+◌, ℕ, Bool, List, [], ◌∷◌, length, map, take, Option, Some}
 use Rattle.std.specs.declared.time.Duration.{Duration}
 use Rattle.reg_core.specs.World.{World}
-use Rattle.reg_http.specs.Laws.{AreOfModel, faultless}
+use Rattle.reg_http.specs.Laws.{ExchangesAreOfModel, faultless}
 use Rattle.reg_http.specs.Listening.{moment_by}
 use Rattle.reg_http.specs.Meeting.{ServesInTurn, first_of, rest_of}
 use Rattle.reg_http.specs.Response.{response_text}
@@ -18,23 +18,23 @@ pub record IsAnswerTo (came : ℕ) (all : List ℕ) (x : Exchange) : Type 0 wher
   pub bytes : x.bytes ≡ all
 
 -- The whole answer was written, which is counted; or only its first bytes, which is not.
-abbrev pub IsWritten : List ℕ → List ℕ → ℕ → ℕ → Type 0
-IsWritten text answer answered others =
+abbrev pub IsWrittenOver : List ℕ → List ℕ → ℕ → ℕ → Type 0
+IsWrittenOver text answer answered others =
     ((text ≡ answer) × (answered ≡ 1 + others))
     ⊎ ((n : ℕ) × (text ≡ take n answer) × (answered ≡ others))
 
 -- To each connection, in turn, there is one answer, or none, and then nothing is written over it. So
 -- many answers were written whole.
-abbrev pub AreAnswers : List (List ℕ) → List (Option Duration) → List (Option (List ℕ))
+abbrev pub AreKnownAnswers : List (List ℕ) → List (Option Duration) → List (Option (List ℕ))
     → List Exchange → ℕ → Type 0
-AreAnswers [] readings wrote xs answered = (wrote ≡ []) × (xs ≡ []) × (answered ≡ 0)
-AreAnswers (bytes ∷ more) readings wrote xs answered =
+AreKnownAnswers [] readings wrote xs answered = (wrote ≡ []) × (xs ≡ []) × (answered ≡ 0)
+AreKnownAnswers (bytes ∷ more) readings wrote xs answered =
     (text : List ℕ) × (texts : List (Option (List ℕ))) × (wrote ≡ Some text ∷ texts)
-    × (((text ≡ []) × AreAnswers more (rest_of readings) texts xs answered)
+    × (((text ≡ []) × AreKnownAnswers more (rest_of readings) texts xs answered)
     ⊎ ((x : Exchange) × (later : List Exchange) × (xs ≡ x ∷ later)
     × IsAnswerTo (moment_by (first_of readings)) bytes x × (others : ℕ)
-    × IsWritten text (response_text x.told) answered others
-    × AreAnswers more (rest_of readings) texts later others))
+    × IsWrittenOver text (response_text x.told) answered others
+    × AreKnownAnswers more (rest_of readings) texts later others))
 
 -- each is answered at its moment, and nothing else changes the office; under the premise these are the
 -- answers of the model's run
@@ -42,9 +42,9 @@ pub record AnswersAllKnown {S : Type 0} (world : S → World) (Holds Sound : S �
     (first last : S) (coming : List (List ℕ)) (readings : List (Option Duration))
     (wrote : List (Option (List ℕ))) (answered : ℕ) : Type 0 where
   pub exchanges : List Exchange
-  pub answers : AreAnswers coming readings wrote exchanges answered
+  pub answers : AreKnownAnswers coming readings wrote exchanges answered
   pub lead : Lead (AnswersOver world Holds Sound fails) first exchanges last
-  pub model : Holds last → AreOfModel (world first) (world last) (faultless exchanges)
+  pub model : Holds last → ExchangesAreOfModel (world first) (world last) (faultless exchanges)
 
 abbrev pub KnownConnectionsAreAnswered : {S : Type 0} → (S → World) → (S → Type 0) → (S → Type 0)
     → Bool → Type 0

@@ -1,7 +1,7 @@
 -- The laws of requests and answers over HTTP.
 use Rattle.std.specs.Prelude.{◌≡◌, ◌≢◌, ℕ, List, [], ◌∷◌, ◌++◌, Bool, true, false, not, map, filter, filter_map, Option, None, Some, Result, Ok, Err}
 use Rattle.std.specs.List.{AllZip}
-use Rattle.reg_core.specs.Striking.{AreAlikeTo, HasNone, ShowSame, reply_lists_others, reply_without}
+use Rattle.reg_core.specs.Striking.{AreAlikeTo, HasNoneUnseen, ShowSame, reply_lists_others, reply_without}
 use Rattle.reg_core.specs.Unseen.{Stage, stages, is_unseen, kept_stages, struck}
 use Rattle.reg_core.specs.Run.{run, world_after}
 use Rattle.reg_core.specs.View.{cap_at, view_of}
@@ -11,7 +11,7 @@ use Rattle.reg_print.specs.declared.answer.Answer.{Answer}
 use Rattle.reg_print.specs.declared.answer.Answer.TheVariants as answer
 use Rattle.reg_wire.specs.Exchange.{Call, PremiseGoesOn, events_of, answers_with}
 use Rattle.reg_wire.specs.Laws.{LookAlike, replies_at}
-use Rattle.reg_head.specs.Request.{Request, Asks}
+use Rattle.reg_head.specs.Request.{Request, BytesAsk}
 use Rattle.reg_head.specs.declared.malformed.Malformed.{Malformed}
 use Rattle.reg_http.specs.Response.{status, response_text, reply_text}
 use Rattle.reg_http.specs.Serving.{Answers, AnswersOver, Exchange, Lead, Responds, asker, call_at, storage}
@@ -24,20 +24,20 @@ use Rattle.reg_http.specs.declared.response.Response.TheVariants as response
 pub record AreServed (before : World) (moment : ℕ) (bytes : List ℕ) (told : Response)
     (after : World) : Type 0 where
   pub asked : Result Request Malformed
-  pub asks : Asks bytes asked
+  pub asks : BytesAsk bytes asked
   pub responds : Responds Answers before moment asked told after
   pub no_fault : told ≢ storage
 
 -- both offices show whoever the bytes come from, who is no clerk, the same view
 abbrev pub LookAlikeTo : World → World → List ℕ → Type 0
 LookAlikeTo w v bytes =
-    (asked : Result Request Malformed) → Asks bytes asked → LookAlike w v (asker asked)
+    (asked : Result Request Malformed) → BytesAsk bytes asked → LookAlike w v (asker asked)
 
 -- the answers are the same bytes, and then whoever asked is shown the same view
 pub record AreToldAlike (bytes : List ℕ) (told other : Response) (now then : World) : Type 0 where
   pub same : response_text told ≡ response_text other
   pub status : status told ≡ status other
-  pub views : (asked : Result Request Malformed) → Asks bytes asked
+  pub views : (asked : Result Request Malformed) → BytesAsk bytes asked
       → view_of now (asker asked) ≡ view_of then (asker asked)
 
 -- two offices that show whoever asks the same view answer the same bytes at the same moment by the
@@ -88,7 +88,7 @@ abbrev pub told_of : List Exchange → List Response
 told_of xs = map (λ (x : Exchange). x.told) xs
 
 -- without those answered by storage, requests are answered as the model's run of their events
-pub record AreOfModel (first last : World) (xs : List Exchange) : Type 0 where
+pub record ExchangesAreOfModel (first last : World) (xs : List Exchange) : Type 0 where
   pub told : told_of xs ≡ told_with xs
       (answers_with (calls_of xs) (run token_digest first (events_of (calls_of xs))))
   pub world : last ≡ world_after token_digest first (events_of (calls_of xs))
@@ -96,18 +96,18 @@ pub record AreOfModel (first last : World) (xs : List Exchange) : Type 0 where
 abbrev pub RequestsRunAsTheModel : Type 0
 RequestsRunAsTheModel =
     (first last : World) (xs : List Exchange) → Exchanged first xs last
-    → AreOfModel first last (faultless xs)
+    → ExchangesAreOfModel first last (faultless xs)
 
 -- ---- The premise, request by request
 
 -- after the first of some requests in turn: they were answered over the contents, and so as the
 -- model's run of their events, under the premise right after them, whatever comes later; and what
 -- becomes of the premise until then and after: want of memory does not end it
-pub record StandSoFar {S : Type 0} (world : S → World) (Holds Sound : S → Type 0) (fails : Bool)
+pub record ExchangesStandSoFar {S : Type 0} (world : S → World) (Holds Sound : S → Type 0) (fails : Bool)
     (first last : S) (xs later : List Exchange) : Type 0 where
   pub now : S
   pub in_turn : Holds now → Exchanged (world first) xs (world now)
-  pub model : Holds now → AreOfModel (world first) (world now) (faultless xs)
+  pub model : Holds now → ExchangesAreOfModel (world first) (world now) (faultless xs)
   pub premise : PremiseGoesOn Holds Sound storage fails first now (told_of xs)
   pub more : Lead (AnswersOver world Holds Sound fails) now later last
   pub later_premise : PremiseGoesOn Holds Sound storage fails now last (told_of later)
@@ -117,7 +117,7 @@ abbrev pub RequestsStandSoFar : {S : Type 0} → (S → World) → (S → Type 0
 RequestsStandSoFar {S} world Holds Sound fails =
     (first last : S) (xs later : List Exchange)
     → Lead (AnswersOver world Holds Sound fails) first (xs ++ later) last
-    → StandSoFar world Holds Sound fails first last xs later
+    → ExchangesStandSoFar world Holds Sound fails first last xs later
 
 -- ---- Striking
 
@@ -133,13 +133,13 @@ pub record AreWrittenAlike (account : List ℕ) (unseen : RequestName → Bool) 
         → reply_text (answer.Reply s.reply) ≡ reply_text (answer.Reply t.reply)
     pub rows : reply_text (answer.Reply (reply_without unseen s.reply))
         ≡ reply_text (answer.Reply (reply_without unseen t.reply))
-    pub without : HasNone unseen t.before
+    pub without : HasNoneUnseen unseen t.before
         → reply_text (answer.Reply t.reply)
         ≡ reply_text (answer.Reply (reply_without unseen s.reply))
 
 -- what is answered are the replies at the stages of the events
-abbrev pub AreOfStages : World → List Exchange → Type 0
-AreOfStages first xs =
+abbrev pub ExchangesAreOfStages : World → List Exchange → Type 0
+ExchangesAreOfStages first xs =
     told_of xs ≡ told_with xs
     (answers_with (calls_of xs)
     (replies_at (stages token_digest first (events_of (calls_of xs)))))
@@ -147,10 +147,10 @@ AreOfStages first xs =
 -- some requests, and others that have their events but for those about requests that an account
 -- does not see: both are answered by the replies at their stages; these are written alike at each
 -- event that is left; and at the end both show the account the same
-pub record LeaveNoTrace (account : List ℕ) (first last end : World) (xs left : List Exchange) :
+pub record ExchangesLeaveNoTrace (account : List ℕ) (first last end : World) (xs left : List Exchange) :
     Type 0 where
-  pub answered : AreOfStages first xs
-  pub left_answered : AreOfStages first left
+  pub answered : ExchangesAreOfStages first xs
+  pub left_answered : ExchangesAreOfStages first left
   pub each_event :
       AllZip
       (AreWrittenAlike account (is_unseen token_digest account first (events_of (calls_of xs))))
@@ -164,4 +164,4 @@ UnseenRequestsLeaveNoTrace =
     → Exchanged first xs last → Exchanged first left end
     → events_of (calls_of (faultless left))
     ≡ struck token_digest account first (events_of (calls_of (faultless xs)))
-    → LeaveNoTrace account first last end (faultless xs) (faultless left)
+    → ExchangesLeaveNoTrace account first last end (faultless xs) (faultless left)

@@ -25,17 +25,17 @@ rest_of [] = []
 rest_of (x ∷ xs) = xs
 
 -- where it is known what comes, this is the first of it, and the rest is left
-abbrev pub Takes : {A : Type 0} → Option (List (Option A)) → Option (List (Option A)) → Option A
+abbrev pub TakesNext : {A : Type 0} → Option (List (Option A)) → Option (List (Option A)) → Option A
     → Type 0
-Takes None new taken = ⊤
-Takes (Some xs) None taken = ⊥
-Takes (Some xs) (Some ys) taken = (taken ≡ first_of xs) × (ys ≡ rest_of xs)
+TakesNext None new taken = ⊤
+TakesNext (Some xs) None taken = ⊥
+TakesNext (Some xs) (Some ys) taken = (taken ≡ first_of xs) × (ys ≡ rest_of xs)
 
 -- the moment by what a clock says next, which was read once
 abbrev pub ReadsMoment : Option (List (Option Duration)) → Option (List (Option Duration)) → ℕ
     → Type 0
 ReadsMoment readings later moment =
-    (reading : Option Duration) × Takes readings later reading × (moment ≡ moment_by reading)
+    (reading : Option Duration) × TakesNext readings later reading × (moment ≡ moment_by reading)
 
 -- the same of connections, by the bytes that are to be read
 abbrev pub Comes : Option (List (Option (List ℕ))) → Option (List (Option (List ℕ)))
@@ -45,11 +45,11 @@ Comes (Some xs) None came = ⊥
 Comes (Some xs) (Some ys) came = (came ≡ option_map Some (first_of xs)) × (ys ≡ rest_of xs)
 
 -- where it is known what was written over the connections that ended, one more has
-abbrev pub Ends : Option (List (Option (List ℕ))) → Option (List (Option (List ℕ)))
+abbrev pub EndsOneMore : Option (List (Option (List ℕ))) → Option (List (Option (List ℕ)))
     → Option (List ℕ) → Type 0
-Ends None new wrote = ⊤
-Ends (Some xs) None wrote = ⊥
-Ends (Some xs) (Some ys) wrote = ys ≡ xs ++ (wrote ∷ [])
+EndsOneMore None new wrote = ⊤
+EndsOneMore (Some xs) None wrote = ⊥
+EndsOneMore (Some xs) (Some ys) wrote = ys ≡ xs ++ (wrote ∷ [])
 
 -- ---- One connection
 
@@ -84,7 +84,7 @@ pub record Exchanges {S : Type 0} (Serves : S → Call → Response → S → Ty
   pub meets : Meets Serves blank (record { moment = moment; unread = unread; wrote = wrote }) before
       after outcome
   pub counted : count_of sent ≡ wholes outcome
-  pub ends : Ends had has wrote
+  pub ends : EndsOneMore had has wrote
 
 -- what is given to be told is sent, or told to have failed
 abbrev pub IsSentBy : Result Response WireFault → Result ℕ WireFault → Option (List ℕ)

@@ -6,11 +6,11 @@ use Rattle.reg_keeper.specs.declared.keeper.Fault.{Fault}
 use Rattle.reg_office.specs.Caller.{caller_of}
 use Rattle.reg_print.specs.declared.answer.Answer.{Answer}
 use Rattle.reg_print.specs.declared.answer.Answer.TheVariants as answer
-use Rattle.reg_wire.specs.Exchange.{Call, Gives, answer_to, world_then}
+use Rattle.reg_wire.specs.Exchange.{Call, GivesAnswer, answer_to, world_then}
 use Rattle.reg_wire.specs.declared.wire_fault.WireFault.{WireFault}
 use Rattle.reg_wire.specs.declared.wire_fault.WireFault.TheVariants as fault
 use Rattle.reg_head.specs.Reading.{IsAsked, IsUnfinished}
-use Rattle.reg_head.specs.Request.{Request, Asks}
+use Rattle.reg_head.specs.Request.{Request, BytesAsk}
 use Rattle.reg_head.specs.declared.malformed.Malformed.{Malformed}
 use Rattle.reg_http.specs.Response.{status, response_text}
 use Rattle.reg_http.specs.declared.response.Response.{Response}
@@ -49,7 +49,7 @@ pub record AnswersOver {S : Type 0} (world : S → World) (Holds Sound : S → T
     (before : S) (call : Call) (told : Response) (after : S) : Type 0 where
   pub result : Result Answer Fault
   pub is_told : told ≡ given_response result
-  pub gives : Gives world Holds Sound fails before call result after
+  pub gives : GivesAnswer world Holds Sound fails before call result after
 
 -- what bytes ask at a moment is answered: a request as its call is, other bytes by what is wrong
 -- with them, with nothing looked at and nothing changed
@@ -73,7 +73,7 @@ pub record Exchange : Type 0 where
 abbrev pub Lead : {S : Type 0} → (S → Call → Response → S → Type 0) → S → List Exchange → S → Type 0
 Lead Serves before [] after = after ≡ before
 Lead {S} Serves before (x ∷ xs) after =
-    (now : S) × Asks x.bytes x.asked × Responds Serves before x.moment x.asked x.told now
+    (now : S) × BytesAsk x.bytes x.asked × Responds Serves before x.moment x.asked x.told now
     × Lead Serves now xs after
 
 -- ---- One exchange. `unread` and `left` are what is to be read before and after, `had` and `has`

@@ -6,9 +6,9 @@ use Rattle.reg_head.specs.Watched.{has_failed}
 use Rattle.reg_head.specs.declared.watch.Watch.{Watch}
 
 -- a read failed where that is why nothing is answered; else none did
-abbrev pub IsWatched : {T : Type 0} → Watch → Watch → Result T WireFault → Type 0
-IsWatched old new (Ok value) = new ≡ old
-IsWatched old new (Err fault.Read) = has_failed new ≡ true
-IsWatched old new (Err fault.TooManyReads) = new ≡ old
-IsWatched old new (Err (fault.Write n)) = new ≡ old
-IsWatched old new (Err fault.Memory) = new ≡ old
+abbrev pub IsWatchedOver : {T : Type 0} → Watch → Watch → Result T WireFault → Type 0
+IsWatchedOver old new (Ok value) = new ≡ old
+IsWatchedOver old new (Err fault.Read) = has_failed new ≡ true
+IsWatchedOver old new (Err fault.TooManyReads) = new ≡ old
+IsWatchedOver old new (Err (fault.Write n)) = new ≡ old
+IsWatchedOver old new (Err fault.Memory) = new ≡ old

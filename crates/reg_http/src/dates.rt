@@ -1,7 +1,7 @@
 //! The moment at which something is done, by a clock.
 ghost use Rattle.std.specs.Prelude.{◌≡◌};
 ghost use Rattle.reg_http.specs.Listening.{moment_by};
-ghost use Rattle.reg_http.specs.Meeting.{ReadsMoment, Takes};
+ghost use Rattle.reg_http.specs.Meeting.{ReadsMoment, TakesNext};
 
 use std::time::{Clock, Duration};
 
@@ -15,7 +15,7 @@ pub trait Dates {
 
     /// The time since 1970-01-01T00:00:00Z.
     fn read(&mut self) -> Option<Duration>
-        ensures { Takes (readings self.old) (readings self.new) result };
+        ensures { TakesNext (readings self.old) (readings self.new) result };
 }
 
 /// The dates of a clock, of which nothing is known.

@@ -1,7 +1,7 @@
 //! Who asks an office: connections, one after the other.
 ghost use Rattle.std.specs.Prelude.{◌≡◌, IfOk};
 ghost use Rattle.std.specs.Option.{option_map};
-ghost use Rattle.reg_http.specs.Meeting.{Comes, Ends};
+ghost use Rattle.reg_http.specs.Meeting.{Comes, EndsOneMore};
 
 use crate::log::Sent;
 use std::io;
@@ -43,7 +43,7 @@ pub trait Peers {
 
     /// Ends a connection, over which this answer was written whole, or none.
     fn end(&mut self, writer: Self::Writer, sent: Option<Sent>)
-        ensures ends { Ends (written self.old) (written self.new) (Self.Writer.contents writer) }
+        ensures ends { EndsOneMore (written self.old) (written self.new) (Self.Writer.contents writer) }
         ensures coming { coming self.new ≡ coming self.old };
 }
 

@@ -3,8 +3,8 @@ ghost use Rattle.std.specs.Prelude.{◌≡◌, IfOk, IfErr};
 ghost use Rattle.reg_http.specs.Serving.{AnswersOver, IsAnswered, IsServed, FailsBy, call_at};
 ghost use Rattle.reg_http.specs.Meeting.{IsSentBy};
 ghost use Rattle.reg_http.specs.Responding.{IsUnanswered};
-ghost use Rattle.reg_http.specs.Watched.{IsWatched};
-ghost use Rattle.reg_head.specs.Reading.{IsMessage, IsPlaced};
+ghost use Rattle.reg_http.specs.Watched.{IsWatchedOver};
+ghost use Rattle.reg_head.specs.Reading.{IsMessage, LiesInBytes};
 ghost use Rattle.reg_head.specs.Request.{Request};
 
 use crate::log::Log;
@@ -54,7 +54,7 @@ pub fn serve_one<K: Keeper, R: Read, W: Write, L: Log>(
     ensures err { IfErr result (λ fault. FailsBy (AnswersOver K.world K.Holds K.Sound K.FAILS)
         moment fault office.old office.new (R.remaining reader.old) (R.remaining reader.new)
         (W.contents writer.old) (W.contents writer.new)) }
-    ensures watched { IsWatched watch.old watch.new result }
+    ensures watched { IsWatchedOver watch.old watch.new result }
 {
     let response = respond(alloc, office, routes, moment, reader, watch, log)?;
     send_response(alloc, writer, response)
@@ -88,7 +88,7 @@ pub(crate) fn respond<K: Keeper, R: Read, L: Log>(
         moment office.old office.new (R.remaining reader.old) (R.remaining reader.new) told) }
     ensures err { IfErr result (λ fault. IsUnanswered fault office.old office.new
         (R.remaining reader.old) (R.remaining reader.new)) }
-    ensures watched { IsWatched watch.old watch.new result }
+    ensures watched { IsWatchedOver watch.old watch.new result }
 {
     match read_request(alloc, reader, watch) {
         Ok(message) => {
@@ -105,7 +105,7 @@ pub(crate) fn respond<K: Keeper, R: Read, L: Log>(
 
 // Tells a log that is kept what a request asks, and of its path what may be shown.
 fn tell<L: Log>(routes: &Routes, message: &Message, log: &mut L)
-    requires { IsPlaced message.now }
+    requires { LiesInBytes message.now }
 {
     if L::IS_KEPT {
         let parts = message.parts();
@@ -121,7 +121,7 @@ fn respond_to<K: Keeper>(
     moment: u64,
     message: &Message,
 ) -> Response
-    requires { IsPlaced message.now }
+    requires { LiesInBytes message.now }
     ensures { (request : Request) → IsMessage message.now request
         → AnswersOver K.world K.Holds K.Sound K.FAILS office.old (call_at moment request) result
         office.new }

@@ -44,15 +44,15 @@ row_fault_text fault.Own = codes "Assignee is the expert"
 row_fault_text fault.Memory = codes "memory"
 
 -- the fault is the one that reading finds, unless memory ran out
-abbrev pub IsFaultOf : {A : Type 0} → Result A RowFault → RowFault → Type 0
-IsFaultOf read fault.Memory = Unit {0}
-IsFaultOf read fault.Columns = read ≡ Err fault.Columns
-IsFaultOf read (fault.Form c) = read ≡ Err (fault.Form c)
-IsFaultOf read fault.Future = read ≡ Err fault.Future
-IsFaultOf read fault.Expiry = read ≡ Err fault.Expiry
-IsFaultOf read fault.Held = read ≡ Err fault.Held
-IsFaultOf read (fault.Lacks item) = read ≡ Err (fault.Lacks item)
-IsFaultOf read fault.Own = read ≡ Err fault.Own
+abbrev pub IsFaultOfImport : {A : Type 0} → Result A RowFault → RowFault → Type 0
+IsFaultOfImport read fault.Memory = Unit {0}
+IsFaultOfImport read fault.Columns = read ≡ Err fault.Columns
+IsFaultOfImport read (fault.Form c) = read ≡ Err (fault.Form c)
+IsFaultOfImport read fault.Future = read ≡ Err fault.Future
+IsFaultOfImport read fault.Expiry = read ≡ Err fault.Expiry
+IsFaultOfImport read fault.Held = read ≡ Err fault.Held
+IsFaultOfImport read (fault.Lacks item) = read ≡ Err (fault.Lacks item)
+IsFaultOfImport read fault.Own = read ≡ Err fault.Own
 
 -- so it is of a whole register
 abbrev pub IsImportFaultOf : {A : Type 0} → Result A ImportFault → ImportFault → Type 0

@@ -1,7 +1,7 @@
 //! What policies ask for, as the columns of a row have it.
 ghost use Rattle.std.specs.Prelude.{◌≡◌, IfOk, IfErr};
 ghost use Rattle.reg_import.specs.Columns.{stands_in};
-ghost use Rattle.reg_import.specs.Faults.{IsFaultOf};
+ghost use Rattle.reg_import.specs.Faults.{IsFaultOfImport};
 ghost use Rattle.reg_import.specs.Rows.{contact_in, early_evidence_in, evidence_in, rfc_in};
 
 use crate::column::Column;
@@ -21,7 +21,7 @@ pub(crate) fn evidence_in(
 ) -> Result<Evidence, RowFault>
     ensures evidence { IfOk result
         (λ evidence. evidence_in (stands_in fields.now) assignee.now ≡ Ok evidence) }
-    ensures fault { IfErr result (IsFaultOf (evidence_in (stands_in fields.now) assignee.now)) }
+    ensures fault { IfErr result (IsFaultOfImport (evidence_in (stands_in fields.now) assignee.now)) }
 {
     let contact = contact_in(alloc, fields, assignee)?;
     let spec = note_in(alloc, fields, Column::Specification)?;
@@ -39,7 +39,7 @@ pub(crate) fn evidence_in(
 fn contact_in(alloc: Global, fields: &Fields<'_>, assignee: &Account) -> Result<Text, RowFault>
     ensures contact { IfOk result
         (λ contact. contact_in (stands_in fields.now) assignee.now ≡ Ok contact) }
-    ensures fault { IfErr result (IsFaultOf (contact_in (stands_in fields.now) assignee.now)) }
+    ensures fault { IfErr result (IsFaultOfImport (contact_in (stands_in fields.now) assignee.now)) }
 {
     if !stands_in(fields, Column::Contact).is_empty() {
         return text_in(alloc, fields, Column::Contact);
@@ -76,7 +76,7 @@ pub(crate) fn early_evidence_in(
 ) -> Result<EarlyEvidence, RowFault>
     ensures evidence { IfOk result
         (λ evidence. early_evidence_in (stands_in fields.now) ≡ Ok evidence) }
-    ensures fault { IfErr result (IsFaultOf (early_evidence_in (stands_in fields.now))) }
+    ensures fault { IfErr result (IsFaultOfImport (early_evidence_in (stands_in fields.now))) }
 {
     let draft = note_in(alloc, fields, Column::Draft)?;
     let stable = mark_in(fields, Column::Stable)?;

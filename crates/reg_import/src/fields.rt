@@ -1,7 +1,7 @@
 //! The fields of a row, by their columns.
 ghost use Rattle.std.specs.Prelude.{◌≡◌, ◌<◌, IfOk, IfErr};
 ghost use Rattle.reg_import.specs.Columns.{place_of, stands_in};
-ghost use Rattle.reg_import.specs.Faults.{IsFaultOf};
+ghost use Rattle.reg_import.specs.Faults.{IsFaultOfImport};
 ghost use Rattle.reg_import.specs.Rows.{held_in, mark_in, note_in, text_in};
 
 use crate::column::{Column, place_of};
@@ -30,7 +30,7 @@ pub(crate) fn stands_in<'a>(fields: &Fields<'a>, column: Column) -> &'a [u8]
 /// The text of a column that has one.
 pub(crate) fn text_in(alloc: Global, fields: &Fields<'_>, column: Column) -> Result<Text, RowFault>
     ensures text { IfOk result (λ text. text_in (stands_in fields.now) column ≡ Ok text) }
-    ensures fault { IfErr result (IsFaultOf (text_in (stands_in fields.now) column)) }
+    ensures fault { IfErr result (IsFaultOfImport (text_in (stands_in fields.now) column)) }
 {
     match Text::read(alloc, stands_in(fields, column))? {
         Some(text) => Ok(text),
@@ -45,7 +45,7 @@ pub(crate) fn note_in(
     column: Column,
 ) -> Result<Option<Text>, RowFault>
     ensures note { IfOk result (λ note. note_in (stands_in fields.now) column ≡ Ok note) }
-    ensures fault { IfErr result (IsFaultOf (note_in (stands_in fields.now) column)) }
+    ensures fault { IfErr result (IsFaultOfImport (note_in (stands_in fields.now) column)) }
 {
     if stands_in(fields, column).is_empty() {
         return Ok(None);

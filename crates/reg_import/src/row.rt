@@ -2,7 +2,7 @@
 ghost use Rattle.std.specs.Prelude.{◌≡◌, IfOk, IfErr, if◌then◌else◌, Ok, Err};
 ghost use Rattle.csv.specs.Records.{fields_of};
 ghost use Rattle.reg_import.specs.Columns.{stands_in};
-ghost use Rattle.reg_import.specs.Faults.{IsFaultOf};
+ghost use Rattle.reg_import.specs.Faults.{IsFaultOfImport};
 ghost use Rattle.reg_import.specs.Rows.{assignee_in, early_in, entry_in, expires_in, first_in, for_good_in, is_met, kind_in, may_renew, policy_in, is_early, is_vacant, is_word_of, renewal_for, row_in, standing_in, value_in};
 
 use crate::column::Column;
@@ -36,7 +36,7 @@ pub(crate) fn read_row(
 ) -> Result<Option<ListedEntry>, RowFault>
     ensures entry { IfOk result (λ entry. row_in import.now
         (fields_of fields.now.header.now) (fields_of fields.now.row.now) ≡ Ok entry) }
-    ensures fault { IfErr result (IsFaultOf (row_in import.now
+    ensures fault { IfErr result (IsFaultOfImport (row_in import.now
         (fields_of fields.now.header.now) (fields_of fields.now.row.now))) }
 {
     if fields.row.len() != fields.header.len() {
@@ -98,7 +98,7 @@ fn entry_in(
 ) -> Result<ListedEntry, RowFault>
     ensures entry { IfOk result
         (λ entry. entry_in import.now kind (stands_in fields.now) ≡ Ok entry) }
-    ensures fault { IfErr result (IsFaultOf (entry_in import.now kind (stands_in fields.now))) }
+    ensures fault { IfErr result (IsFaultOfImport (entry_in import.now kind (stands_in fields.now))) }
 {
     let value = value_in(fields)?;
     let label = text_in(alloc, fields, Column::Description)?;
@@ -163,7 +163,7 @@ fn standing_in(
     ensures standing { IfOk result (λ standing.
         standing_in (stands_in fields.now) kind policy first assignee.now ≡ Ok standing) }
     ensures fault { IfErr result
-        (IsFaultOf (standing_in (stands_in fields.now) kind policy first assignee.now)) }
+        (IsFaultOfImport (standing_in (stands_in fields.now) kind policy first assignee.now)) }
 {
     match kind {
         EntryKind::Early => Ok(Standing::Early(early_in(alloc, fields, policy, first)?)),
@@ -183,7 +183,7 @@ fn for_good_in(
     ensures evidence { IfOk result
         (λ evidence. for_good_in (stands_in fields.now) policy assignee.now ≡ Ok evidence) }
     ensures fault { IfErr result
-        (IsFaultOf (for_good_in (stands_in fields.now) policy assignee.now)) }
+        (IsFaultOfImport (for_good_in (stands_in fields.now) policy assignee.now)) }
 {
     if !stands_in(fields, Column::Expires).is_empty() {
         return Err(RowFault::Expiry);
@@ -205,7 +205,7 @@ fn early_in(
 ) -> Result<EarlyStanding, RowFault>
     ensures standing { IfOk result
         (λ standing. early_in (stands_in fields.now) policy first ≡ Ok standing) }
-    ensures fault { IfErr result (IsFaultOf (early_in (stands_in fields.now) policy first)) }
+    ensures fault { IfErr result (IsFaultOfImport (early_in (stands_in fields.now) policy first)) }
 {
     let expires = expires_in(fields)?;
     let renewal = renewal_for(first, expires)?;

@@ -23,7 +23,7 @@ use Rattle.reg_core.proofs.KeyOrders.{name_keys, seat_keys}
 use Rattle.reg_decisions.proofs.Files.{advised_is}
 use Rattle.reg_import.specs.Lines.{Filing, Line, advice_line, applicant_token, approval_line, assignment_line, expert_token, filing_lines, grant_line, review_lines, submission_line}
 use Rattle.reg_import.specs.declared.import.Import.{Import}
-use Rattle.reg_import_laws.specs.Imported.{IsNew, imported}
+use Rattle.reg_import_laws.specs.Imported.{FilingIsNew, imported}
 use Rattle.reg_import_laws.proofs.Steps.{LineDoes, Runs, advised, applicant_cap, approved, assigned, expert_cap, granted, runs_cons, runs_nil, submitted}
 
 -- ---- Rows of maps
@@ -77,7 +77,7 @@ module _ (digest_of : List ℕ → List ℕ) (by : Import) (f : Filing) (allowan
 
   -- what the lines need of an office
   pub record CanFile (w : World) : Type 0 where
-    pub new : IsNew digest_of w by f
+    pub new : FilingIsNew digest_of w by f
     pub unqueued : f.reviewed ≡ true → get w.queue (name, by.expert) ≡ None
     pub unadvised : f.reviewed ≡ true → get w.advice (name, by.expert) ≡ None
     pub allowed : allowance_on (ground_of (published w) f.ask) f.account f.ask ≡ Ok allowance

@@ -46,7 +46,7 @@ use Rattle.reg_import.specs.declared.entry.Standing.TheVariants.{ForGood, Early}
 use Rattle.reg_import.specs.declared.fault.RowFault.{RowFault}
 use Rattle.reg_import.specs.declared.fault.RowFault.TheVariants as fault
 use Rattle.reg_import.specs.declared.import.Import.{Import}
-use Rattle.reg_import_laws.specs.Imported.{AreMade, EntriesAreMade, IsNew, IsNewRenewal, IsReadyFor, events_of, registration_said}
+use Rattle.reg_import_laws.specs.Imported.{AreMade, EntriesAreMade, FilingIsNew, IsNewRenewal, IsReadyFor, events_of, registration_said}
 use Rattle.reg_import_laws.proofs.Allowed.{allowed_early, allowed_for_good, allowed_renewal, not_above}
 use Rattle.reg_import_laws.proofs.Filings.{CanFile, IsFiled, filed_by, other_at, other_updated}
 use Rattle.reg_import_laws.proofs.RowFacts.{IsRead, IsShown, read_row}

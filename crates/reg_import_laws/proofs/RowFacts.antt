@@ -12,7 +12,7 @@ use Rattle.reg_ranges.specs.declared.evidence.EvidenceItem.{EvidenceItem}
 use Rattle.reg_ranges.specs.declared.policy.Policy.{Policy}
 use Rattle.reg_import.specs.Columns.{field_in}
 use Rattle.reg_import.specs.Faults.{◌>>=◌}
-use Rattle.reg_import.specs.Rows.{Row, assignee_in, checked, early_in, early_evidence_in, entry_if, entry_in, evidence_in, expires_in, first_in, for_good_in, formed, held_in, is_empty, is_met, kind_in, policy_in, renewal_for, row_in, standing_in, text_in, value_in}
+use Rattle.reg_import.specs.Rows.{CellsOfRow, assignee_in, checked, early_in, early_evidence_in, entry_if, entry_in, evidence_in, expires_in, first_in, for_good_in, formed, held_in, is_empty, is_met, kind_in, policy_in, renewal_for, row_in, standing_in, text_in, value_in}
 use Rattle.reg_import.specs.declared.column.Column.TheVariants as column
 use Rattle.reg_import.specs.declared.entry.EarlyStanding.{EarlyStanding}
 use Rattle.reg_import.specs.declared.entry.EntryKind.{EntryKind}
@@ -61,7 +61,7 @@ abbrev not_expert : Import → Policy → List ℕ → Result (List ℕ) RowFaul
 not_expert by policy assignee =
     if is_expert_policy policy && bytes_eq assignee by.expert then Err fault.Own else Ok assignee
 
-another : (by : Import) (row : Row) (policy : Policy) (assignee : List ℕ)
+another : (by : Import) (row : CellsOfRow) (policy : Policy) (assignee : List ℕ)
     → assignee_in by row policy ≡ Ok assignee
     → (is_expert_policy policy && bytes_eq assignee by.expert) ≡ false
 another by row policy assignee h =
@@ -75,14 +75,14 @@ another by row policy assignee h =
 abbrev good_end : Policy → Evidence → Result Evidence RowFault
 good_end policy e = is_met (first_item (unmet policy e)) >>= (λ met. Ok e)
 
-abbrev good_free : Row → Policy → List ℕ → Unit {0} → Result Evidence RowFault
+abbrev good_free : CellsOfRow → Policy → List ℕ → Unit {0} → Result Evidence RowFault
 good_free row policy assignee free = evidence_in row assignee >>= good_end policy
 
-abbrev good_held : Row → Policy → List ℕ → Bool → Result Evidence RowFault
+abbrev good_held : CellsOfRow → Policy → List ℕ → Bool → Result Evidence RowFault
 good_held row policy assignee held =
     checked (not held) fault.Held >>= good_free row policy assignee
 
-for_good : (row : Row) (policy : Policy) (assignee : List ℕ) (evidence : Evidence)
+for_good : (row : CellsOfRow) (policy : Policy) (assignee : List ℕ) (evidence : Evidence)
     → for_good_in row policy assignee ≡ Ok evidence → first_item (unmet policy evidence) ≡ None
 for_good row policy assignee evidence h =
     let stays = went_on (checked (is_empty (row column.Expires)) fault.Expiry)
@@ -102,14 +102,14 @@ early_end policy expires renewal e held =
     is_met (first_item (early_unmet policy e))
     >>= (λ met. Ok (record { expires = expires; renewal = renewal; evidence = e; held = held }))
 
-abbrev early_read : Row → Policy → ℕ → Option ℕ → EarlyEvidence → Result EarlyStanding RowFault
+abbrev early_read : CellsOfRow → Policy → ℕ → Option ℕ → EarlyEvidence → Result EarlyStanding RowFault
 early_read row policy expires renewal e = held_in row >>= early_end policy expires renewal e
 
-abbrev early_renewal : Row → Policy → ℕ → Option ℕ → Result EarlyStanding RowFault
+abbrev early_renewal : CellsOfRow → Policy → ℕ → Option ℕ → Result EarlyStanding RowFault
 early_renewal row policy expires renewal =
     early_evidence_in row >>= early_read row policy expires renewal
 
-early : (row : Row) (policy : Policy) (first : ℕ) (standing : EarlyStanding)
+early : (row : CellsOfRow) (policy : Policy) (first : ℕ) (standing : EarlyStanding)
     → early_in row policy first ≡ Ok standing → IsShown policy first (Early standing)
 early row policy first standing h =
     let expires = went_on (expires_in row)
@@ -131,7 +131,7 @@ early row policy first standing h =
     subst (λ (s : EarlyStanding). IsShown policy first (Early s)) same
     (met (first_item (early_unmet policy read.0)) end.0 end.1, renewal.1)
 
-shown : (row : Row) (k : EntryKind) (policy : Policy) (first : ℕ) (assignee : List ℕ)
+shown : (row : CellsOfRow) (k : EntryKind) (policy : Policy) (first : ℕ) (assignee : List ℕ)
     (standing : Standing) → standing_in row k policy first assignee ≡ Ok standing
     → IsShown policy first standing
 shown row kind.ForGood policy first assignee standing h =
@@ -155,24 +155,24 @@ entry_of value label policy first assignee standing =
       standing = standing;
     })
 
-abbrev with_assignee : EntryKind → Row → ℕ → List ℕ → Policy → ℕ → List ℕ
+abbrev with_assignee : EntryKind → CellsOfRow → ℕ → List ℕ → Policy → ℕ → List ℕ
     → Result ListedEntry RowFault
 with_assignee k row value label policy first assignee =
     standing_in row k policy first assignee >>= entry_of value label policy first assignee
 
-abbrev with_first : Import → EntryKind → Row → ℕ → List ℕ → Policy → ℕ
+abbrev with_first : Import → EntryKind → CellsOfRow → ℕ → List ℕ → Policy → ℕ
     → Result ListedEntry RowFault
 with_first by k row value label policy first =
     assignee_in by row policy >>= with_assignee k row value label policy first
 
-abbrev with_policy : Import → EntryKind → Row → ℕ → List ℕ → Policy → Result ListedEntry RowFault
+abbrev with_policy : Import → EntryKind → CellsOfRow → ℕ → List ℕ → Policy → Result ListedEntry RowFault
 with_policy by k row value label policy =
     first_in by row >>= with_first by k row value label policy
 
-abbrev with_label : Import → EntryKind → Row → ℕ → List ℕ → Result ListedEntry RowFault
+abbrev with_label : Import → EntryKind → CellsOfRow → ℕ → List ℕ → Result ListedEntry RowFault
 with_label by k row value label = policy_in row >>= with_policy by k row value label
 
-read_entry : (by : Import) (k : EntryKind) (row : Row) (entry : ListedEntry)
+read_entry : (by : Import) (k : EntryKind) (row : CellsOfRow) (entry : ListedEntry)
     → entry_in by k row ≡ Ok entry → IsRead by entry
 read_entry by k row entry h =
     let value = went_on (value_in row)
@@ -199,7 +199,7 @@ read_entry by k row entry h =
       shown = shown row k policy.0 first.0 assignee.0 standing.0 standing.1;
     })
 
-read_if : (by : Import) (row : Row) (k : Option EntryKind) (entry : ListedEntry)
+read_if : (by : Import) (row : CellsOfRow) (k : Option EntryKind) (entry : ListedEntry)
     → entry_if by row k ≡ Ok (Some entry) → IsRead by entry
 read_if by row None entry h = absurd (cc)
 read_if by row (Some k) entry h =
@@ -211,7 +211,7 @@ pub read_row : (by : Import) (header fields : List (List ℕ)) (entry : ListedEn
     → row_in by header fields ≡ Ok (Some entry) → IsRead by entry
 unfolding row_in
 read_row by header fields entry h =
-    let row : Row = field_in header fields in
+    let row : CellsOfRow = field_in header fields in
     let whole = passed (length fields == length header) (kind_in row >>= entry_if by row)
     fault.Columns (Some entry) h in
     let k = went_on (kind_in row) (entry_if by row) (Some entry) whole in

@@ -90,7 +90,7 @@ module _ (digest_of : List ℕ → List ℕ) where
 
   -- the clerk may act at the moment of a filing; its tokens are nobody's yet, and have digests of their
   -- own; and its reference is not in use
-  pub record IsNew (w : World) (by : Import) (f : Filing) : Type 0 where
+  pub record FilingIsNew (w : World) (by : Import) (f : Filing) : Type 0 where
     pub clerk : acts_as_clerk (get w.caps (digest_of by.clerk)) f.moment ≡ true
     pub applicant : get w.caps (digest_of (applicant_token by f)) ≡ None
     pub expert : f.reviewed ≡ true → get w.caps (digest_of (expert_token by f)) ≡ None
@@ -101,7 +101,7 @@ module _ (digest_of : List ℕ → List ℕ) where
   -- so it is of the renewal of an entry on a day, and its token is none of those before
   pub record IsNewRenewal (w : World) (by : Import) (entry : ListedEntry)
       (standing : EarlyStanding) (day : ℕ) : Type 0 where
-    pub new : IsNew w by (renewal_filing by entry standing day)
+    pub new : FilingIsNew w by (renewal_filing by entry standing day)
     pub other : digest_of (applicant_token by (renewal_filing by entry standing day))
         ≢ digest_of (applicant_token by (entry_filing by entry))
     pub another : is_expert_policy entry.policy ≡ true
@@ -119,7 +119,7 @@ module _ (digest_of : List ℕ → List ℕ) where
     pub kept : WellKept w
     pub policy : IsUnderPolicy w by.registry entry.value entry.policy
     pub free : get w.entries (by.registry, entry.value) ≡ None
-    pub new : IsNew w by (entry_filing by entry)
+    pub new : FilingIsNew w by (entry_filing by entry)
     pub renewal : RenewalsAreNew w by entry entry.standing
 
   -- ---- What they do

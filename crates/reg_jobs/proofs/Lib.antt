@@ -1,5 +1,4 @@
 mod Adding
-mod Building
 mod ReadNumbers
 mod Stops
 mod Taken

@@ -1,39 +1,41 @@
 -- What the values of arguments are that are read as texts and numbers.
-use Rattle.std.proofs.Common.{◌≡◌, ◌∙◌, ◌<◌, ◌≤◌, ◌^◌, ℕ, List, MatchResult, Option, Some, None, Result, Ok, ap, is_some, option_map, refl, subst, sym, true}
+use Rattle.std.proofs.Common.{◌≡◌, ◌∙◌, ◌<◌, ◌≤◌, ◌^◌, ℕ, IfOk, List, MatchResult, Option, Some, None, Result, ap, is_some, option_map, refl, subst, sym, true}
 use Rattle.std.specs.Borrow.{Bor}
 use Rattle.std.specs.Option.{ok_or}
-use Rattle.std.specs.Str.Parse.{ParsesUnsigned}
+use Rattle.std.specs.Str.Parse.{ExplainsUnsignedError, HasUnsignedDigitsIfOk, ParsesUnsigned}
+use Rattle.std.specs.declared.num.ParseIntError.{ParseIntError}
+use Rattle.std.proofs.lemmas.Result.{IfOk-weaker}
 use Rattle.clap.specs.Words.{ReadsOne, Text, first_value, one_text, rows_of, without_minus}
 use Rattle.clap.specs.declared.parser.matches.Found.{Found}
 use Rattle.clap.proofs.CallerReads.{signed_reads}
 use Rattle.clap.proofs.WalkLemmas.{first_value-rows, one_text-rows}
 use Rattle.reg_jobs.specs.Asking.{HasNumber, HasText, IsNumberOf}
+use Rattle.reg_jobs.specs.declared.jobs.JobFault.{JobFault}
 
-pub number_read : {E : Type 0} (bits : ℕ) (gives : List ℕ → Result ℕ E → Type 0) (f : Found) (id : Text) (r : Option ℕ) (n : ℕ)
-    → ((t : List ℕ) (x : Result ℕ E) → gives t x → ParsesUnsigned bits 10 t x)
-    → (one_text f id ≡ None → r ≡ None)
-    → ((t : List ℕ) → one_text f id ≡ Some t → ReadsOne gives t r)
-    → r ≡ Some n → IsNumberOf id (rows_of f) n
-number_read {E = E} bits gives f id r n parses none value is = go (one_text f id) refl
+-- what a text gives that is read as a number of so many bits
+abbrev pub Gives : ℕ → List ℕ → Result ℕ ParseIntError → Type 0
+Gives bits t x = ParsesUnsigned bits 10 t x × ExplainsUnsignedError 10 t x × HasUnsignedDigitsIfOk t x
+
+-- the number is the one that the text of the argument spells
+pub number_read : (bits : ℕ) (f : Found) (id : Text) (o : Option ℕ) (r : Result ℕ JobFault) → (one_text f id ≡ None → o ≡ None)
+    → ((t : List ℕ) → one_text f id ≡ Some t → ReadsOne (Gives bits) t o) → IfOk r (λ n. o ≡ Some n) → IfOk r (IsNumberOf id (rows_of f))
+number_read bits f id o r none value given = IfOk-weaker r _ _ (λ n is. go n is (one_text f id) refl) given
   where
-    go : (o : Option Text) → one_text f id ≡ o → IsNumberOf id (rows_of f) n
-    go None e =
+    go : (n : ℕ) → o ≡ Some n → (read : Option Text) → one_text f id ≡ read → IsNumberOf id (rows_of f) n
+    go n is None e =
         let no = none e in
         absurd (cc)
-    go (Some t) e =
-        let read : ReadsOne gives t (Some n) = subst (ReadsOne gives t) is (value t e) in
-        let parsed = parses t (Ok n) read in
-        (t, sym (one_text-rows f id) ∙ e, parsed.0.0, sym parsed.1)
+    go n is (Some t) e =
+        let read : ReadsOne (Gives bits) t (Some n) = subst (ReadsOne (Gives bits) t) is (value t e) in
+        (t, sym (one_text-rows f id) ∙ e, read.0.0.0, sym read.0.1)
 
 -- an argument that has a number in its range is read as one
-pub number_given : {E : Type 0} (bits least most : ℕ) (gives : List ℕ → Result ℕ E → Type 0) (f : Found) (id : Text) (r : Option ℕ)
-    → ((t : List ℕ) (x : Result ℕ E) → gives t x → ParsesUnsigned bits 10 t x)
-    → most < 2 ^ bits
-    → ((t : List ℕ) → one_text f id ≡ Some t → ReadsOne gives t r)
+pub number_given : (bits least most : ℕ) (f : Found) (id : Text) (r : Option ℕ)
+    → most < 2 ^ bits → ((t : List ℕ) → one_text f id ≡ Some t → ReadsOne (Gives bits) t r)
     → HasNumber id least most (rows_of f) → (n : ℕ) × (r ≡ Some n) × ((least ≤ n) × (n ≤ most))
-number_given {E = E} bits least most gives f id r parses fits value has =
+number_given bits least most f id r fits value has =
     let read = value (without_minus has.0) (one_text-rows f id ∙ has.1) in
-    let number = signed_reads E gives bits least most has.0 r read parses fits has.2 in
+    let number = signed_reads ParseIntError (Gives bits) bits least most has.0 r read (λ t x h. h.0) fits has.2 in
     (number.0, number.1, (number.2, number.3))
 
 -- and then the code that reads it fails in no way

@@ -159,25 +159,17 @@ number_at : (id : Text) (least most : ℕ) (rows : List Row) (r : Row) (v : Text
 number_at id least most rows r v found at number =
     (v, ap (option_and_then row_text) found ∙ ap₂ (λ how o. option_map (read_as how) o) number.0 at, number.1)
 
-port_given : (rows : List Row) → Each HoldsValue rows → is_given (codes "port") rows ≡ true → HasNumber (codes "port") 1 65535 rows
-port_given rows each given = go (find (λ r. bytes_eq r.id (codes "port")) rows) refl given
+-- what the rows say of a number that is given
+number_given : (id : Text) (least most : ℕ) → ((r : Row) (good : HoldsValue r) → IsNumberRow r good.0 id least most) → (rows : List Row)
+    → Each HoldsValue rows → is_given id rows ≡ true → HasNumber id least most rows
+number_given id least most is_number rows each given = go (find (λ r. bytes_eq r.id id) rows) refl given
   where
-    go : (o : Option Row) → find (λ r. bytes_eq r.id (codes "port")) rows ≡ o → option_map_or (λ r. explicit_source r.source) o false ≡ true
-        → HasNumber (codes "port") 1 65535 rows
+    go : (o : Option Row) → find (λ r. bytes_eq r.id id) rows ≡ o → option_map_or (λ r. explicit_source r.source) o false ≡ true
+        → HasNumber id least most rows
     go None found given = absurd (cc)
     go (Some r) found given =
-        let good = found_holds HoldsValue (λ r. bytes_eq r.id (codes "port")) rows r each found in
-        number_at (codes "port") 1 65535 rows r good.0.0 found good.0.1 (good.0.2 ((bytes_eq-Decides r.id (codes "port")).0 good.1))
-
-within_given : (rows : List Row) → Each HoldsValue rows → is_given (codes "within") rows ≡ true → HasNumber (codes "within") 0 36500 rows
-within_given rows each given = go (find (λ r. bytes_eq r.id (codes "within")) rows) refl given
-  where
-    go : (o : Option Row) → find (λ r. bytes_eq r.id (codes "within")) rows ≡ o → option_map_or (λ r. explicit_source r.source) o false ≡ true
-        → HasNumber (codes "within") 0 36500 rows
-    go None found given = absurd (cc)
-    go (Some r) found given =
-        let good = found_holds HoldsValue (λ r. bytes_eq r.id (codes "within")) rows r each found in
-        number_at (codes "within") 0 36500 rows r good.0.0 found good.0.1 (good.0.4 ((bytes_eq-Decides r.id (codes "within")).0 good.1))
+        let good = found_holds HoldsValue (λ r. bytes_eq r.id id) rows r each found in
+        number_at id least most rows r good.0.0 found good.0.1 (is_number r good.0 ((bytes_eq-Decides r.id id).0 good.1))
 
 connections_given : (rows : List Row) → Each HoldsValue rows → MayHaveNumber (codes "connections") 1 1000000 rows
 connections_given rows each = go (find (λ r. bytes_eq r.id (codes "connections")) rows) refl
@@ -266,7 +258,7 @@ init_gives words none =
 serve_gives : GivesJob (sub_of serve_app)
 serve_gives words none =
     let held = leaf_rows (sub_of serve_app) (file_keeps, (port_keeps, (connections_keeps, (log_keeps, (help_flag_keeps, tt))))) refl words none in
-    (text_given _ _ held.0 (held.1.0 refl), port_given _ held.0 (held.1.1.0 refl), connections_given _ held.0)
+    (text_given _ _ held.0 (held.1.0 refl), number_given (codes "port") 1 65535 (λ r good. good.2) _ held.0 (held.1.1.0 refl), connections_given _ held.0)
 
 request_gives : GivesJob (sub_of request_app)
 request_gives words none =
@@ -325,7 +317,7 @@ due_gives words none =
       source_keeps,
       (within_keeps, (help_flag_keeps, tt)),
     ) refl words none in
-    (text_given _ _ held.0 (held.1.0 refl), within_given _ held.0 (held.1.1.0 refl))
+    (text_given _ _ held.0 (held.1.0 refl), number_given (codes "within") 0 36500 (λ r good. good.4) _ held.0 (held.1.1.0 refl))
 
 check_gives : GivesJob (sub_of check_app)
 check_gives words none =
@@ -373,50 +365,18 @@ help_not_entered p answers elsewhere none = absurd (not_help (bytes_eq (codes "h
     not_help true is e = different p.0 (codes "help") elsewhere (sym ((bytes_eq-Decides (codes "help") p.0).0 is))
     not_help false is e = true≢false (sym e)
 
+-- one more subcommand that gives a job
+also : {Others : Type 0} (a : App) → GivesJob (sub_of a) → Others → GivesJobUnlessHelp (sub_of a) × Others
+also a gives others = ((λ p answers elsewhere none. gives p.1 none), others)
+
 each_gives : Each GivesJobUnlessHelp (built office_app).subs
-each_gives = (
-  (λ p answers elsewhere none. script_gives p.1 none),
-  (
-    (λ p answers elsewhere none. import_gives p.1 none),
-    (
-      (λ p answers elsewhere none. init_gives p.1 none),
-      (
-        (λ p answers elsewhere none. serve_gives p.1 none),
-        (
-          (λ p answers elsewhere none. request_gives p.1 none),
-          (
-            (λ p answers elsewhere none. define_gives p.1 none),
-            (
-              (λ p answers elsewhere none. listing_gives p.1 none),
-              (
-                (λ p answers elsewhere none. due_gives p.1 none),
-                (
-                  (λ p answers elsewhere none. publish_gives p.1 none),
-                  (
-                    (λ p answers elsewhere none. verify_gives p.1 none),
-                    (
-                      (λ p answers elsewhere none. check_gives p.1 none),
-                      (
-                        (λ p answers elsewhere none. copy_gives p.1 none),
-                        (
-                          (λ p answers elsewhere none. tokens_gives p.1 none),
-                          (
-                            (λ p answers elsewhere none. revoke_gives p.1 none),
-                            (help_not_entered, tt),
-                          ),
-                        ),
-                      ),
-                    ),
-                  ),
-                ),
-              ),
-            ),
-          ),
-        ),
-      ),
-    ),
-  ),
-)
+each_gives =
+    let help : Each GivesJobUnlessHelp (built_leaf help_shape ∷ []) = (help_not_entered, tt) in
+    also script_app script_gives (also import_app import_gives (also init_app init_gives
+    (also serve_app serve_gives (also request_app request_gives (also define_app define_gives
+    (also listing_app listing_gives (also due_app due_gives (also publish_app publish_gives
+    (also verify_app verify_gives (also check_app check_gives (also copy_app copy_gives
+    (also tokens_app tokens_gives (also revoke_app revoke_gives help)))))))))))))
 
 -- words that a command takes enter a subcommand that gives a job
 app_gives : (a : App) (words : List Text) → a.top.subcommand_required ≡ true → a.top.disable_help_subcommand ≡ false → Each GivesJobUnlessHelp a.subs

@@ -17,8 +17,8 @@ use Rattle.reg_jobs.specs.declared.jobs.Which.{Which}
 use Rattle.reg_jobs.specs.declared.jobs.Which.TheVariants.{Digest, Account}
 
 -- the value of an argument is this text
-abbrev pub IsTextOf : Text → List Row → Text → Type 0
-IsTextOf id rows text = first_of id rows ≡ Some text
+abbrev pub IsArgumentOf : Text → List Row → Text → Type 0
+IsArgumentOf id rows text = first_of id rows ≡ Some text
 
 -- whether an option with no value was used
 abbrev pub is_used : Text → List Row → Bool
@@ -38,10 +38,10 @@ IsCountOf rows count = ((first_of (codes "connections") rows ≡ None) × (count
 -- one of both says which capabilities are taken away
 abbrev pub IsWhichOf : List Row → Which → Type 0
 IsWhichOf rows (Digest digits) =
-    IsTextOf (codes "digest") rows (string_bytes digits)
+    IsArgumentOf (codes "digest") rows (string_bytes digits)
     × (first_of (codes "account") rows ≡ None)
 IsWhichOf rows (Account account) =
-    IsTextOf (codes "account") rows (string_bytes account)
+    IsArgumentOf (codes "account") rows (string_bytes account)
     × (first_of (codes "digest") rows ≡ None)
 
 -- none of both says it, or both do
@@ -50,73 +50,73 @@ IsUnclear rows =
     is_some (first_of (codes "digest") rows) ≡ is_some (first_of (codes "account") rows)
 
 -- the address of an office that is served on this machine
-abbrev pub IsServed : Text → Type 0
-IsServed source = (port : Text) × (source ≡ codes "http://127.0.0.1:" ++ port)
+abbrev pub IsAddress : Text → Type 0
+IsAddress source = (port : Text) × (source ≡ codes "http://127.0.0.1:" ++ port)
 
 -- a token is said just where the office is served
 abbrev pub IsTokenFor : Text → Option Text → Type 0
-IsTokenFor source (Some token) = IsServed source
-IsTokenFor source None = IsServed source → ⊥
+IsTokenFor source (Some token) = IsAddress source
+IsTokenFor source None = IsAddress source → ⊥
 
 -- a token is said of an office in a file, or none of one that is served
 abbrev pub IsMisplaced : List Row → Type 0
-IsMisplaced rows = (source : Text) × IsTextOf (codes "SOURCE") rows source
+IsMisplaced rows = (source : Text) × IsArgumentOf (codes "SOURCE") rows source
     × (IsTokenFor source (first_of (codes "token") rows) → ⊥)
 
 -- the job of this name, with the values of its arguments
 abbrev pub IsJobOf : Text → List Row → Job → Type 0
 IsJobOf name rows (Script clerk file) =
-    (name ≡ codes "script") × IsTextOf (codes "clerk") rows (string_bytes clerk)
+    (name ≡ codes "script") × IsArgumentOf (codes "clerk") rows (string_bytes clerk)
     × (first_of (codes "file") rows ≡ option_map string_bytes file)
 IsJobOf name rows (Import order) =
-    (name ≡ codes "import") × IsTextOf (codes "CSV") rows (string_bytes order.register)
-    × IsTextOf (codes "NAME") rows (string_bytes order.name)
-    × IsTextOf (codes "clerk") rows (string_bytes order.clerk)
-    × IsTextOf (codes "expert") rows (string_bytes order.expert)
+    (name ≡ codes "import") × IsArgumentOf (codes "CSV") rows (string_bytes order.register)
+    × IsArgumentOf (codes "NAME") rows (string_bytes order.name)
+    × IsArgumentOf (codes "clerk") rows (string_bytes order.clerk)
+    × IsArgumentOf (codes "expert") rows (string_bytes order.expert)
 IsJobOf name rows (Init file clerk) =
-    (name ≡ codes "init") × IsTextOf (codes "FILE") rows (string_bytes file)
-    × IsTextOf (codes "clerk") rows (string_bytes clerk)
+    (name ≡ codes "init") × IsArgumentOf (codes "FILE") rows (string_bytes file)
+    × IsArgumentOf (codes "clerk") rows (string_bytes clerk)
 IsJobOf name rows (Serve service) =
-    (name ≡ codes "serve") × IsTextOf (codes "FILE") rows (string_bytes service.file)
+    (name ≡ codes "serve") × IsArgumentOf (codes "FILE") rows (string_bytes service.file)
     × IsNumberOf (codes "port") rows service.port
     × IsCountOf rows service.connections
     × (service.log ≡ is_used (codes "log") rows)
 IsJobOf name rows (Request request) =
-    (name ≡ codes "request") × IsTextOf (codes "SOURCE") rows (string_bytes request.source)
-    × IsTextOf (codes "METHOD") rows (string_bytes request.method)
-    × IsTextOf (codes "PATH") rows (string_bytes request.path)
+    (name ≡ codes "request") × IsArgumentOf (codes "SOURCE") rows (string_bytes request.source)
+    × IsArgumentOf (codes "METHOD") rows (string_bytes request.method)
+    × IsArgumentOf (codes "PATH") rows (string_bytes request.path)
     × (first_of (codes "BODY") rows ≡ option_map string_bytes request.body)
     × (first_of (codes "token") rows ≡ option_map string_bytes request.token)
 IsJobOf name rows (Define order) =
-    (name ≡ codes "define") × IsTextOf (codes "SOURCE") rows (string_bytes order.source)
-    × IsTextOf (codes "NAME") rows (string_bytes order.name)
-    × IsTextOf (codes "MAX") rows (string_bytes order.max)
-    × IsTextOf (codes "CSV") rows (string_bytes order.ranges)
-    × IsTextOf (codes "clerk") rows (string_bytes order.clerk)
+    (name ≡ codes "define") × IsArgumentOf (codes "SOURCE") rows (string_bytes order.source)
+    × IsArgumentOf (codes "NAME") rows (string_bytes order.name)
+    × IsArgumentOf (codes "MAX") rows (string_bytes order.max)
+    × IsArgumentOf (codes "CSV") rows (string_bytes order.ranges)
+    × IsArgumentOf (codes "clerk") rows (string_bytes order.clerk)
 IsJobOf name rows (Listing source registry) =
-    (name ≡ codes "listing") × IsTextOf (codes "SOURCE") rows (string_bytes source)
+    (name ≡ codes "listing") × IsArgumentOf (codes "SOURCE") rows (string_bytes source)
     × (first_of (codes "registry") rows ≡ option_map string_bytes registry)
 IsJobOf name rows (Publish order) =
-    (name ≡ codes "publish") × IsTextOf (codes "SOURCE") rows (string_bytes order.source)
-    × IsTextOf (codes "FOLDER") rows (string_bytes order.folder)
+    (name ≡ codes "publish") × IsArgumentOf (codes "SOURCE") rows (string_bytes order.source)
+    × IsArgumentOf (codes "FOLDER") rows (string_bytes order.folder)
     × (first_of (codes "notes") rows ≡ option_map string_bytes order.notes)
 IsJobOf name rows (Verify folder digest) =
-    (name ≡ codes "verify") × IsTextOf (codes "FOLDER") rows (string_bytes folder)
+    (name ≡ codes "verify") × IsArgumentOf (codes "FOLDER") rows (string_bytes folder)
     × (first_of (codes "digest") rows ≡ option_map string_bytes digest)
 IsJobOf name rows (Due source within) =
-    (name ≡ codes "due") × IsTextOf (codes "SOURCE") rows (string_bytes source)
+    (name ≡ codes "due") × IsArgumentOf (codes "SOURCE") rows (string_bytes source)
     × IsNumberOf (codes "within") rows within
 IsJobOf name rows (Check file) =
-    (name ≡ codes "check") × IsTextOf (codes "FILE") rows (string_bytes file)
+    (name ≡ codes "check") × IsArgumentOf (codes "FILE") rows (string_bytes file)
 IsJobOf name rows (Copy file folder) =
-    (name ≡ codes "copy") × IsTextOf (codes "FILE") rows (string_bytes file)
-    × IsTextOf (codes "FOLDER") rows (string_bytes folder)
+    (name ≡ codes "copy") × IsArgumentOf (codes "FILE") rows (string_bytes file)
+    × IsArgumentOf (codes "FOLDER") rows (string_bytes folder)
 IsJobOf name rows (Tokens source token) =
-    (name ≡ codes "tokens") × IsTextOf (codes "SOURCE") rows (string_bytes source)
+    (name ≡ codes "tokens") × IsArgumentOf (codes "SOURCE") rows (string_bytes source)
     × (first_of (codes "token") rows ≡ option_map string_bytes token)
     × IsTokenFor (string_bytes source) (option_map string_bytes token)
 IsJobOf name rows (Revoke source token which) =
-    (name ≡ codes "revoke") × IsTextOf (codes "SOURCE") rows (string_bytes source)
+    (name ≡ codes "revoke") × IsArgumentOf (codes "SOURCE") rows (string_bytes source)
     × (first_of (codes "token") rows ≡ option_map string_bytes token)
     × IsTokenFor (string_bytes source) (option_map string_bytes token)
     × IsWhichOf rows which
@@ -130,8 +130,8 @@ IsAskedBy Version kind = kind ≡ DisplayVersion
 IsAskedBy _ kind = ⊥
 
 -- the fault is no question for help, nor for the version
-abbrev pub IsOther : ErrorKind → Type 0
-IsOther kind = (kind ≡ DisplayHelp → ⊥) × (kind ≡ DisplayVersion → ⊥)
+abbrev pub IsNoQuestion : ErrorKind → Type 0
+IsNoQuestion kind = (kind ≡ DisplayHelp → ⊥) × (kind ≡ DisplayVersion → ⊥)
 
 abbrev pub IsFromOneTo : ℕ → ℕ → Type 0
 IsFromOneTo most number = (1 ≤ number) × (number ≤ most)
@@ -145,7 +145,7 @@ IsInRange _ = ⊤
 
 -- the argument has a value
 abbrev pub HasText : Text → List Row → Type 0
-HasText id rows = (text : Text) × IsTextOf id rows text
+HasText id rows = (text : Text) × IsArgumentOf id rows text
 
 -- the argument has a value, which is a number from the least to the most
 abbrev pub HasNumber : Text → ℕ → ℕ → List Row → Type 0
@@ -211,16 +211,16 @@ IsUnclearJob name rows =
 
 -- the words are taken, name a job, and it is this one; or they ask for help, or for the version, and
 -- that is printed
-abbrev pub IsAsked : List Text → Job → Type 0
-IsAsked words job =
+abbrev pub WordsAsk : List Text → Job → Type 0
+WordsAsk words job =
     ((met : Text × List Row) × (subcommand_of office_app words ≡ Some met)
     × IsJobOf met.0 met.1 job × IsInRange job × (fault_of office_app words ≡ []))
     ⊎ ((kind : ErrorKind) × IsAskedBy job kind × IsAmong kind (fault_of office_app words))
 
 -- the words are refused, by a fault other than that they ask for help or for the version; or they are
 -- taken, and ask for capabilities, and not clearly for which
-abbrev pub IsRefused : List Text → Type 0
-IsRefused words =
-    ((fault : ErrorKind) × IsAmong fault (fault_of office_app words) × IsOther fault)
+abbrev pub WordsAreRefused : List Text → Type 0
+WordsAreRefused words =
+    ((fault : ErrorKind) × IsAmong fault (fault_of office_app words) × IsNoQuestion fault)
     ⊎ ((met : Text × List Row) × (subcommand_of office_app words ≡ Some met)
     × IsUnclearJob met.0 met.1 × (fault_of office_app words ≡ []))

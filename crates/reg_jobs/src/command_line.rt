@@ -3,7 +3,7 @@ ghost use Rattle.std.specs.Prelude.{◌≡◌, ◌≤◌, ◌⊎◌, IfErr, IfOk
 ghost use Rattle.std.specs.String.{string_bytes};
 ghost use Rattle.clap.specs.Words.{Row, Text, first_of, found_of, kind_of, rows_of, subcommand_rows_of};
 ghost use Rattle.clap.specs.declared.error.kind.ErrorKind.TheVariants.{OutOfMemory};
-ghost use Rattle.reg_jobs.specs.Asking.{HasJob, HasNumber, HasText, IsAsked, IsAskedBy, IsCountOf, IsFromOneTo, IsInRange, IsJobOf, IsMisplaced, IsNumberOf, IsOther, IsRefused, IsServed, IsTextOf, IsTokenFor, IsUnclear, IsUnclearJob, IsWhichOf, MayHaveNumber, is_used};
+ghost use Rattle.reg_jobs.specs.Asking.{HasJob, HasNumber, HasText, WordsAsk, IsAskedBy, IsCountOf, IsFromOneTo, IsInRange, IsJobOf, IsMisplaced, IsNumberOf, IsNoQuestion, WordsAreRefused, IsAddress, IsArgumentOf, IsTokenFor, IsUnclear, IsUnclearJob, IsWhichOf, MayHaveNumber, is_used};
 ghost use Rattle.reg_jobs.specs.declared.jobs.JobFault.TheVariants.{Line, Memory};
 
 use crate::definition::{MOST_CONNECTIONS, office};
@@ -17,9 +17,9 @@ use std::alloc::{AllocError, Global};
 /// The job that the words of a command line ask for, the program's own name first. `Line` where
 /// they are no command line of the program.
 pub fn job(alloc: Global, words: &[&str]) -> Result<Job, JobFault>
-    ensures asked { IfOk result (IsAsked (map (λ word. word.now) words.now)) }
+    ensures asked { IfOk result (WordsAsk (map (λ word. word.now) words.now)) }
     ensures line { IfErr result (λ fault. fault ≡ Line
-        → IsRefused (map (λ word. word.now) words.now)) }
+        → WordsAreRefused (map (λ word. word.now) words.now)) }
 {
     match office(alloc)?.try_get_matches_from(words) {
         Ok(matches) => {
@@ -35,7 +35,7 @@ pub fn job(alloc: Global, words: &[&str]) -> Result<Job, JobFault>
 fn answer_to(alloc: Global, error: &Error) -> Result<Job, JobFault>
     ensures asked { IfOk result (λ job. IsAskedBy job (kind_of error.now)) }
     ensures memory { IfErr result (λ fault. kind_of error.now ≡ OutOfMemory → fault ≡ Memory) }
-    ensures line { IfErr result (λ fault. fault ≡ Line → IsOther (kind_of error.now)) }
+    ensures line { IfErr result (λ fault. fault ≡ Line → IsNoQuestion (kind_of error.now)) }
 {
     match error.kind() {
         ErrorKind::DisplayHelp => Ok(Job::Help {
@@ -90,10 +90,7 @@ fn script_of(alloc: Global, matches: &ArgMatches) -> Result<Job, JobFault>
 
 fn import_of(alloc: Global, matches: &ArgMatches) -> Result<Job, JobFault>
     ensures said { IfOk result (IsJobOf (codes "import") (rows_of (found_of matches.now))) }
-    ensures given { HasText (codes "CSV") (rows_of (found_of matches.now))
-        → HasText (codes "NAME") (rows_of (found_of matches.now))
-        → HasText (codes "clerk") (rows_of (found_of matches.now))
-        → HasText (codes "expert") (rows_of (found_of matches.now))
+    ensures given { HasJob (codes "import") (rows_of (found_of matches.now))
         → MatchResult result IsInRange (λ fault. fault ≡ Memory) }
 {
     Ok(Job::Import(Importation {
@@ -118,9 +115,7 @@ fn init_of(alloc: Global, matches: &ArgMatches) -> Result<Job, JobFault>
 
 fn serve_of(alloc: Global, matches: &ArgMatches) -> Result<Job, JobFault>
     ensures said { IfOk result (IsJobOf (codes "serve") (rows_of (found_of matches.now))) }
-    ensures given { HasText (codes "FILE") (rows_of (found_of matches.now))
-        → HasNumber (codes "port") 1 65535 (rows_of (found_of matches.now))
-        → MayHaveNumber (codes "connections") 1 1000000 (rows_of (found_of matches.now))
+    ensures given { HasJob (codes "serve") (rows_of (found_of matches.now))
         → MatchResult result IsInRange (λ fault. fault ≡ Memory) }
 {
     Ok(Job::Serve(Service {
@@ -161,11 +156,7 @@ fn said_connections(matches: &ArgMatches) -> Result<u32, JobFault>
 
 fn define_of(alloc: Global, matches: &ArgMatches) -> Result<Job, JobFault>
     ensures said { IfOk result (IsJobOf (codes "define") (rows_of (found_of matches.now))) }
-    ensures given { HasText (codes "SOURCE") (rows_of (found_of matches.now))
-        → HasText (codes "NAME") (rows_of (found_of matches.now))
-        → HasText (codes "MAX") (rows_of (found_of matches.now))
-        → HasText (codes "CSV") (rows_of (found_of matches.now))
-        → HasText (codes "clerk") (rows_of (found_of matches.now))
+    ensures given { HasJob (codes "define") (rows_of (found_of matches.now))
         → MatchResult result IsInRange (λ fault. fault ≡ Memory) }
 {
     Ok(Job::Define(Definition {
@@ -315,7 +306,7 @@ fn token_for(alloc: Global, matches: &ArgMatches, source: &str) -> Result<Option
 
 // Whether this is the address of an office that is served.
 fn is_served(source: &str) -> bool
-    ensures { MatchBool result (IsServed source.now) (IsServed source.now → ⊥) }
+    ensures { MatchBool result (IsAddress source.now) (IsAddress source.now → ⊥) }
 {
     match source.strip_prefix(SERVED) {
         Some(_) => true,
@@ -365,7 +356,7 @@ fn optional_text(
 
 // The value of an argument that has to be there.
 fn text(alloc: Global, matches: &ArgMatches, id: &str) -> Result<String, JobFault>
-    ensures said { IfOk result (λ text. IsTextOf id.now (rows_of (found_of matches.now)) (string_bytes text)) }
+    ensures said { IfOk result (λ text. IsArgumentOf id.now (rows_of (found_of matches.now)) (string_bytes text)) }
     ensures given { HasText id.now (rows_of (found_of matches.now)) → IfErr result (λ fault. fault ≡ Memory) }
 {
     let text = matches.get_str(id).ok_or(JobFault::Line)?;

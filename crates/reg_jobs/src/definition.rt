@@ -75,6 +75,7 @@ fn command<'a>(alloc: Global, name: &'a str, about: &'a str, example: &'a str) -
 }
 
 // A command whose first word is an office's file.
+#[tactic(auto, using(crate::proofs::Adding::adding))]
 fn file_command<'a>(
     alloc: Global,
     name: &'a str,
@@ -88,6 +89,7 @@ fn file_command<'a>(
 }
 
 // A command whose first word is an office's file, or where it is served.
+#[tactic(auto, using(crate::proofs::Adding::adding))]
 fn source_command<'a>(
     alloc: Global,
     name: &'a str,
@@ -102,6 +104,7 @@ fn source_command<'a>(
 
 // A command whose first words are an office's file, or where it is served, and these two, each by its
 // name and its help.
+#[tactic(auto, using(crate::proofs::Adding::adding))]
 fn words_command<'a>(
     alloc: Global,
     name: &'a str,
@@ -119,6 +122,7 @@ fn words_command<'a>(
         .arg(place(alloc, second.0, second.1))
 }
 
+#[tactic(auto, using(crate::proofs::Adding::adding))]
 fn script<'a>(alloc: Global) -> Result<Command<'a>, AllocError>
     ensures shape { IfOk result (λ c. app_of c ≡ script_app) }
     ensures local { IfOk result (λ c. (out-Command c).has_globals ≡ false) }
@@ -128,6 +132,7 @@ fn script<'a>(alloc: Global) -> Result<Command<'a>, AllocError>
         .arg(option(alloc, "file", "FILE", "The office's file"))
 }
 
+#[tactic(auto, using(crate::proofs::Adding::adding))]
 fn import<'a>(alloc: Global) -> Result<Command<'a>, AllocError>
     ensures shape { IfOk result (λ c. app_of c ≡ import_app) }
     ensures local { IfOk result (λ c. (out-Command c).has_globals ≡ false) }
@@ -138,6 +143,7 @@ fn import<'a>(alloc: Global) -> Result<Command<'a>, AllocError>
 }
 
 // The command `import` with its first words, which say which register, and of which registry.
+#[tactic(auto, using(crate::proofs::Adding::adding))]
 fn register_command<'a>(alloc: Global) -> Result<Command<'a>, AllocError>
     ensures shape { IfOk result (λ c. app_of c ≡ register_app) }
     ensures local { IfOk result (λ c. (out-Command c).has_globals ≡ false) }
@@ -151,6 +157,7 @@ fn register_command<'a>(alloc: Global) -> Result<Command<'a>, AllocError>
         ))
 }
 
+#[tactic(auto, using(crate::proofs::Adding::adding))]
 fn init<'a>(alloc: Global) -> Result<Command<'a>, AllocError>
     ensures shape { IfOk result (λ c. app_of c ≡ init_app) }
     ensures local { IfOk result (λ c. (out-Command c).has_globals ≡ false) }
@@ -158,6 +165,7 @@ fn init<'a>(alloc: Global) -> Result<Command<'a>, AllocError>
     file_command(alloc, "init", help::INIT_ABOUT, help::INIT_EXAMPLE)?.arg(clerk(alloc))
 }
 
+#[tactic(auto, using(crate::proofs::Adding::adding))]
 fn serve<'a>(alloc: Global) -> Result<Command<'a>, AllocError>
     ensures shape { IfOk result (λ c. app_of c ≡ serve_app) }
     ensures local { IfOk result (λ c. (out-Command c).has_globals ≡ false) }
@@ -172,6 +180,7 @@ fn serve<'a>(alloc: Global) -> Result<Command<'a>, AllocError>
         ))
 }
 
+#[tactic(auto, using(crate::proofs::Adding::adding))]
 fn define<'a>(alloc: Global) -> Result<Command<'a>, AllocError>
     ensures shape { IfOk result (λ c. app_of c ≡ define_app) }
     ensures local { IfOk result (λ c. (out-Command c).has_globals ≡ false) }
@@ -196,6 +205,7 @@ fn registry_command<'a>(alloc: Global) -> Result<Command<'a>, AllocError>
     )
 }
 
+#[tactic(auto, using(crate::proofs::Adding::adding))]
 fn listing<'a>(alloc: Global) -> Result<Command<'a>, AllocError>
     ensures shape { IfOk result (λ c. app_of c ≡ listing_app) }
     ensures local { IfOk result (λ c. (out-Command c).has_globals ≡ false) }
@@ -208,6 +218,7 @@ fn listing<'a>(alloc: Global) -> Result<Command<'a>, AllocError>
     ))
 }
 
+#[tactic(auto, using(crate::proofs::Adding::adding))]
 fn request<'a>(alloc: Global) -> Result<Command<'a>, AllocError>
     ensures shape { IfOk result (λ c. app_of c ≡ request_app) }
     ensures local { IfOk result (λ c. (out-Command c).has_globals ≡ false) }
@@ -241,6 +252,7 @@ fn path_command<'a>(alloc: Global) -> Result<Command<'a>, AllocError>
     )
 }
 
+#[tactic(auto, using(crate::proofs::Adding::adding))]
 fn publish<'a>(alloc: Global) -> Result<Command<'a>, AllocError>
     ensures shape { IfOk result (λ c. app_of c ≡ publish_app) }
     ensures local { IfOk result (λ c. (out-Command c).has_globals ≡ false) }
@@ -255,6 +267,7 @@ fn publish<'a>(alloc: Global) -> Result<Command<'a>, AllocError>
         ))
 }
 
+#[tactic(auto, using(crate::proofs::Adding::adding))]
 fn verify<'a>(alloc: Global) -> Result<Command<'a>, AllocError>
     ensures shape { IfOk result (λ c. app_of c ≡ verify_app) }
     ensures local { IfOk result (λ c. (out-Command c).has_globals ≡ false) }
@@ -269,6 +282,7 @@ fn verify<'a>(alloc: Global) -> Result<Command<'a>, AllocError>
         ))
 }
 
+#[tactic(auto, using(crate::proofs::Adding::adding))]
 fn due<'a>(alloc: Global) -> Result<Command<'a>, AllocError>
     ensures shape { IfOk result (λ c. app_of c ≡ due_app) }
     ensures local { IfOk result (λ c. (out-Command c).has_globals ≡ false) }
@@ -283,6 +297,7 @@ fn check<'a>(alloc: Global) -> Result<Command<'a>, AllocError>
     file_command(alloc, "check", help::CHECK_ABOUT, help::CHECK_EXAMPLE)
 }
 
+#[tactic(auto, using(crate::proofs::Adding::adding))]
 fn copy<'a>(alloc: Global) -> Result<Command<'a>, AllocError>
     ensures shape { IfOk result (λ c. app_of c ≡ copy_app) }
     ensures local { IfOk result (λ c. (out-Command c).has_globals ≡ false) }
@@ -290,6 +305,7 @@ fn copy<'a>(alloc: Global) -> Result<Command<'a>, AllocError>
     file_command(alloc, "copy", help::COPY_ABOUT, help::COPY_EXAMPLE)?.arg(folder(alloc))
 }
 
+#[tactic(auto, using(crate::proofs::Adding::adding))]
 fn tokens<'a>(alloc: Global) -> Result<Command<'a>, AllocError>
     ensures shape { IfOk result (λ c. app_of c ≡ tokens_app) }
     ensures local { IfOk result (λ c. (out-Command c).has_globals ≡ false) }
@@ -297,6 +313,7 @@ fn tokens<'a>(alloc: Global) -> Result<Command<'a>, AllocError>
     source_command(alloc, "tokens", help::TOKENS_ABOUT, help::TOKENS_EXAMPLE)?.arg(token(alloc))
 }
 
+#[tactic(auto, using(crate::proofs::Adding::adding))]
 fn revoke<'a>(alloc: Global) -> Result<Command<'a>, AllocError>
     ensures shape { IfOk result (λ c. app_of c ≡ revoke_app) }
     ensures local { IfOk result (λ c. (out-Command c).has_globals ≡ false) }

@@ -1,16 +1,11 @@
 -- How what an account sees of agents and principals changes with what it says of an agent.
 use Rattle.std.proofs.Common.{◌≡◌, ℕ, Bool, true, false, cond, List, refl, ap, ◌∙◌}
 use Rattle.std.specs.Prelude.{Option, Some, None, is_some}
-use Rattle.std.specs.Ordering.{eq_by_cmp}
-use Rattle.std.specs.FinMap.{get, contains_key}
+use Rattle.reg_decisions.proofs.Common.{eq_by_cmp, get, contains_key, both_ways, same_text, only_if, select}
+use Rattle.reg_decisions.proofs.Common.{principals_of, principal_rows_of, link_keys, same_text-itself}
 use Rattle.std.specs.FinSet.{FinSet}
-use Rattle.std.proofs.lemmas.Bool.{both_ways}
-use Rattle.reg_maps.specs.Maps.{same_text, only_if, select}
 use Rattle.reg_maps.proofs.MapLaws.{tied, get-at_insert, get-at_remove, select-insert_same, select-remove_same, select-insert_unchosen, select-remove_unchosen}
-use Rattle.reg_core.specs.View.{principals_of, principal_rows_of}
 use Rattle.reg_core.specs.World.{World, Link, link_cmp, with_link}
-use Rattle.reg_core.proofs.SamenessIsDecided.{same_text-itself}
-use Rattle.reg_core.proofs.KeyOrders.{link_keys}
 
 -- whether the link is there, after it or another one was added or taken away
 pub there_after : (reads : Bool) (link : Link) (links : FinSet link_cmp) (q : Link)

@@ -2,38 +2,20 @@
 -- the permanence of an entry that is not the account's own, whoever has it.
 use Rattle.std.proofs.Common.{◌≡◌, ℕ, Bool, true, false, List, refl, sym, ap, subst, ◌∙◌}
 use Rattle.std.specs.Prelude.{Option, Some, None, Result, Ok, Err, is_some, option_map, if◌then◌else◌}
-use Rattle.std.specs.FinMap.{FinMap, get}
-use Rattle.std.proofs.lemmas.Slice.Eq.{bytes_eq-Decides}
-use Rattle.reg_maps.specs.Maps.{same_text}
-use Rattle.reg_early.specs.EarlyRequirements.{early_unmet}
-use Rattle.reg_early.specs.Moment.{is_in_clock}
-use Rattle.reg_ranges.specs.Requirements.{first_item, unmet}
-use Rattle.reg_ranges.specs.Tables.{Table}
+use Rattle.reg_decisions.proofs.Common.{FinMap, get, bytes_eq-Decides, same_text, early_unmet, is_in_clock}
+use Rattle.reg_decisions.proofs.Common.{first_item, unmet, Table, Answer, admitted, as_kind, by_rule}
+use Rattle.reg_decisions.proofs.Common.{change_of, made_row, reply_of, same_ask, submit_rule, answer_to}
+use Rattle.reg_decisions.proofs.Common.{published, Personal, personal, cap_at, with_personal, World, Place}
+use Rattle.reg_decisions.proofs.Common.{RequestName, place_cmp, applied_if, Ask, Want, Cap, Told, Decision}
+use Rattle.reg_decisions.proofs.Common.{Registration, Refusal, Case, Given, Same, by_test}
 use Rattle.reg_core.specs.Allowance.{◌>>=◌, or_refusal, policy_for, is_met, is_met_early, value_for, value_ground, own_entry, code_allowance, early_allowance, allowed}
-use Rattle.reg_core.specs.Answer.{Answer, admitted, as_kind, by_rule, change_of, made_row, reply_of}
-use Rattle.reg_core.specs.Ask.{same_ask}
 use Rattle.reg_core.specs.EarlyAllocations.{WantsNew, ExpiredValuesAreTaken, IsOfEntry, HasNoEntry, ForeignEntriesAreHidden}
-use Rattle.reg_core.specs.Rules.{submit_rule}
-use Rattle.reg_core.specs.Step.{answer_to}
-use Rattle.reg_core.specs.View.{published, Personal, personal, cap_at, with_personal}
-use Rattle.reg_core.specs.World.{World, Place, RequestName, place_cmp, applied_if}
-use Rattle.reg_core.specs.declared.ask.Ask.{Ask}
 use Rattle.reg_core.specs.declared.ask.Ask.TheVariants.{Code, Early, Renew, Permanent, Block}
-use Rattle.reg_core.specs.declared.ask.Want.{Want}
 use Rattle.reg_core.specs.declared.ask.Want.TheVariants.{Value}
-use Rattle.reg_core.specs.declared.capability.Cap.{Cap}
 use Rattle.reg_core.specs.declared.capability.Kind.TheVariants as kind
 use Rattle.reg_core.specs.declared.command.Command.TheVariants.{Applicant}
 use Rattle.reg_core.specs.declared.command.ApplicantCommand.TheVariants as applicant
-use Rattle.reg_core.specs.declared.told.Told.{Told}
-use Rattle.reg_core.specs.declared.decide.Decision.{Decision}
-use Rattle.reg_core.specs.declared.decide.Decision.TheVariants.{Same}
-use Rattle.reg_core.specs.declared.entry.Registration.{Registration}
-use Rattle.reg_core.specs.declared.refusal.Refusal.{Refusal}
 use Rattle.reg_core.specs.declared.refusal.Refusal.TheVariants as no
-use Rattle.reg_core.specs.declared.request.Case.{Case}
-use Rattle.reg_core.specs.declared.request.Given.{Given}
-use Rattle.reg_core.proofs.Cases.{by_test}
 use Rattle.reg_decisions.proofs.Outcomes.Dues.{changes_due}
 
 -- ---- Refusals in turn
@@ -87,9 +69,7 @@ module _ (w : World) (place : Place) (a : Registration)
       refuses_after (is_met_early (first_item (early_unmet policy ask.evidence))) _ (λ met.
       refuses_first (value_for rows table ask.want) _
       (taken ask.registry ask.want wants table)))))
-  in_vain account (Renew ask) wants = absurd wants
-  in_vain account (Permanent ask) wants = absurd wants
-  in_vain account (Block ask) wants = absurd wants
+  in_vain account ask wants = absurd wants
 
 pub expired_are_taken : (digest_of : List ℕ → List ℕ) → ExpiredValuesAreTaken digest_of
 expired_are_taken digest_of w caller moment command account reference ask place a stands wants =
@@ -143,9 +123,7 @@ refused_anyway w (Permanent ask) =
     refuses_after (or_refusal no.Registry (get w.registries ask.registry)) _ (λ table.
     refuses_after (policy_for table (Value ask.value)) _ (λ policy.
     refuses_after (is_met (first_item (unmet policy ask.evidence))) _ (λ met. no_entry)))
-refused_anyway w (Code ask) = no_entry
-refused_anyway w (Early ask) = no_entry
-refused_anyway w (Block ask) = no_entry
+refused_anyway w ask = no_entry
 
 -- where each outcome of a check goes on alike, so does the check
 same_after : {A B C : Type 0} (x : Result A Refusal) (f : A → Result B Refusal)
@@ -182,9 +160,7 @@ module _ (w : World) (account : List ℕ) (place : Place)
       same_after (is_met (first_item (unmet policy ask.evidence))) _ _ _ (λ met.
       nothing_after (own_entry account (get w.entries (ask.registry, ask.value))) _ _
       (none_own (ask.registry, ask.value) of))))
-  allowed_none (Code ask) of = absurd of
-  allowed_none (Early ask) of = absurd of
-  allowed_none (Block ask) of = absurd of
+  allowed_none ask of = absurd of
 
 -- what an account is answered that submits an ask which is allowed this
 abbrev submitted : List ℕ → Ask → Result Given Refusal → List ℕ → Personal → Answer
@@ -192,28 +168,33 @@ submitted reference ask allowance account my =
     by_rule (submit_rule allowance (account, reference) ask (get my.requests (account, reference)))
     (λ decision. made_row (account, reference) ask (get my.requests (account, reference)))
 
+-- what changes nothing for each account changes nothing for any caller, at any moment
+pub never_changes : (me : Option (Cap × Personal)) (moment : ℕ) (f : List ℕ → Personal → Answer)
+    → ((account : List ℕ) (my : Personal) → change_of (f account my) ≡ None)
+    → change_of (if is_in_clock moment then as_kind kind.Applicant me moment f else Err no.Clock)
+    ≡ None
+never_changes me moment f nothing =
+    by_test (λ a. change_of a ≡ None) (is_in_clock moment) (as_kind kind.Applicant me moment f)
+    (Err no.Clock) (λ now. asked me) (λ shut. refl)
+  where
+    after : (r : Result Cap Refusal) (account : List ℕ) (my : Personal)
+        → change_of (r >>= (λ (c : Cap). f account my)) ≡ None
+    after (Ok c) account my = nothing account my
+    after (Err refusal) account my = refl
+
+    asked : (me : Option (Cap × Personal)) → change_of (as_kind kind.Applicant me moment f) ≡ None
+    asked None = refl
+    asked (Some (cap, my)) = after (admitted (Some cap) moment kind.Applicant) cap.account my
+
 -- an ask that is refused changes nothing, nor does one that was submitted before
-module _ (reference : List ℕ) (ask : Ask) (allowance : Result Given Refusal)
-    (vain : Refuses allowance) (moment : ℕ) where
-  no_change_by : (name : RequestName) (told : Decision → Told) (existing : Option Case)
-      → change_of (by_rule (submit_rule allowance name ask existing) told) ≡ None
-  no_change_by name told (Some old) =
-      by_test (λ r. change_of (by_rule r told) ≡ None) (same_ask old.ask ask) (Ok Same)
-      (Err no.Ref) (λ same. refl) (λ other. refl)
-  no_change_by name told None =
-      subst (λ r. change_of (by_rule (submit_rule r name ask None) told) ≡ None) (sym vain.is) refl
-
-  no_change_after : (r : Result Cap Refusal) (account : List ℕ) (my : Personal)
-      → change_of (r >>= (λ (c : Cap). submitted reference ask allowance account my)) ≡ None
-  no_change_after (Ok c) account my =
-      no_change_by (account, reference) _ (get my.requests (account, reference))
-  no_change_after (Err refusal) account my = refl
-
-  no_change_of : (me : Option (Cap × Personal))
-      → change_of (as_kind kind.Applicant me moment (submitted reference ask allowance)) ≡ None
-  no_change_of None = refl
-  no_change_of (Some (cap, my)) =
-      no_change_after (admitted (Some cap) moment kind.Applicant) cap.account my
+refused_changes : (allowance : Result Given Refusal) → Refuses allowance → (name : RequestName)
+    (ask : Ask) (told : Decision → Told) (existing : Option Case)
+    → change_of (by_rule (submit_rule allowance name ask existing) told) ≡ None
+refused_changes allowance vain name ask told (Some old) =
+    by_test (λ r. change_of (by_rule r told) ≡ None) (same_ask old.ask ask) (Ok Same)
+    (Err no.Ref) (λ same. refl) (λ other. refl)
+refused_changes allowance vain name ask told None =
+    subst (λ r. change_of (by_rule (submit_rule r name ask None) told) ≡ None) (sym vain.is) refl
 
 module _ (digest_of : List ℕ → List ℕ) (w : World) (caller : Option (List ℕ)) (moment : ℕ)
     (reference : List ℕ) (ask : Ask) (place : Place) (of : IsOfEntry ask place) where
@@ -253,12 +234,9 @@ module _ (digest_of : List ℕ → List ℕ) (w : World) (caller : Option (List 
   -- which changes nothing
   no_change : change_of refused ≡ None
   no_change =
-      by_test (λ a. change_of a ≡ None) (is_in_clock moment)
-      (as_kind kind.Applicant me moment (submitted reference ask (without_entry w ask)))
-      (Err no.Clock)
-      (λ now.
-      no_change_of reference ask (without_entry w ask) (refused_anyway w ask) moment me)
-      (λ shut. refl)
+      never_changes me moment (submitted reference ask (without_entry w ask)) (λ account my.
+      refused_changes (without_entry w ask) (refused_anyway w ask) (account, reference) ask _
+      (get my.requests (account, reference)))
 
 pub foreign_are_hidden : (digest_of : List ℕ → List ℕ) → ForeignEntriesAreHidden digest_of
 foreign_are_hidden digest_of w v caller moment reference ask place of differ not_w not_v =

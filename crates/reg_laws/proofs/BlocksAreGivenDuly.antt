@@ -1,46 +1,29 @@
 -- Blocks are apart in every run, asks for them are served duly, and what is private of them stays
 -- hidden.
 use Rattle.std.proofs.Common.{◌≡◌, ℕ, Bool, true, false, List, refl, sym, ap, subst, ◌∙◌, inl, inr}
-use Rattle.std.specs.Prelude.{Option, Some, None, Result, Ok, Err, IsSome, is_some, option_map, option_and_then, ◌⊎◌, if◌then◌else◌}
-use Rattle.std.specs.Cmp.{first_so, second_so}
-use Rattle.std.specs.FinMap.{FinMap, get, contains_key}
-use Rattle.std.proofs.lemmas.Slice.Eq.{bytes_eq-Decides}
-use Rattle.reg_maps.specs.Maps.{same_text, only_if}
-use Rattle.reg_maps.proofs.MapLaws.{same_at, get-select}
-use Rattle.reg_blocks.specs.Block.{SizedPrefix, block_cmp, leading_24}
-use Rattle.reg_early.specs.Moment.{is_in_clock}
+use Rattle.std.specs.Prelude.{Option, Some, None, Ok, Err, IsSome, is_some, option_map, option_and_then, ◌⊎◌, if◌then◌else◌}
+use Rattle.reg_decisions.proofs.Common.{first_so, second_so, FinMap, get, contains_key, bytes_eq-Decides}
+use Rattle.reg_decisions.proofs.Common.{same_text, only_if, same_at, get-select, SizedPrefix, block_cmp}
+use Rattle.reg_decisions.proofs.Common.{leading_24, is_in_clock, Answer, admitted, as_kind, change_of}
+use Rattle.reg_decisions.proofs.Common.{reply_of, by_rule, same_size, masked, masked_blocks, ShownHolding}
+use Rattle.reg_decisions.proofs.Common.{holding_row, with_mark, GivesDigests, private_rule, world_after}
+use Rattle.reg_decisions.proofs.Common.{answer_to, published, Personal, personal, holdings_of, view_of}
+use Rattle.reg_decisions.proofs.Common.{cap_at, with_personal, WellKept, is_held_by, stands_in, World}
+use Rattle.reg_decisions.proofs.Common.{pending, applied_if, Ask, BlockAsk, Cap, Holder, Holding, Given}
+use Rattle.reg_decisions.proofs.Common.{State, block_keys, same_size-is}
 use Rattle.reg_core.specs.Allowance.{◌>>=◌, allowed, ground_of, or_refusal}
-use Rattle.reg_core.specs.Answer.{Answer, admitted, as_kind, change_of, reply_of, by_rule}
-use Rattle.reg_core.specs.Ask.{same_size}
 use Rattle.reg_core.specs.BlocksGiven.{BlocksAreApart, IsDueIn, IsBlockGivenDuly, BlockAsksAreServedDuly, AreHidden, PrivateHoldersAreHidden, IsNotHeld, ForeignBlocksAreHidden}
-use Rattle.reg_core.specs.Holding.{masked, masked_blocks, Shown, holding_row, with_mark}
-use Rattle.reg_core.specs.Laws.{GivesDigests}
-use Rattle.reg_core.specs.Rules.{private_rule}
-use Rattle.reg_core.specs.Run.{world_after}
-use Rattle.reg_core.specs.Step.{answer_to}
-use Rattle.reg_core.specs.View.{published, Personal, personal, holdings_of, view_of, cap_at, with_personal}
-use Rattle.reg_core.specs.WellKept.{WellKept, is_held_by, stands_in}
-use Rattle.reg_core.specs.World.{World, pending, applied_if}
-use Rattle.reg_core.specs.declared.ask.Ask.{Ask}
 use Rattle.reg_core.specs.declared.ask.Ask.TheVariants.{Block}
-use Rattle.reg_core.specs.declared.ask.BlockAsk.{BlockAsk}
-use Rattle.reg_core.specs.declared.capability.Cap.{Cap}
 use Rattle.reg_core.specs.declared.capability.Kind.TheVariants as kind
 use Rattle.reg_core.specs.declared.command.Command.TheVariants.{Applicant}
 use Rattle.reg_core.specs.declared.command.ApplicantCommand.TheVariants.{SetListing}
 use Rattle.reg_core.specs.declared.told.Told.TheVariants as tells
-use Rattle.reg_core.specs.declared.holding.Holder.{Holder}
-use Rattle.reg_core.specs.declared.holding.Holding.{Holding}
-use Rattle.reg_core.specs.declared.refusal.Refusal.{Refusal}
 use Rattle.reg_core.specs.declared.refusal.Refusal.TheVariants as no
-use Rattle.reg_core.specs.declared.request.Given.{Given}
-use Rattle.reg_core.specs.declared.request.State.{State}
 use Rattle.reg_decisions.proofs.Allowances.{allowance_of, allows_block}
 use Rattle.reg_decisions.proofs.Blocks.{due_is_due, holding_found}
 use Rattle.reg_decisions.proofs.Keeping.RunsKeepWell.{runs_keep}
 use Rattle.reg_decisions.proofs.Outcomes.Dues.{GivesBlock, changes_due}
-use Rattle.reg_core.proofs.SamenessIsDecided.{same_size-is}
-use Rattle.reg_core.proofs.KeyOrders.{block_keys}
+use Rattle.reg_laws.proofs.AsksInVain.{never_changes}
 use Rattle.reg_laws.proofs.TwoWorlds.{worlds_alike}
 
 -- ---- Blocks are apart
@@ -151,7 +134,7 @@ module _ (w : World) (n : FinMap block_cmp Holder) (caller : Option (List ℕ))
       ∙ alike_at (λ h. Some (masked h)) both_masked block
       ∙ sym (get-select block_keys (λ block h. Some (masked h)) n block))
     where
-      nothing : Shown
+      nothing : ShownHolding
       nothing = record { organization = None; address = None }
 
       bare : (h : Holder) (b : Bool) → h.private ≡ b → b ≡ true → masked h ≡ nothing
@@ -216,23 +199,7 @@ unlisted me moment =
 
 -- a refusal changes nothing
 no_change : (me : Option (Cap × Personal)) (moment : ℕ) → change_of (unlisted me moment) ≡ None
-no_change me moment = at (is_in_clock moment)
-  where
-    after : {A : Type 0} (r : Result A Refusal) → change_of (r >>= (λ x. Err no.Holding)) ≡ None
-    after (Ok x) = refl
-    after (Err refusal) = refl
-
-    asked : (me : Option (Cap × Personal))
-        → change_of (as_kind kind.Applicant me moment (λ account my. Err no.Holding)) ≡ None
-    asked None = refl
-    asked (Some (cap, my)) = after (admitted (Some cap) moment kind.Applicant)
-
-    at : (b : Bool)
-        → change_of (if b
-        then as_kind kind.Applicant me moment (λ account my. Err no.Holding) else Err no.Clock)
-        ≡ None
-    at true = asked me
-    at false = refl
+no_change me moment = never_changes me moment (λ account my. Err no.Holding) (λ account my. refl)
 
 module _ (digest_of : List ℕ → List ℕ) (w : World) (caller : Option (List ℕ)) (moment : ℕ) where
   -- a block that the caller does not hold is not among its own

@@ -3,24 +3,16 @@ use Rattle.std.proofs.Common.{◌≡◌, ℕ, suc, Bool, true, false, cond, ◌|
 use Rattle.std.specs.Prelude.{Option, Some, None, All, Contains}
 use Rattle.std.specs.FinMap.{FinMap, get, entries, remove}
 use Rattle.std.specs.List.{AllPairs, list_any}
-use Rattle.std.specs.Ordering.{eq_by_cmp}
-use Rattle.std.specs.Cmp.{eq_by_cmp_equiv}
-use Rattle.std.proofs.lemmas.Bool.{both_ways}
+use Rattle.reg_decisions.proofs.Common.{false_from_ne_true, eq_by_cmp, eq_by_cmp_equiv, both_ways, text_cmp}
+use Rattle.reg_decisions.proofs.Common.{same_text, text_keys, tied, Contains-map, Contains-entries}
+use Rattle.reg_decisions.proofs.Common.{ascending-entries, get-at_remove, cap_row, cap_rows, caps_that}
+use Rattle.reg_decisions.proofs.Common.{TakesJust, HaveGone, has_token, World, without, Cap, CapRow}
+use Rattle.reg_decisions.proofs.Common.{same_text-itself}
 use Rattle.std.proofs.lemmas.List.{get_or-map, length-map}
 use Rattle.std.proofs.lemmas.List.Elements.{All-nil, All-cons, All-head, All-weaker, All-map, All-contains, filter_passes}
 use Rattle.std.proofs.lemmas.List.Folds.{list_any_none, list_any_at}
 use Rattle.std.proofs.lemmas.List.Kept.{AllPairs-filter}
 use Rattle.std.proofs.lemmas.Map.Keys.{IsDistinct-from_sorted, apart_from_distinct}
-use Rattle.reg_maps.specs.Maps.{text_cmp, same_text}
-use Rattle.reg_maps.proofs.MapLaws.{text_keys, tied, Contains-map, Contains-entries, ascending-entries, get-at_remove}
-use Rattle.reg_core.specs.CapRows.{cap_row, cap_rows, caps_that}
-use Rattle.reg_core.specs.Laws.{TakesJust}
-use Rattle.reg_core.specs.Lists.{HaveGone}
-use Rattle.reg_core.specs.Rules.{has_token}
-use Rattle.reg_core.specs.World.{World, without}
-use Rattle.reg_core.specs.declared.capability.Cap.{Cap}
-use Rattle.reg_core.specs.declared.capability.CapRow.{CapRow}
-use Rattle.reg_core.proofs.SamenessIsDecided.{same_text-itself}
 use Rattle.reg_decisions.proofs.Chosen.{chosen_there}
 
 -- ---- Without some of them
@@ -147,17 +139,16 @@ module _ (chosen : CapRow → Bool) (caps : FinMap text_cmp Cap) where
       list_any_none (eq_by_cmp text_cmp digest) digests
       (All-map (λ other. eq_by_cmp text_cmp digest other ≡ false) (λ row. row.digest) rows
       (All-weaker IsOne (λ row. eq_by_cmp text_cmp digest row.digest ≡ false)
-      (λ row has. by row has (eq_by_cmp text_cmp digest row.digest) refl) rows each_is))
+      (λ row has. false_from_ne_true (eq_by_cmp text_cmp digest row.digest) (other row has)) rows
+      each_is))
     where
-      by : (row : CapRow) → IsOne row → (b : Bool) → eq_by_cmp text_cmp digest row.digest ≡ b
-          → b ≡ false
-      by row has false t = refl
-      by row has true t =
+      other : (row : CapRow) → IsOne row → ¬ (eq_by_cmp text_cmp digest row.digest ≡ true)
+      other row has t =
           let key : digest ≡ row.digest = tied text_keys digest row.digest t in
           let both : Some cap ≡ Some row.cap = sym is ∙ ap (get caps) key ∙ has.0 in
           let value : cap ≡ row.cap = cc in
-          absurd (both_ways (chosen (cap_row digest cap)) fails
-          ((λ i. chosen (cap_row (key i) (value i))) ∙ has.1))
+          both_ways (chosen (cap_row digest cap)) fails
+          ((λ i. chosen (cap_row (key i) (value i))) ∙ has.1)
 
   -- just these have gone
   pub takes_just : TakesJust caps (without digests caps) chosen rows

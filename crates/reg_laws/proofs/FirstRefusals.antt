@@ -1,24 +1,15 @@
 -- Of the refusals that apply to an ask the first is answered.
 use Rattle.std.proofs.Common.{◌≡◌, ◌<◌, ◌≤◌, ℕ, List, refl, sym, ◌∙◌, arith}
 use Rattle.std.specs.Prelude.{Option, Some, None, Result, is_some}
-use Rattle.reg_early.specs.EarlyRequirements.{early_unmet}
-use Rattle.reg_early.specs.Terms.{renewable, settleable}
-use Rattle.reg_ranges.specs.Requirements.{first_item, unmet}
-use Rattle.reg_ranges.specs.Tables.{Table}
-use Rattle.reg_ranges.specs.declared.policy.Policy.{Policy}
+use Rattle.reg_decisions.proofs.Common.{early_unmet, renewable, settleable, first_item, unmet, Table, Policy}
+use Rattle.reg_decisions.proofs.Common.{Allowance, SizedPrefix, Ask, Want, Refusal, was_some, own_is}
 use Rattle.reg_core.specs.Allowance.{Ground, ◌>>=◌, or_refusal, policy_for, is_met, is_met_early, value_for, own_entry, may_renew, may_settle, allowance_on}
-use Rattle.reg_core.specs.Award.{Allowance}
 use Rattle.reg_core.specs.FirstRefusals.{want_of, Decides, UnderPolicy, IsAbove, IsShut, IsNotEarly, Lacks, Applies, line_of, FirstRefusalsAreAnswered}
-use Rattle.reg_blocks.specs.Block.{SizedPrefix}
-use Rattle.reg_core.proofs.Checks.{was_some, own_is}
-use Rattle.reg_core.specs.declared.ask.Ask.{Ask}
 use Rattle.reg_core.specs.declared.ask.Ask.TheVariants.{Code, Early, Renew, Permanent, Block}
-use Rattle.reg_core.specs.declared.ask.Want.{Want}
 use Rattle.reg_core.specs.declared.ask.Want.TheVariants.{Value}
-use Rattle.reg_core.specs.declared.refusal.Refusal.{Refusal}
 use Rattle.reg_core.specs.declared.refusal.Refusal.TheVariants as no
 use Rattle.reg_laws.proofs.FirstRefusals.Turns.{IsFair, refuses, passes, in_turn, clear_on, outset, over}
-use Rattle.reg_laws.proofs.FirstRefusals.Policies.{table_check, policy_decides, policy_check, evidence_check, early_check, not_eligible, first_not_eligible, of_none}
+use Rattle.reg_laws.proofs.FirstRefusals.Policies.{table_check, policy_found, policy_check, evidence_check, early_check, not_eligible, first_not_eligible, of_none}
 use Rattle.reg_laws.proofs.FirstRefusals.Entries.{value_check, own_check, renewal_check, settlement_check}
 pub mod Turns
 pub mod Policies
@@ -43,7 +34,7 @@ module _ (rows : Ground) (account : List ℕ) where
       let there = was_some rows.table no.Registry table found in
       in_turn rows account ask 8 10 18 (policy_for table want) _
       (policy_check rows account ask want table wants there)
-      (λ policy by. each table policy there (policy_decides table want policy by)))
+      (λ policy by. each table policy there (policy_found table want policy by).0))
 
   fair : (ask : Ask) → IsFair rows account ask 7 18 (allowance_on rows account ask)
   fair (Code ask) =
@@ -112,12 +103,7 @@ module _ (rows : Ground) (account : List ℕ) where
           of_none (UnderPolicy (IsNotEarly (Block ask))) rows.table applies
       alone m below (no.Evidence i) applies low high =
           of_none (UnderPolicy (Lacks (Block ask) i)) rows.table applies
-      alone m below no.Entry applies low high = applies.0
-      alone m below no.Permanent applies low high = applies.0
-      alone m below no.Renewed applies low high = applies.0
-      alone m below no.Expired applies low high = applies
-      alone m below no.Taken applies low high = applies.0
-      alone m below other applies low high = omega arith
+      alone m below other applies low high = grind arith
 
       free : (block : SizedPrefix) → rows.due ≡ Some block → (other : Refusal)
           → Applies rows account (Block ask) other → 17 ≤ line_of other → line_of other < 18 → ⊥

@@ -1,41 +1,23 @@
 -- What a well kept world has stays in every run.
 use Rattle.std.proofs.Common.{◌≡◌, ℕ, Bool, true, false, cond, List, [], ◌∷◌, inl, inr, refl, sym, ap, subst, ◌∙◌}
 use Rattle.std.specs.Prelude.{Option, Some, None, IsSome, is_some, option_map}
-use Rattle.std.specs.Cmp.{first_so, second_so}
+use Rattle.reg_decisions.proofs.Common.{false_from_ne_true, first_so, second_so, eq_by_cmp, update}
+use Rattle.reg_decisions.proofs.Common.{IsKeyOrder, number_keys, text_keys, tied, get-at_insert, get-update}
+use Rattle.reg_decisions.proofs.Common.{IsDay, is_in_clock, utc_day, Table, has_command_form, registration_in}
+use Rattle.reg_decisions.proofs.Common.{with_hold, holder_in, with_mark, SizedPrefix, IsDuly, place_of}
+use Rattle.reg_decisions.proofs.Common.{is_pending, Event, have_forms, step_of, world_after, WellKept, World}
+use Rattle.reg_decisions.proofs.Common.{RequestName, Place, Seat, place_cmp, seat_cmp, in_state, pending}
+use Rattle.reg_decisions.proofs.Common.{applied, applied_if, Advice, Ask, Change, Registration, Entry, Holder}
+use Rattle.reg_decisions.proofs.Common.{Holding, Case, State, Pending, Approved, name_keys, place_keys}
+use Rattle.reg_decisions.proofs.Common.{seat_keys, block_keys}
 use Rattle.std.specs.declared.cmp.Ordering.{Ordering}
-use Rattle.std.specs.Ordering.{eq_by_cmp}
 use Rattle.std.specs.FinMap.{FinMap, get, insert}
-use Rattle.reg_maps.specs.Maps.{update}
 use Rattle.reg_maps.proofs.KeySets.{still_in}
-use Rattle.reg_maps.proofs.MapLaws.{IsKeyOrder, number_keys, text_keys, tied, get-at_insert, get-update}
-use Rattle.reg_early.specs.Calendar.{IsDay}
-use Rattle.reg_early.specs.Moment.{is_in_clock, utc_day}
 use Rattle.reg_early.proofs.MomentsHaveDays.{IsDay-utc_day}
-use Rattle.reg_ranges.specs.Tables.{Table}
-use Rattle.reg_core.specs.Command.{has_command_form}
-use Rattle.reg_core.specs.Entry.{registration_in, with_hold}
-use Rattle.reg_core.specs.Holding.{holder_in, with_mark}
-use Rattle.reg_blocks.specs.Block.{SizedPrefix, block_cmp}
-use Rattle.reg_core.specs.Laws.{GivesDigests, GivenStays, renewed_by, IsRenewedIn, SameReview, Stays, StillGiven, StillHeld, StillStands, StillAsks}
-use Rattle.reg_core.specs.MayBeGiven.{IsDuly, place_of}
-use Rattle.reg_core.specs.Request.{is_pending}
-use Rattle.reg_core.specs.Run.{Event, have_forms, step_of, world_after}
-use Rattle.reg_core.specs.WellKept.{WellKept}
-use Rattle.reg_core.specs.World.{World, RequestName, Place, Seat, name_cmp, place_cmp, seat_cmp, in_state, pending, applied, applied_if}
-use Rattle.reg_core.specs.declared.advice.Advice.{Advice}
-use Rattle.reg_core.specs.declared.ask.Ask.{Ask}
-use Rattle.reg_core.specs.declared.change.Change.{Change}
-use Rattle.reg_core.specs.declared.entry.Registration.{Registration}
-use Rattle.reg_core.specs.declared.entry.Entry.{Entry}
-use Rattle.reg_core.specs.declared.holding.Holder.{Holder}
-use Rattle.reg_core.specs.declared.holding.Holding.{Holding}
-use Rattle.reg_core.specs.declared.request.Case.{Case}
+use Rattle.reg_core.specs.Laws.{GivesDigests, GivenStays, renewed_by, IsRenewedIn, SameReview, StaysGiven, StillGiven, StillHeld, StillStands, StillAsks}
 use Rattle.reg_core.specs.declared.request.Given.TheVariants.{Value, Block}
-use Rattle.reg_core.specs.declared.request.State.{State}
-use Rattle.reg_core.specs.declared.request.State.TheVariants.{Pending, Approved, Declined, Withdrawn}
 use Rattle.reg_decisions.proofs.Keeping.RunsKeepWell.{step_keeps_well}
 use Rattle.reg_core.specs.declared.change.Change.TheVariants.{Define, AddPool, Submit, Close, Assign, Advise, GiveValue, GiveBlock, SetPrivate, SetHold}
-use Rattle.reg_core.proofs.KeyOrders.{name_keys, place_keys, seat_keys, block_keys}
 use Rattle.reg_decisions.proofs.Blocks.{due_is_new}
 use Rattle.reg_decisions.proofs.Outcomes.Dues.{WasPending, MarksEntry, Due, each_step}
 use Rattle.reg_laws.proofs.TermsStand.{Renews, GoOn, term_stands, marked_stands, term_stands_on, given_duly, still_given}
@@ -44,9 +26,7 @@ use Rattle.reg_laws.proofs.TermsStand.{Renews, GoOn, term_stands, marked_stands,
 
 stands_itself : (state : State) → StillStands state state
 stands_itself Pending = tt
-stands_itself (Approved given) = refl
-stands_itself (Declined reason) = refl
-stands_itself Withdrawn = refl
+stands_itself state = refl
 
 given_itself : (IsRenewed : ℕ → ℕ → Type 0) (a : Registration) (existing : Option Registration)
     → existing ≡ Some a → StillGiven IsRenewed a existing
@@ -60,7 +40,7 @@ asks_itself : (case : Case) (existing : Option Case) → existing ≡ Some case
     → StillAsks case existing
 asks_itself case existing is = subst (StillAsks case) (sym is) (refl, stands_itself case.state)
 
-pub stays_itself : (IsRenewed : ℕ → ℕ → Type 0) (w : World) → Stays IsRenewed w w
+pub stays_itself : (IsRenewed : ℕ → ℕ → Type 0) (w : World) → StaysGiven IsRenewed w w
 stays_itself IsRenewed w = record {
   registries = λ name table is. is;
   entries = λ place a is. given_itself IsRenewed a (get w.entries place) is;
@@ -76,9 +56,7 @@ stays_itself IsRenewed w = record {
 decided_on : (state now : State) → StillStands state now → is_pending state ≡ false
     → is_pending now ≡ false
 decided_on Pending now h decided = absurd (cc)
-decided_on (Approved given) now h decided = ap is_pending h
-decided_on (Declined reason) now h decided = ap is_pending h
-decided_on Withdrawn now h decided = ap is_pending h
+decided_on state now h decided = ap is_pending h
 
 still_decided : (case : Case) (existing : Option Case) → StillAsks case existing
     → is_pending case.state ≡ false
@@ -90,9 +68,7 @@ still_decided case (Some now) h decided =
 stands_on : (before now later : State) → StillStands before now → StillStands now later
     → StillStands before later
 stands_on Pending now later h k = tt
-stands_on (Approved given) now later h k = subst (λ s. StillStands s later) h k
-stands_on (Declined reason) now later h k = subst (λ s. StillStands s later) h k
-stands_on Withdrawn now later h k = subst (λ s. StillStands s later) h k
+stands_on before now later h k = subst (λ s. StillStands s later) h k
 
 given_on : (First More All : ℕ → ℕ → Type 0) → GoOn First More All → (a : Registration)
     (now later : Option Registration) → StillGiven First a now
@@ -127,7 +103,7 @@ asks_on case (Some b) later h k = on later (k b refl)
     on (Some c) k = (k.0 ∙ h.0, stands_on case.state b.state c.state h.1 k.1)
 
 pub stays_on : (First More All : ℕ → ℕ → Type 0) → GoOn First More All → (w v u : World)
-    → Stays First w v → Stays More v u → Stays All w u
+    → StaysGiven First w v → StaysGiven More v u → StaysGiven All w u
 stays_on First More All on w v u first then = record {
   registries = λ name table is. then.registries name table (first.registries name table is);
   entries = λ place a is.
@@ -159,24 +135,32 @@ module _ {K X : Type 0} {R : K → K → Ordering} (o : IsKeyOrder R) (m : FinMa
       by true t = let none : get m q ≡ None = ap (get m) (tied o q k t) ∙ free in absurd (cc)
       by false t = get-at_insert o m k v q ∙ ap (λ b. cond b (Some v) (get m q)) t ∙ is
 
+-- and so after one is changed, where the change is one that may be
+module _ {K X : Type 0} {R : K → K → Ordering} (o : IsKeyOrder R) (m : FinMap R X) (k : K)
+    (change : X → X) (Still : X → Option X → Type 0) (itself : (x : X) → Still x (Some x))
+    (changed : (x : X) → get m k ≡ Some x → Still x (Some (change x))) where
+  stays_changed : (q : K) (x : X) → get m q ≡ Some x → Still x (get (update m k change) q)
+  stays_changed q x is =
+      subst (Still x) (sym (get-update o m k change q)) (by (eq_by_cmp R q k) refl)
+    where
+      by : (b : Bool) → eq_by_cmp R q k ≡ b → Still x (cond b (option_map change (get m k)) (get m q))
+      by true t =
+          let there = ap (get m) (sym (tied o q k t)) ∙ is in
+          subst (λ row. Still x (option_map change row)) (sym there) (changed x there)
+      by false t = subst (Still x) (sym is) (itself x)
+
 -- a row for a pending request is none of one that is decided
 of_another : (w : World) (name other : RequestName) (case : Case) → WasPending w name
     → get w.requests other ≡ Some case → is_pending case.state ≡ false
     → (expert reviewer : List ℕ)
     → eq_by_cmp seat_cmp (other, expert) (name, reviewer) ≡ false
 of_another w name other case was is decided expert reviewer =
-    by (eq_by_cmp seat_cmp (other, expert) (name, reviewer)) refl
-  where
-    by : (b : Bool) → eq_by_cmp seat_cmp (other, expert) (name, reviewer) ≡ b → b ≡ false
-    by false t = refl
-    by true t =
-        let seat = tied seat_keys (other, expert) (name, reviewer) t in
-        let same : other ≡ name = ap (λ (s : Seat). s.0) seat in
-        let both : Some case ≡ Some was.case =
-        sym is ∙ ap (get w.requests) same ∙ was.is_there in
-        let itself : case ≡ was.case = cc in
-        let pending = ap (λ (c : Case). is_pending c.state) itself ∙ ap is_pending was.state in
-        absurd (cc)
+    false_from_ne_true (eq_by_cmp seat_cmp (other, expert) (name, reviewer)) (λ t.
+    let seat = tied seat_keys (other, expert) (name, reviewer) t in
+    let same : other ≡ name = ap (λ (s : Seat). s.0) seat in
+    let itself : case ≡ was.case = cc in
+    let pending = ap (λ (c : Case). is_pending c.state) itself ∙ ap is_pending was.state in
+    cc)
 
 module _ (w : World) (name : RequestName) (was : WasPending w name) (reviewer : List ℕ) where
   assigned_review : (other : RequestName) (case : Case) → get w.requests other ≡ Some case
@@ -200,15 +184,15 @@ module _ (w : World) (name : RequestName) (was : WasPending w name) (reviewer : 
   )
 
 define_stays : (IsRenewed : ℕ → ℕ → Type 0) (w : World) (name : List ℕ) (table : Table) → get w.registries name ≡ None
-    → Stays IsRenewed w (applied w (Define name table))
+    → StaysGiven IsRenewed w (applied w (Define name table))
 define_stays IsRenewed w name table free =
     assumption (stays_there text_keys w.registries name table free, stays_itself IsRenewed w)
 
-pool_stays : (IsRenewed : ℕ → ℕ → Type 0) (w : World) (prefix : ℕ) → Stays IsRenewed w (applied w (AddPool prefix))
+pool_stays : (IsRenewed : ℕ → ℕ → Type 0) (w : World) (prefix : ℕ) → StaysGiven IsRenewed w (applied w (AddPool prefix))
 pool_stays IsRenewed w prefix = assumption (still_in number_keys w.pool prefix tt, stays_itself IsRenewed w)
 
 submit_stays : (IsRenewed : ℕ → ℕ → Type 0) (w : World) (name : RequestName) (ask : Ask) → get w.requests name ≡ None
-    → Stays IsRenewed w (applied w (Submit name.0 name.1 ask))
+    → StaysGiven IsRenewed w (applied w (Submit name.0 name.1 ask))
 submit_stays IsRenewed w name ask free = assumption (asked, stays_itself IsRenewed w)
   where
     asked : (other : RequestName) (case : Case) → get w.requests other ≡ Some case
@@ -220,34 +204,24 @@ submit_stays IsRenewed w name ask free = assumption (asked, stays_itself IsRenew
 state_stays : (w : World) (name : RequestName) (state : State) → WasPending w name
     → (other : RequestName) (old : Case) → get w.requests other ≡ Some old
     → StillAsks old (get (update w.requests name (in_state state)) other)
-state_stays w name state was other old is =
-    subst (StillAsks old) (sym (get-update name_keys w.requests name (in_state state) other))
-    (by (eq_by_cmp name_cmp other name) refl)
+state_stays w name state was =
+    stays_changed name_keys w.requests name (in_state state) StillAsks
+    (λ case. (refl, stands_itself case.state)) into
   where
-    replaced_row : other ≡ name → old ≡ was.case
-    replaced_row same = let both : Some old ≡ Some was.case =
-        sym is ∙ ap (get w.requests) same ∙ was.is_there in cc
-
-    by : (b : Bool) → eq_by_cmp name_cmp other name ≡ b
-        → StillAsks old
-        (cond b (option_map (in_state state) (get w.requests name)) (get w.requests other))
-    by true t =
-        let itself = replaced_row (tied name_keys other name t) in
-        subst (λ o. StillAsks old (option_map (in_state state) o)) (sym was.is_there) (
-          ap (λ (f : Case). f.ask) (sym itself),
-          subst (λ (f : Case). StillStands f.state state) (sym itself)
-              (subst (λ s. StillStands s state) (sym was.state) tt),
-        )
-    by false t = asks_itself old (get w.requests other) is
+    into : (old : Case) → get w.requests name ≡ Some old → StillAsks old (Some (in_state state old))
+    into old is =
+        let itself : old ≡ was.case = cc in
+        let pending = ap (λ (c : Case). c.state) itself ∙ was.state in
+        (refl, subst (λ s. StillStands s state) (sym pending) tt)
 
 close_stays : (IsRenewed : ℕ → ℕ → Type 0) (w : World) (name : RequestName) (state : State) → WasPending w name
-    → Stays IsRenewed w (applied w (Close name.0 name.1 state))
+    → StaysGiven IsRenewed w (applied w (Close name.0 name.1 state))
 close_stays IsRenewed w name state was = assumption (state_stays w name state was, stays_itself IsRenewed w)
 
 -- an entry is given at a place that has none, or in place of the same entry in another term
 give_stays : (IsRenewed : ℕ → ℕ → Type 0) (w : World) → WellKept w → (name : RequestName) (today : ℕ) → IsDay today → Renews IsRenewed today → (ask : Ask)
     (entry : Entry) → WasPending w name → IsDuly w today name.0 ask entry
-    → Stays IsRenewed w (applied w (GiveValue name.0 name.1 entry))
+    → StaysGiven IsRenewed w (applied w (GiveValue name.0 name.1 entry))
 give_stays IsRenewed w kept name today day on ask entry was duly =
     assumption (given, state_stays w name (Approved (Value entry.value)) was, stays_itself IsRenewed w)
   where
@@ -269,7 +243,7 @@ give_stays IsRenewed w kept name today day on ask entry was duly =
 
 give_block_stays : (IsRenewed : ℕ → ℕ → Type 0) (w : World) (name : RequestName) (holding : Holding) → WasPending w name
     → get w.blocks holding.block ≡ None
-    → Stays IsRenewed w (applied w (GiveBlock name.0 name.1 holding))
+    → StaysGiven IsRenewed w (applied w (GiveBlock name.0 name.1 holding))
 give_block_stays IsRenewed w name holding was free =
     assumption (held, state_stays w name (Approved (Block holding.block)) was, stays_itself IsRenewed w)
   where
@@ -283,59 +257,35 @@ give_block_stays IsRenewed w name holding was free =
 
 -- the mark of a block may change
 mark_stays : (IsRenewed : ℕ → ℕ → Type 0) (w : World) (block : SizedPrefix) (private : Bool)
-    → Stays IsRenewed w (applied w (SetPrivate block private))
+    → StaysGiven IsRenewed w (applied w (SetPrivate block private))
 mark_stays IsRenewed w block private = assumption (held, stays_itself IsRenewed w)
   where
     held : (other : SizedPrefix) (h : Holder) → get w.blocks other ≡ Some h
         → StillHeld h (get (update w.blocks block (with_mark private)) other)
-    held other h is =
-        subst (StillHeld h)
-        (sym (get-update block_keys w.blocks block (with_mark private) other))
-        (by (eq_by_cmp block_cmp other block) refl)
-      where
-        by : (b : Bool) → eq_by_cmp block_cmp other block ≡ b
-            → StillHeld h
-            (cond b (option_map (with_mark private) (get w.blocks block)) (get w.blocks other))
-        by true t =
-            let there = ap (get w.blocks) (sym (tied block_keys other block t)) ∙ is in
-            subst (λ o. StillHeld h (option_map (with_mark private) o)) (sym there)
-            (refl, refl, refl)
-        by false t = held_itself h (get w.blocks other) is
+    held =
+        stays_changed block_keys w.blocks block (with_mark private) StillHeld
+        (λ h. (refl, refl, refl)) (λ h is. (refl, refl, refl))
 
 -- so may the mark of an entry that expires
 hold_stays : (IsRenewed : ℕ → ℕ → Type 0) (w : World) (place : Place) (held : Bool) {today : ℕ} → MarksEntry w today place held
-    → Stays IsRenewed w (applied w (SetHold place.0 place.1 held))
+    → StaysGiven IsRenewed w (applied w (SetHold place.0 place.1 held))
 hold_stays IsRenewed w place held marks = assumption (given, stays_itself IsRenewed w)
   where
     given : (other : Place) (a : Registration) → get w.entries other ≡ Some a
         → StillGiven IsRenewed a (get (update w.entries place (with_hold held)) other)
-    given other a is =
-        subst (StillGiven IsRenewed a)
-        (sym (get-update place_keys w.entries place (with_hold held) other))
-        (by (eq_by_cmp place_cmp other place) refl)
-      where
-        by : (b : Bool) → eq_by_cmp place_cmp other place ≡ b
-            → StillGiven IsRenewed a
-            (cond b (option_map (with_hold held) (get w.entries place)) (get w.entries other))
-        by true t =
-            let there : get w.entries place ≡ Some a =
-            ap (get w.entries) (sym (tied place_keys other place t)) ∙ is in
-            let both : Some marks.entry ≡ Some a = sym marks.is_there ∙ there in
-            let same : marks.entry ≡ a = cc in
-            subst (λ o. StillGiven IsRenewed a (option_map (with_hold held) o)) (sym there) (
-              refl,
-              refl,
-              marked_stands IsRenewed a.term held
-                  (subst (λ (r : Registration). IsSome r.term.expires) same marks.expires),
-            )
-        by false t = given_itself IsRenewed a (get w.entries other) is
+    given =
+        stays_changed place_keys w.entries place (with_hold held) (StillGiven IsRenewed)
+        (λ a. (refl, refl, term_stands IsRenewed a.term)) (λ a is.
+        let same : marks.entry ≡ a = cc in
+        let expires = subst (λ (r : Registration). IsSome r.term.expires) same marks.expires in
+        (refl, refl, marked_stands IsRenewed a.term held expires))
 
 -- ---- Each change of a step
 
 -- a line for each change of which something is said
 module _ (IsRenewed : ℕ → ℕ → Type 0) (w : World) (kept : WellKept w) (caller : Option (List ℕ))
     (moment : ℕ) (on : Renews IsRenewed (utc_day moment)) (is_open : is_in_clock moment ≡ true) where
-  due_stays : (change : Change) → Due w caller moment change → Stays IsRenewed w (applied w change)
+  due_stays : (change : Change) → Due w caller moment change → StaysGiven IsRenewed w (applied w change)
   due_stays (Define name table) due = define_stays IsRenewed w name table due.1
   due_stays (AddPool prefix) due = pool_stays IsRenewed w prefix
   due_stays (Submit account reference ask) due = submit_stays IsRenewed w (account, reference) ask due.1
@@ -354,7 +304,7 @@ module _ (IsRenewed : ℕ → ℕ → Type 0) (w : World) (kept : WellKept w) (c
       (due_is_new w is.ask.size holding.block is.due)
   due_stays (SetPrivate block private) due = mark_stays IsRenewed w block private
   due_stays (SetHold name value held) due = hold_stays IsRenewed w (name, value) held due.1
-  -- of capabilities and agents nothing is said
+  -- of capabilities and links nothing is said
   due_stays change due = assumption (stays_itself IsRenewed w)
 
 -- ---- Steps and runs
@@ -372,10 +322,10 @@ run_goes_on e events = record {
 
 module _ (digest_of : List ℕ → List ℕ) where
   step_stays : (IsRenewed : ℕ → ℕ → Type 0) (w : World) → WellKept w → (e : Event)
-      → Renews IsRenewed (utc_day e.moment) → Stays IsRenewed w (step_of digest_of w e).world
+      → Renews IsRenewed (utc_day e.moment) → StaysGiven IsRenewed w (step_of digest_of w e).world
   step_stays IsRenewed w kept e on =
       each_step digest_of w e.caller e.moment e.command
-      (λ change. Stays IsRenewed w (applied_if w change)) (stays_itself IsRenewed w)
+      (λ change. StaysGiven IsRenewed w (applied_if w change)) (stays_itself IsRenewed w)
       (λ change is. due_stays IsRenewed w kept e.caller e.moment on is.is_open change is.due)
 
   pub runs_stay : GivesDigests digest_of → GivenStays digest_of

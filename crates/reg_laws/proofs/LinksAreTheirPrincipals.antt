@@ -1,21 +1,14 @@
 -- Links are their principals'.
-use Rattle.std.proofs.Common.{◌≡◌, ℕ, Bool, true, false, List, refl, sym, ap, ◌∙◌, inl, inr}
-use Rattle.std.specs.Prelude.{Option, ◌⊎◌}
-use Rattle.std.specs.FinMap.{contains_key}
-use Rattle.std.specs.Ordering.{eq_by_cmp}
-use Rattle.reg_maps.proofs.MapLaws.{tied}
+use Rattle.std.proofs.Common.{◌≡◌, ℕ, Bool, true, false, List, refl, sym, ap, ◌∙◌, inl, inr, Option, ◌⊎◌}
+use Rattle.reg_decisions.proofs.Common.{contains_key, eq_by_cmp, tied, World, Link, link_cmp, applied}
+use Rattle.reg_decisions.proofs.Common.{applied_if, Change, Command, link_keys, link_is, link_stays}
+use Rattle.reg_decisions.proofs.Common.{same_kind-is}
 use Rattle.reg_core.specs.Agents.{IsSaid, LinksAreTheirPrincipals}
-use Rattle.reg_core.specs.World.{World, Link, link_cmp, applied, applied_if}
 use Rattle.reg_core.specs.declared.capability.Kind.TheVariants as kind
-use Rattle.reg_core.specs.declared.change.Change.{Change}
 use Rattle.reg_core.specs.declared.change.Change.TheVariants.{SetAgent}
-use Rattle.reg_core.specs.declared.command.Command.{Command}
 use Rattle.reg_core.specs.declared.command.Command.TheVariants.{Applicant}
 use Rattle.reg_core.specs.declared.command.ApplicantCommand.TheVariants as applicant
-use Rattle.reg_core.proofs.Links.{link_is, link_stays}
 use Rattle.reg_decisions.proofs.Outcomes.Dues.{IsDue, each_step}
-use Rattle.reg_core.proofs.SamenessIsDecided.{same_kind-is}
-use Rattle.reg_core.proofs.KeyOrders.{link_keys}
 
 module _ (digest_of : List ℕ → List ℕ) (w : World) (caller : Option (List ℕ)) (moment : ℕ)
     (command : Command) (link : Link) where

@@ -1,18 +1,12 @@
 -- A clerk who takes capabilities away without their tokens takes just those that were chosen.
-use Rattle.std.proofs.Common.{◌≡◌, ◌≤◌, ℕ, Bool, true, false, List, length, refl, sym, ap, subst, ◌∙◌, arith}
+use Rattle.std.proofs.Common.{◌≡◌, ◌≤◌, ℕ, Bool, false, List, length, refl, sym, ap, subst, ◌∙◌, arith}
 use Rattle.std.specs.Prelude.{Option, Ok, Err}
-use Rattle.std.proofs.lemmas.Bool.{both_ways}
-use Rattle.reg_core.specs.Answer.{Answer, Outcome, reply_of, change_of}
-use Rattle.reg_core.specs.CapRows.{begins_with, is_of, cap_row, caps_that}
+use Rattle.reg_decisions.proofs.Common.{false_from_ne_true, both_ways, Answer, Outcome, reply_of, change_of}
+use Rattle.reg_decisions.proofs.Common.{begins_with, is_of, cap_row, caps_that, answer_to, cap_at, World}
+use Rattle.reg_decisions.proofs.Common.{applied_if, CapRow, ClerkCommand, Accepted}
 use Rattle.reg_core.specs.Laws.{TakesJust, RevocationsTakeJust}
-use Rattle.reg_core.specs.Step.{answer_to}
-use Rattle.reg_core.specs.View.{cap_at}
-use Rattle.reg_core.specs.World.{World, applied_if}
-use Rattle.reg_core.specs.declared.capability.CapRow.{CapRow}
-use Rattle.reg_core.specs.declared.command.ClerkCommand.{ClerkCommand}
 use Rattle.reg_core.specs.declared.command.ClerkCommand.TheVariants.{RevokeDigits, RevokeAccount}
 use Rattle.reg_core.specs.declared.command.Command.TheVariants.{Clerk}
-use Rattle.reg_core.specs.declared.reply.Reply.TheVariants.{Accepted}
 use Rattle.reg_core.specs.declared.told.Told.TheVariants.{Capabilities}
 use Rattle.reg_decisions.proofs.Outcomes.Accepted.{ClerkServes, CommandSo, accepted}
 use Rattle.reg_laws.proofs.Capabilities.{is_in_use, takes_just}
@@ -29,10 +23,9 @@ module _ (digest_of : List ℕ → List ℕ) (w : World) (caller : Option (List 
   module _ (chosen : CapRow → Bool) (by : ClerkServes w caller moment) (o : Outcome)
       (took : Took w by.digest (caps_that chosen w.caps) o) where
     -- the token in use was not among them
-    in_use_fails : (b : Bool) → chosen (cap_row by.digest by.serves.cap) ≡ b → b ≡ false
-    in_use_fails false t = refl
-    in_use_fails true t =
-        absurd (both_ways _ took.others (is_in_use chosen w.caps by.digest by.serves.cap
+    in_use_fails : chosen (cap_row by.digest by.serves.cap) ≡ false
+    in_use_fails = false_from_ne_true _ (λ t.
+        both_ways _ took.others (is_in_use chosen w.caps by.digest by.serves.cap
         (ap (cap_at w) (sym by.is) ∙ by.serves.is_there) t))
 
     is_just : IsJust chosen (caps_that chosen w.caps) (applied_if w o.change)
@@ -40,18 +33,14 @@ module _ (digest_of : List ℕ → List ℕ) (w : World) (caller : Option (List 
         let v = gone w (caps_that chosen w.caps) in
         let takes = takes_just chosen w.caps in
         let has = ap (cap_at w) (sym by.is) ∙ by.serves.is_there in
-        let left = takes.others by.digest by.serves.cap has (in_use_fails _ refl) in
+        let left = takes.others by.digest by.serves.cap has in_use_fails in
         subst (IsJust chosen (caps_that chosen w.caps)) (sym took.after)
         (takes, refl, ap (cap_at v) by.is ∙ left ∙ sym by.serves.is_there)
 
     -- and these are what the caller is told of
     is_told : (rows : List CapRow) → Accepted o.told ≡ Accepted (Capabilities rows)
         → caps_that chosen w.caps ≡ rows
-    is_told rows told =
-        let all = caps_that chosen w.caps in
-        let both : Accepted (Capabilities all) ≡ Accepted (Capabilities rows) =
-        ap Accepted (sym took.told) ∙ told in
-        cc
+    is_told rows told = cc
 
   -- the answer takes just these away, where it tells of them
   abbrev TakesThem : (CapRow → Bool) → List CapRow → Answer → Type 0

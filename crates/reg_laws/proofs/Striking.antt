@@ -1,19 +1,13 @@
 -- A run, and the run of what is left of it without the events about unseen requests.
-use Rattle.std.proofs.Common.{◌≡◌, ℕ, Bool, true, false, cond, ◌&&◌, ◌||◌, not, List, [], ◌∷◌, map, refl, sym, ap, subst, ◌∙◌}
-use Rattle.std.specs.Prelude.{Option, Some, None, filter, is_some}
+use Rattle.std.proofs.Common.{◌≡◌, ℕ, Bool, true, false, cond, ◌&&◌, not, List, [], ◌∷◌, map, refl, sym, ap, subst, ◌∙◌}
+use Rattle.std.specs.Prelude.{Option, filter}
 use Rattle.std.specs.List.{list_any, AllZip}
-use Rattle.std.specs.FinMap.{get, contains_key}
-use Rattle.std.proofs.lemmas.Bool.{or_parts, not-false}
-use Rattle.reg_maps.specs.Maps.{same_text}
-use Rattle.reg_core.specs.Answer.{change_of, reply_of}
-use Rattle.reg_core.specs.Run.{Event, step_of, world_after}
-use Rattle.reg_core.specs.Step.{answer_to}
-use Rattle.reg_core.specs.Striking.{ShowSame, HasNone, AreAlikeTo, UnseenLeaveNoTrace, StagesAreOfRun}
-use Rattle.reg_core.specs.Unseen.{Stage, stage, stages, about_at, reveals_if, is_unseen, speaks_for, is_hidden, stays_in}
-use Rattle.reg_core.specs.View.{cap_at}
-use Rattle.reg_core.specs.World.{World, RequestName, applied_if}
-use Rattle.reg_core.specs.declared.change.Change.{Change}
-use Rattle.reg_decisions.proofs.Outcomes.Dues.{change_about, changes_due}
+use Rattle.reg_decisions.proofs.Common.{contains_key, or_parts, not-false, same_text, change_of, reply_of}
+use Rattle.reg_decisions.proofs.Common.{Event, step_of, world_after, ShowSame, HasNoneUnseen, AreAlikeTo}
+use Rattle.reg_decisions.proofs.Common.{UnseenLeaveNoTrace, StagesAreOfRun, World, RequestName, applied_if}
+use Rattle.reg_decisions.proofs.Common.{Change, not_some}
+use Rattle.reg_core.specs.Unseen.{Stage, stage, stages, about_at, reveals_if, is_unseen, is_hidden, stays_in}
+use Rattle.reg_decisions.proofs.Outcomes.Dues.{changes_due}
 use Rattle.reg_laws.proofs.Striking.Answers.{same_answer, answer_at}
 use Rattle.reg_laws.proofs.Striking.Lists.{answer_plain}
 use Rattle.reg_laws.proofs.Striking.Untouched.{kept_apart, left_if}
@@ -98,7 +92,7 @@ module _ (digest_of : List ℕ → List ℕ) (account : List ℕ) (hidden : Requ
         → AreAlikeTo account hidden (stage digest_of w e) (stage digest_of v e)
     alike stays =
         let answers = same_answer digest_of account hidden e w v un stays in
-        let plain = λ (none : HasNone hidden v).
+        let plain = λ (none : HasNoneUnseen hidden v).
         answer_plain hidden v none digest_of e (answer_at digest_of v e) refl in
         let apart = kept_apart digest_of account hidden e w v un stays in
         let open_made = subst (IsOfHidden false hidden) answers.change apart in
@@ -140,14 +134,7 @@ module _ (digest_of : List ℕ → List ℕ) (account : List ℕ) (hidden : Requ
 four_false : (a b c d : Bool) → (not a && not b && not c && not d) ≡ true
     → (a ≡ false) × (b ≡ false) × (c ≡ false) × (d ≡ false)
 four_false false false false false h = (refl, refl, refl, refl)
-four_false true b c d h = absurd (cc)
-four_false false true c d h = absurd (cc)
-four_false false false true d h = absurd (cc)
-four_false false false false true h = absurd (cc)
-
-is_none : {X : Type 0} (existing : Option X) → is_some existing ≡ false → existing ≡ None
-is_none None h = refl
-is_none (Some x) h = absurd (cc)
+four_false a b c d h = absurd (cc)
 
 pub unseen_leave_no_trace : (digest_of : List ℕ → List ℕ) → UnseenLeaveNoTrace digest_of
 unseen_leave_no_trace digest_of account w events =
@@ -159,7 +146,7 @@ unseen_leave_no_trace digest_of account w events =
     (contains_key w.agents (name.0, account)) (shown name) h in
     let blind : Blind account unseen w =
     record {
-      no_seat = λ name h. is_none _ (none name h).1;
+      no_seat = λ name h. not_some _ (none name h).1;
       no_link = λ name h. (none name h).2;
     } in
     let un : Unaware account unseen w w = record {

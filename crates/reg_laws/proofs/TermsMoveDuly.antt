@@ -1,29 +1,17 @@
 -- Terms move duly.
 use Rattle.std.proofs.Common.{◌≡◌, ℕ, Bool, true, false, not, cond, List, refl, sym, ap, subst, ◌∙◌, inl, inr}
-use Rattle.std.specs.Prelude.{Option, Some, None, IsSome, option_map, ◌⊎◌}
+use Rattle.std.specs.Prelude.{Option, Some, IsSome, option_map, ◌⊎◌}
 use Rattle.std.specs.FinMap.{get, insert}
-use Rattle.std.specs.Ordering.{eq_by_cmp}
-use Rattle.reg_maps.specs.Maps.{update}
-use Rattle.reg_maps.proofs.MapLaws.{tied, get-at_insert, get-update}
-use Rattle.reg_early.specs.Moment.{utc_day}
-use Rattle.reg_early.specs.Terms.{status_on}
+use Rattle.reg_decisions.proofs.Common.{eq_by_cmp, update, tied, get-at_insert, get-update, utc_day}
+use Rattle.reg_decisions.proofs.Common.{status_on, registration_in, with_hold, place_of, WellKept, World}
+use Rattle.reg_decisions.proofs.Common.{Place, place_cmp, applied, applied_if, Change, Command, Entry}
+use Rattle.reg_decisions.proofs.Common.{Registration, place_keys}
 use Rattle.reg_early.specs.declared.term.Status.TheVariants as status
-use Rattle.reg_core.specs.Answer.{change_of}
 use Rattle.reg_core.specs.EarlyAllocations.{MovesTerm, IsMoved, IsMarked, TermsMoveDuly}
-use Rattle.reg_core.specs.Entry.{registration_in, with_hold}
-use Rattle.reg_core.specs.MayBeGiven.{place_of}
-use Rattle.reg_core.specs.Step.{answer_to}
-use Rattle.reg_core.specs.WellKept.{WellKept}
-use Rattle.reg_core.specs.World.{World, Place, place_cmp, applied_if}
-use Rattle.reg_core.specs.declared.change.Change.{Change}
 use Rattle.reg_core.specs.declared.change.Change.TheVariants.{GiveValue, SetHold}
-use Rattle.reg_core.specs.declared.command.Command.{Command}
 use Rattle.reg_core.specs.declared.command.Command.TheVariants.{Clerk}
 use Rattle.reg_core.specs.declared.command.ClerkCommand.TheVariants.{Approve, SetHold as SetHoldOf}
-use Rattle.reg_core.specs.declared.entry.Entry.{Entry}
-use Rattle.reg_core.specs.declared.entry.Registration.{Registration}
-use Rattle.reg_core.proofs.KeyOrders.{place_keys}
-use Rattle.reg_decisions.proofs.Outcomes.Dues.{changes_due}
+use Rattle.reg_decisions.proofs.Outcomes.Dues.{IsDue, each_step}
 use Rattle.reg_laws.proofs.TermsStand.{given_duly, given_moves}
 
 module _ (digest_of : List ℕ → List ℕ) (w : World) (caller : Option (List ℕ)) (moment : ℕ)
@@ -41,13 +29,10 @@ module _ (digest_of : List ℕ → List ℕ) (w : World) (caller : Option (List 
 
   -- where an entry is given at the place, the command approved its renewal or its permanence
   moved_by : (account reference : List ℕ) (entry : Entry)
-      → change_of (answer_to digest_of w caller moment command)
-      ≡ Some (GiveValue account reference entry)
+      → IsDue digest_of w caller moment command (GiveValue account reference entry)
       → place ≡ place_of entry
       → IsMoved w (utc_day moment) command place before (registration_in entry)
-  moved_by account reference entry made same =
-      let change = GiveValue account reference entry in
-      let is = changes_due digest_of w caller moment command change made in
+  moved_by account reference entry is same =
       let duly = given_duly w kept (utc_day moment) account reference entry is.due.1 in
       let moves = given_moves w (utc_day moment) account entry duly.ask duly.duly before
       (ap (get w.entries) (sym same) ∙ stood) in
@@ -67,10 +52,9 @@ module _ (digest_of : List ℕ → List ℕ) (w : World) (caller : Option (List 
       }
 
   given_value : (account reference : List ℕ) (entry : Entry)
-      → change_of (answer_to digest_of w caller moment command)
-      ≡ Some (GiveValue account reference entry)
-      → MovesIn (applied_if w (Some (GiveValue account reference entry)))
-  given_value account reference entry made = by (eq_by_cmp place_cmp place (place_of entry)) refl
+      → IsDue digest_of w caller moment command (GiveValue account reference entry)
+      → MovesIn (applied w (GiveValue account reference entry))
+  given_value account reference entry is = by (eq_by_cmp place_cmp place (place_of entry)) refl
     where
       found : (b : Bool) → eq_by_cmp place_cmp place (place_of entry) ≡ b
           → get (insert w.entries (place_of entry) (registration_in entry)) place
@@ -80,21 +64,20 @@ module _ (digest_of : List ℕ → List ℕ) (w : World) (caller : Option (List 
           ∙ ap (λ b. cond b (Some (registration_in entry)) (get w.entries place)) t
 
       by : (b : Bool) → eq_by_cmp place_cmp place (place_of entry) ≡ b
-          → MovesIn (applied_if w (Some (GiveValue account reference entry)))
+          → MovesIn (applied w (GiveValue account reference entry))
       by true t = (
         registration_in entry,
         found true t,
-        inr (inl (moved_by account reference entry made (tied place_keys place (place_of entry) t))),
+        inr (inl (moved_by account reference entry is (tied place_keys place (place_of entry) t))),
       )
       by false t = (before, found false t ∙ stood, inl refl)
 
   -- where the entry at the place is marked, the command says so
   marked_by : (name : List ℕ) (value : ℕ) (held : Bool)
-      → change_of (answer_to digest_of w caller moment command) ≡ Some (SetHold name value held)
+      → IsDue digest_of w caller moment command (SetHold name value held)
       → place ≡ (name, value)
       → IsMarked (utc_day moment) command place before (with_hold held before)
-  marked_by name value held made same =
-      let is = changes_due digest_of w caller moment command (SetHold name value held) made in
+  marked_by name value held is same =
       let marks = is.due.1 in
       let there : Some marks.entry ≡ Some before =
       sym marks.is_there ∙ ap (get w.entries) (sym same) ∙ stood in
@@ -111,9 +94,9 @@ module _ (digest_of : List ℕ → List ℕ) (w : World) (caller : Option (List 
       }
 
   given_mark : (name : List ℕ) (value : ℕ) (held : Bool)
-      → change_of (answer_to digest_of w caller moment command) ≡ Some (SetHold name value held)
-      → MovesIn (applied_if w (Some (SetHold name value held)))
-  given_mark name value held made = by (eq_by_cmp place_cmp place (name, value)) refl
+      → IsDue digest_of w caller moment command (SetHold name value held)
+      → MovesIn (applied w (SetHold name value held))
+  given_mark name value held is = by (eq_by_cmp place_cmp place (name, value)) refl
     where
       found : (b : Bool) → eq_by_cmp place_cmp place (name, value) ≡ b
           → get (update w.entries (name, value) (with_hold held)) place
@@ -125,30 +108,25 @@ module _ (digest_of : List ℕ → List ℕ) (w : World) (caller : Option (List 
           (get w.entries place)) t
 
       by : (b : Bool) → eq_by_cmp place_cmp place (name, value) ≡ b
-          → MovesIn (applied_if w (Some (SetHold name value held)))
+          → MovesIn (applied w (SetHold name value held))
       by true t =
           let same = tied place_keys place (name, value) t in (
             with_hold held before,
             found true t
                 ∙ ap (option_map (with_hold held)) (ap (get w.entries) (sym same) ∙ stood),
-            inr (inr (marked_by name value held made same)),
+            inr (inr (marked_by name value held is same)),
           )
       by false t = (before, found false t ∙ stood, inl refl)
 
-  change_moves : (change : Change)
-      → change_of (answer_to digest_of w caller moment command) ≡ Some change
-      → MovesIn (applied_if w (Some change))
-  change_moves (GiveValue account reference entry) made = given_value account reference entry made
-  change_moves (SetHold name value held) made = given_mark name value held made
-  change_moves change made = unmoved
-
-  step_moves : (change : Option Change)
-      → change_of (answer_to digest_of w caller moment command) ≡ change
-      → MovesIn (applied_if w change)
-  step_moves None made = unmoved
-  step_moves (Some change) made = change_moves change made
+  due_moves : (change : Change) → IsDue digest_of w caller moment command change
+      → MovesIn (applied w change)
+  due_moves (GiveValue account reference entry) is = given_value account reference entry is
+  due_moves (SetHold name value held) is = given_mark name value held is
+  due_moves change is = unmoved
 
 pub terms_move : (digest_of : List ℕ → List ℕ) → TermsMoveDuly digest_of
 terms_move digest_of w caller moment command place before kept stood =
-    step_moves digest_of w caller moment command place before kept stood
-    (change_of (answer_to digest_of w caller moment command)) refl
+    each_step digest_of w caller moment command
+    (λ change. MovesIn digest_of w caller moment command place before kept stood (applied_if w change))
+    (unmoved digest_of w caller moment command place before kept stood)
+    (due_moves digest_of w caller moment command place before kept stood)

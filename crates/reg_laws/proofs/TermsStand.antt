@@ -3,22 +3,14 @@
 use Rattle.std.proofs.Common.{◌≡◌, ℕ, ◌≤◌, max, Bool, true, false, List, ◌⊎◌, refl, sym, ap, subst, ◌∙◌, inl, inr, arith}
 use Rattle.std.specs.Prelude.{Option, Some, None, Ok, Err, IsSome, is_some, option_map, if◌then◌else◌}
 use Rattle.std.specs.FinMap.{get}
-use Rattle.reg_early.specs.Calendar.{IsDay, year_after}
-use Rattle.reg_early.specs.Forms.{has_term_form}
-use Rattle.reg_early.specs.Terms.{held_term, renewed_term, is_spent, renewal, settled_term, settlement}
+use Rattle.reg_decisions.proofs.Common.{IsDay, year_after, has_term_form, held_term, renewed_term, is_spent}
+use Rattle.reg_decisions.proofs.Common.{renewal, settled_term, settlement, Term, MovesTerm, registration_in}
+use Rattle.reg_decisions.proofs.Common.{WellKept, World, Place, pending, Ask, Entry, Registration}
 use Rattle.reg_early.specs.declared.term.RenewFault.TheVariants as renew_fault
 use Rattle.reg_early.specs.declared.term.SettleFault.TheVariants as settle_fault
-use Rattle.reg_early.specs.declared.term.Term.{Term}
-use Rattle.reg_core.specs.EarlyAllocations.{MovesTerm}
-use Rattle.reg_core.specs.Entry.{registration_in}
 use Rattle.reg_core.specs.Laws.{TermStands, StillGiven}
 use Rattle.reg_core.specs.MayBeGiven.{IsDuly, IsOwnEntry, IsEntry, IsGivenDuly, place_of}
-use Rattle.reg_core.specs.WellKept.{WellKept}
-use Rattle.reg_core.specs.World.{World, Place, pending}
-use Rattle.reg_core.specs.declared.ask.Ask.{Ask}
 use Rattle.reg_core.specs.declared.ask.Ask.TheVariants.{Code, Early, Renew, Permanent, Block}
-use Rattle.reg_core.specs.declared.entry.Entry.{Entry}
-use Rattle.reg_core.specs.declared.entry.Registration.{Registration}
 use Rattle.reg_decisions.proofs.Allowances.{allowed_duly}
 use Rattle.reg_decisions.proofs.Outcomes.Dues.{Gives}
 use Rattle.reg_core.proofs.Keeping.Entries.{standing_term}
@@ -38,7 +30,6 @@ term_stands IsRenewed term = record {
   permanent = λ none. refl;
   renewed = λ h. h;
   expires = λ was is at_was at_is.
-      let both : Some was ≡ Some is = sym at_was ∙ at_is in
       let same : is ≡ was = cc in (omega (arith, same), inl (same, refl));
   settled = not_permanent term.expires;
 }
@@ -51,7 +42,6 @@ marked_stands IsRenewed term held some = record {
   permanent = not_permanent term.expires some;
   renewed = λ h. h;
   expires = λ was is at_was at_is.
-      let both : Some was ≡ Some is = sym at_was ∙ at_is in
       let same : is ≡ was = cc in (omega (arith, same), inl (same, refl));
   settled = not_permanent term.expires;
 }
@@ -195,13 +185,11 @@ settled_stands IsRenewed before now is =
 moved_term_stands : (IsRenewed : ℕ → ℕ → Type 0) (place : Place) (today : ℕ) (ask : Ask)
     (before now : Term) → has_term_form before ≡ true → IsDay today → Renews IsRenewed today
     → MovesTerm place today ask before now → TermStands IsRenewed before now
-moved_term_stands IsRenewed place today (Code ask) before now form day on moves = absurd moves
-moved_term_stands IsRenewed place today (Early ask) before now form day on moves = absurd moves
 moved_term_stands IsRenewed place today (Renew ask) before now form day on moves =
     renewed_stands IsRenewed before now today (is_some ask.iesg) form day on moves.1
 moved_term_stands IsRenewed place today (Permanent ask) before now form day on moves =
     settled_stands IsRenewed before now moves.1
-moved_term_stands IsRenewed place today (Block ask) before now form day on moves = absurd moves
+moved_term_stands IsRenewed place today ask before now form day on moves = absurd moves
 
 -- ---- What is given
 
@@ -246,7 +234,6 @@ module _ (w : World) (today : ℕ) (account : List ℕ) (entry : Entry) where
   kept_one ask registry v own a term entry_is at_v stands is moves =
       let place : (registry, v) ≡ place_of entry =
       sym (λ i. (entry_is.registry_is i, at_v i)) in
-      let both : Some own ≡ Some a = sym stands.stands ∙ ap (get w.entries) place ∙ is in
       let same : own ≡ a = cc in
       let mine = ap (λ (r : Registration). r.assignee) (sym same) ∙ stands.own in
       record {

@@ -1,41 +1,25 @@
 -- Two worlds that show a caller the same view answer it alike, and show it the same view after its
 -- step.
 use Rattle.std.proofs.Common.{◌≡◌, ℕ, Bool, true, false, ◌&&◌, List, refl, sym, ap, subst, ◌∙◌}
-use Rattle.reg_maps.specs.Maps.{same_text, only_if, update}
+use Rattle.reg_decisions.proofs.Common.{same_text, only_if, update, same_kind, is_in_clock, utc_day}
+use Rattle.reg_decisions.proofs.Common.{SizedPrefix, masked, with_mark, with_advice, is_clerk, clerk_answer}
+use Rattle.reg_decisions.proofs.Common.{answer_to, WellKept, Advice, Ask, Cap, Kind, Change, Command, Holder}
+use Rattle.reg_decisions.proofs.Common.{Case, State, Declined, Withdrawn, reply_of, change_of, answer, World}
+use Rattle.reg_decisions.proofs.Common.{RequestName, name_cmp, in_state, applied, applied_if, pending}
+use Rattle.reg_decisions.proofs.Common.{name_keys, block_keys, SameOthers, others_after_insert}
+use Rattle.reg_decisions.proofs.Common.{others_after_update, queue_same, principal_rows_same, queue_advised}
+use Rattle.reg_decisions.proofs.Common.{FinMap, get, same_kind-is}
 use Rattle.reg_maps.proofs.MapLaws.{select-insert_same, select-update_same}
-use Rattle.reg_core.specs.Capability.{same_kind}
-use Rattle.reg_early.specs.Moment.{is_in_clock, utc_day}
-use Rattle.reg_blocks.specs.Block.{SizedPrefix}
-use Rattle.reg_core.specs.Holding.{masked, with_mark}
-use Rattle.reg_core.specs.Queue.{with_advice}
 use Rattle.reg_core.specs.Laws.{TwoWorlds, IsNoClerk}
-use Rattle.reg_core.specs.Step.{is_clerk, clerk_answer, answer_to}
-use Rattle.reg_core.specs.View.{published, Published, Personal, personal, requests_of, holdings_of, queue_of, agents_of, principals_of, principal_rows_of, View, view_of, cap_at, with_personal}
-use Rattle.reg_core.specs.WellKept.{WellKept}
-use Rattle.reg_core.specs.declared.advice.Advice.{Advice}
-use Rattle.reg_core.specs.declared.ask.Ask.{Ask}
-use Rattle.reg_core.specs.declared.capability.Cap.{Cap}
-use Rattle.reg_core.specs.declared.capability.Kind.{Kind}
-use Rattle.reg_core.specs.declared.capability.Kind.TheVariants.{Applicant, Expert, Clerk}
-use Rattle.reg_core.specs.declared.change.Change.{Change}
+use Rattle.reg_core.specs.View.{published, Published, Personal, personal, requests_of, holdings_of, queue_of, principal_rows_of, View, view_of, cap_at, with_personal}
+use Rattle.reg_core.specs.declared.capability.Kind.TheVariants.{Clerk}
 use Rattle.reg_core.specs.declared.change.Change.TheVariants.{Submit, Close, Advise, SetPrivate, SetAgent}
-use Rattle.reg_core.specs.declared.command.Command.{Command}
 use Rattle.reg_core.specs.declared.command.Command.TheVariants as command
-use Rattle.reg_core.specs.declared.holding.Holder.{Holder}
-use Rattle.reg_core.specs.declared.request.Case.{Case}
-use Rattle.reg_core.specs.declared.request.State.{State}
-use Rattle.reg_core.specs.declared.request.State.TheVariants.{Pending, Approved, Declined, Withdrawn}
 use Rattle.reg_decisions.proofs.Blocks.{holding_found, own_holding}
 use Rattle.reg_laws.proofs.Agents.{select-with_link_same, principals_unchanged, principal_rows_unchanged}
-use Rattle.reg_core.proofs.Queues.{SameOthers, others_after_insert, others_after_update, queue_same, principal_rows_same, queue_advised}
 use Rattle.reg_decisions.proofs.Stepping.{own_request}
 use Rattle.std.specs.Prelude.{Option, Some, None, option_map, unwrap_or, nat_lt, if◌then◌else◌}
-use Rattle.std.specs.FinMap.{FinMap, get}
-use Rattle.reg_core.specs.Answer.{reply_of, change_of, answer}
-use Rattle.reg_core.specs.World.{World, RequestName, name_cmp, in_state, applied, applied_if, pending}
 use Rattle.reg_core.specs.declared.capability.Kind.TheVariants as kind
-use Rattle.reg_core.proofs.SamenessIsDecided.{same_kind-is}
-use Rattle.reg_core.proofs.KeyOrders.{name_keys, block_keys}
 use Rattle.reg_decisions.proofs.Outcomes.Accepted.{ClerkServes}
 use Rattle.reg_decisions.proofs.Outcomes.Dues.{Due, each_step}
 
@@ -72,12 +56,6 @@ module _ (account : List ℕ) (w v : World) (kept_w : WellKept w) (kept_v : Well
 
   holdings_alike : holdings_of account w ≡ holdings_of account v
   holdings_alike = ap (λ (p : Personal). p.holdings) alike.personal
-
-  agents_alike : agents_of account w ≡ agents_of account v
-  agents_alike = ap (λ (p : Personal). p.agents) alike.personal
-
-  principals_alike : principals_of account w ≡ principals_of account v
-  principals_alike = ap (λ (p : Personal). p.principals) alike.personal
 
   principal_rows_alike : principal_rows_of account w ≡ principal_rows_of account v
   principal_rows_alike = ap (λ (p : Personal). p.principal_rows) alike.personal
@@ -175,9 +153,10 @@ module _ (account : List ℕ) (w v : World) (kept_w : WellKept w) (kept_v : Well
       (applied v (SetAgent account agent reads))
   link_alike agent reads apart =
       let agents = select-with_link_same (λ link u. only_if (same_text link.0 account) u) reads
-      (account, agent) w.agents v.agents agents_alike in
+      (account, agent) w.agents v.agents (ap (λ (p : Personal). p.agents) alike.personal) in
       let principals =
-      principals_unchanged account agent reads apart w ∙ principals_alike
+      principals_unchanged account agent reads apart w
+      ∙ ap (λ (p : Personal). p.principals) alike.personal
       ∙ sym (principals_unchanged account agent reads apart v) in
       let rows =
       principal_rows_unchanged account agent reads apart w ∙ principal_rows_alike
@@ -229,12 +208,11 @@ module _ (w v : World) (caller : Option (List ℕ)) (moment : ℕ) (kept_w : Wel
   due_after (Submit account reference ask) due =
       own_after due.0.serves.cap account due.0.serves.is_there due.0.own _ _ refl refl
       (λ alike. submit_alike account w v kept_w kept_v alike reference ask)
-  due_after (Close account reference Pending) due = absurd due.1
-  due_after (Close account reference (Approved given)) due = absurd due.1
   due_after (Close account reference (Declined reason)) due = absurd (no_clerk_serves due.1)
   due_after (Close account reference Withdrawn) due =
       own_after due.1.serves.cap account due.1.serves.is_there due.1.own _ _ refl refl
       (λ alike. close_alike account w v kept_w kept_v alike reference Withdrawn)
+  due_after (Close account reference state) due = absurd due.1
   due_after (Advise account reference expert advice) due =
       own_after due.0.serves.cap expert due.0.serves.is_there due.0.own _ _ refl refl
       (λ alike. advise_alike expert w v kept_w kept_v alike account reference advice)
@@ -250,9 +228,8 @@ module _ (w v : World) (caller : Option (List ℕ)) (moment : ℕ) (kept_w : Wel
 -- ---- A caller who is no clerk
 
 not_clerk : (kind : Kind) → ¬ (kind ≡ Clerk) → same_kind kind Clerk ≡ false
-not_clerk Applicant h = refl
-not_clerk Expert h = refl
 not_clerk Clerk h = absurd (h refl)
+not_clerk kind h = refl
 
 no_clerk : (existing : Option Cap) (moment : ℕ)
     → ((cap : Cap) → existing ≡ Some cap → ¬ (cap.kind ≡ Clerk)) → is_clerk existing moment ≡ false
@@ -265,9 +242,6 @@ module _ (digest_of : List ℕ → List ℕ) where
   pub answer_to-view : (w : World) (caller : Option (List ℕ)) (moment : ℕ) (command : Command)
       → IsNoClerk w caller
       → answer_to digest_of w caller moment command ≡ answer (view_of w caller) moment command
-  answer_to-view w caller moment (command.Public given) h = refl
-  answer_to-view w caller moment (command.Applicant given) h = refl
-  answer_to-view w caller moment (command.Expert given) h = refl
   answer_to-view w None moment (command.Clerk given) h = refl
   answer_to-view w (Some digest) moment (command.Clerk given) h =
       let told = answer (view_of w (Some digest)) moment (command.Clerk given) in
@@ -280,6 +254,7 @@ module _ (digest_of : List ℕ → List ℕ) where
         | true ↦ refl
         | false ↦ refl
       ]
+  answer_to-view w caller moment command h = refl
 
   pub worlds_alike : TwoWorlds digest_of
   worlds_alike w v caller moment command kept_w kept_v not_w same =

@@ -1,23 +1,12 @@
 -- What is given may be given, and is given once.
-use Rattle.std.proofs.Common.{◌≡◌, ℕ, true, List, refl, sym, ap, subst, ◌∙◌}
-use Rattle.std.specs.Prelude.{Option, Some, None}
-use Rattle.std.specs.FinMap.{get}
-use Rattle.std.proofs.lemmas.Slice.Eq.{bytes_eq-Decides}
-use Rattle.reg_maps.proofs.MapLaws.{get-inserted}
-use Rattle.reg_early.specs.Calendar.{IsDay}
+use Rattle.std.proofs.Common.{◌≡◌, ℕ, true, List, refl, sym, ap, subst, ◌∙◌, Option, Some, None}
+use Rattle.reg_decisions.proofs.Common.{get, bytes_eq-Decides, get-inserted, IsDay, registration_in}
+use Rattle.reg_decisions.proofs.Common.{GivesDigests, IsRenewedIn, StillGiven, Event, world_after, step}
+use Rattle.reg_decisions.proofs.Common.{WellKept, is_registered_to, is_registered_at, stands_in, World}
+use Rattle.reg_decisions.proofs.Common.{applied, applied_if, Ask, Entry, Registration, place_keys}
 use Rattle.reg_early.proofs.MomentsHaveDays.{IsDay-utc_day}
-use Rattle.reg_core.specs.Entry.{registration_in}
-use Rattle.reg_core.specs.Laws.{GivesDigests, IsRenewedIn, StillGiven}
-use Rattle.reg_core.specs.Run.{Event, world_after}
 use Rattle.reg_core.specs.MayBeGiven.{IsDuly, AsksMeetTheirPolicy, IsSameEntry, NoValueIsGivenTwice, place_of}
-use Rattle.reg_core.specs.Step.{step}
-use Rattle.reg_core.specs.WellKept.{WellKept, is_registered_to, is_registered_at, stands_in}
-use Rattle.reg_core.specs.World.{World, applied, applied_if}
-use Rattle.reg_core.specs.declared.ask.Ask.{Ask}
 use Rattle.reg_core.specs.declared.change.Change.TheVariants.{GiveValue}
-use Rattle.reg_core.specs.declared.entry.Entry.{Entry}
-use Rattle.reg_core.specs.declared.entry.Registration.{Registration}
-use Rattle.reg_core.proofs.KeyOrders.{place_keys}
 use Rattle.reg_decisions.proofs.Allowances.{allowed_asked}
 use Rattle.reg_laws.proofs.GivenStays.{runs_stay}
 use Rattle.reg_decisions.proofs.Keeping.RunsKeepWell.{step_keeps_well, runs_keep}

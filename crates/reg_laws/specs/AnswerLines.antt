@@ -7,16 +7,16 @@ use Rattle.reg_core.specs.declared.refusal.Refusal.{Refusal}
 use Rattle.reg_core.specs.declared.reply.Reply.TheVariants.{Refused}
 
 -- one line, which applies where something is so
-pub data Line : Type 1 where
+pub data AnswerLine : Type 1 where
   -- then the command is refused
-  refuses : Refusal → Type 0 → Line
+  refuses : Refusal → Type 0 → AnswerLine
   -- then all is as it asks already
-  is_there : Type 0 → Line
+  is_there : Type 0 → AnswerLine
 
 -- lines in turn, and what is answered where none of them applies
 infixr 5 ◌or_else◌
 pub data Lines : Type 1 where
-  ◌or_else◌ : Line → Lines → Lines
+  ◌or_else◌ : AnswerLine → Lines → Lines
   -- the command is refused
   refused : Refusal → Lines
   -- the command is accepted

@@ -24,6 +24,7 @@ pub fn two_worlds()
 /// published registers and the account's views the same; only a list of all requests, or of
 /// another account's, may lack their rows. So too at the end. What is left changes none of these
 /// requests; and where none of them is there, such a list is the other list without their rows.
+#[tactic(auto, using(crate::proofs::Striking::stages_of_run))]
 pub fn struck()
     ensures no_trace { (digest_of : List ℕ → List ℕ) → UnseenLeaveNoTrace digest_of }
     ensures stages { (digest_of : List ℕ → List ℕ) → StagesAreOfRun digest_of }
@@ -35,6 +36,7 @@ pub fn changes_fit()
 {}
 
 /// Every run from a well kept world ends in a well kept world.
+#[tactic(auto, using(reg_decisions::proofs::Keeping::RunsKeepWell::runs_keep))]
 pub fn runs_keep_well()
     ensures { (digest_of : List ℕ → List ℕ) → GivesDigests digest_of → RunsKeepWell digest_of }
 {}
@@ -42,23 +44,27 @@ pub fn runs_keep_well()
 /// What is answered was done: the world after a command has what the reply says, and the reply is
 /// about what was asked. Lists, pages and listings are whole; each entry is shown with its status on
 /// the day, and each holder who is not private with organization and address.
+#[tactic(auto, using(crate::proofs::Outcomes::AnswersAreDone::all_done))]
 pub fn answers_are_done()
     ensures { (digest_of : List ℕ → List ℕ) → AnswersAreDone digest_of }
 {}
 
 /// An approval that changes something gives exactly what the ask is allowed, on that day.
+#[tactic(auto, using(crate::proofs::Outcomes::ApprovalsGiveAndAreAdvised::approvals_give))]
 pub fn approvals_give_what_is_allowed()
     ensures { (digest_of : List ℕ → List ℕ) → ApprovalsGiveWhatIsAllowed digest_of }
 {}
 
 /// An approval that changes something, of what experts review (RFC 8126 sections 4.5 and 4.6), is
 /// of a request that an expert is for to whom it is assigned.
+#[tactic(auto, using(crate::proofs::Outcomes::ApprovalsGiveAndAreAdvised::approvals_advised))]
 pub fn approvals_are_advised()
     ensures { (digest_of : List ℕ → List ℕ) → ApprovalsAreAdvised digest_of }
 {}
 
 /// The first refusal is answered: of the refusals that apply to an ask, each by itself, it gets the
 /// one that stands first in the order of all refusals; and none applies to an ask that is allowed.
+#[tactic(auto, using(crate::proofs::FirstRefusals::first_refusals))]
 pub fn first_refusals_are_answered()
     ensures { FirstRefusalsAreAnswered }
 {}
@@ -66,6 +72,7 @@ pub fn first_refusals_are_answered()
 /// Each command goes by its lines: it gets the first of its refusals whose condition holds, in the
 /// words of the registers, of the requests and of the caller's capability; what is as it asks already
 /// changes nothing; and where no line applies it is accepted.
+#[tactic(auto, using(crate::proofs::Lines::Callers::commands_go))]
 pub fn commands_go_by_their_lines()
     ensures { (digest_of : List ℕ → List ℕ) → CommandsGoByTheirLines digest_of }
 {}
@@ -76,6 +83,7 @@ pub fn commands_go_by_their_lines()
 /// at which no entry stands, the least one where that is asked for; or, to renew it or to make it
 /// permanent, an entry of the applicant's own; and what was approved has its entry, of the
 /// applicant's account.
+#[tactic(auto, using(crate::proofs::ValuesAreGivenOnce::asks_meet_their_policy))]
 pub fn asks_meet_their_policy()
     ensures { (digest_of : List ℕ → List ℕ) → AsksMeetTheirPolicy digest_of }
 {}
@@ -92,6 +100,7 @@ pub fn no_value_is_given_twice()
 /// before, or that a minute of the IESG lets be renewed again, by a year of the calendar, or a
 /// permanence, which takes the expiry away (RFC 7120 section 3); or a clerk marked it as held, before
 /// it expired, or as held no more.
+#[tactic(auto, using(crate::proofs::TermsMoveDuly::terms_move))]
 pub fn terms_move_duly()
     ensures { (digest_of : List ℕ → List ℕ) → TermsMoveDuly digest_of }
 {}
@@ -111,6 +120,7 @@ pub fn foreign_entries_are_hidden()
 
 /// No address is given twice: in every run from a well kept world each block that was given lies
 /// in a prefix of the pool, and no two of them share an address.
+#[tactic(auto, using(crate::proofs::BlocksAreGivenDuly::blocks_apart))]
 pub fn blocks_are_apart()
     ensures { (digest_of : List ℕ → List ℕ) → GivesDigests digest_of → BlocksAreApart digest_of }
 {}
@@ -123,6 +133,7 @@ pub fn blocks_due_are_least()
 
 /// Asks for blocks are served duly: a request is taken in where a block of its size is free, and
 /// is given the one due; and what was approved has its block, which the applicant's account holds.
+#[tactic(auto, using(crate::proofs::BlocksAreGivenDuly::served_duly))]
 pub fn block_asks_are_served_duly()
     ensures { (digest_of : List ℕ → List ℕ) → BlockAsksAreServedDuly digest_of }
 {}
@@ -144,12 +155,14 @@ pub fn foreign_blocks_are_hidden()
 /// assignee, and its term but for renewals, a clerk's mark and its permanence, a block its holder, organization
 /// and address, a registry its ranges, a request its ask and, once it is not pending, its state,
 /// its experts and all advice on it; and none of them goes away, nor does a prefix of the pool.
+#[tactic(auto, using(crate::proofs::GivenStays::runs_stay))]
 pub fn given_stays()
     ensures { (digest_of : List ℕ → List ℕ) → GivesDigests digest_of → GivenStays digest_of }
 {}
 
 /// Links are their principals': whatever a command does, who is whose agent stays as before; or the
 /// principal, with an applicant's capability of its own, said of its agent whether it reads.
+#[tactic(auto, using(crate::proofs::LinksAreTheirPrincipals::links_are_theirs))]
 pub fn links_are_their_principals()
     ensures { (digest_of : List ℕ → List ℕ) → LinksAreTheirPrincipals digest_of }
 {}
@@ -158,17 +171,20 @@ pub fn links_are_their_principals()
 /// takes away no more than its one capability, and one who names an account all of its capabilities
 /// and nobody else's. The reply is what went, the token in use keeps its capability, and nothing else
 /// changes.
+#[tactic(auto, using(crate::proofs::RevocationsTakeJust::revocations_take_just))]
 pub fn revocations_take_just()
     ensures { (digest_of : List ℕ → List ℕ) → RevocationsTakeJust digest_of }
 {}
 
 /// A refusal changes nothing.
+#[tactic(auto, using(crate::proofs::Outcomes::RefusalsChangeNothing::refusals_leave))]
 pub fn refusals_change_nothing()
     ensures { (digest_of : List ℕ → List ℕ) → RefusalsChangeNothing digest_of }
 {}
 
 /// Repeats act once: an accepted command that is given again as the next step is accepted and
 /// changes nothing.
+#[tactic(auto, using(crate::proofs::Repeats::RepeatsActOnce::once))]
 pub fn repeats_act_once()
     ensures { (digest_of : List ℕ → List ℕ) → RepeatsActOnce digest_of }
 {}
@@ -185,6 +201,7 @@ pub fn approvals_stand()
 {}
 
 /// The empty world is well kept, and so is that of a new office with its first clerk.
+#[tactic(auto, using(reg_core::proofs::Keeping::FirstWorlds::first_worlds_kept))]
 pub fn first_worlds_are_well_kept()
     ensures { FirstWorldsAreWellKept }
 {}

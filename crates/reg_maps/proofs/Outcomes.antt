@@ -1,6 +1,5 @@
 -- What follows after a call, whichever way it came out.
-use Rattle.std.proofs.Common.{◌≡◌, sym, subst}
-use Rattle.std.specs.Prelude.{Result, Ok, Err, OnOk, OnErr}
+use Rattle.std.proofs.Common.{◌≡◌, sym, subst, Result, Ok, Err, OnOk, OnErr}
 
 -- what holds anyway holds at an error
 pub any_err : {T E P : Type 0} (r : Result T E) → P → OnErr r P

@@ -1,6 +1,5 @@
 -- Runs of numbers in a map: which is kept where, and what stays where the map is unchanged.
-use Rattle.std.proofs.Common.{◌≡◌, ◌≢◌, ℕ, false, refl, sym, ap, ◌∙◌, arith}
-use Rattle.std.specs.Prelude.{IsSome}
+use Rattle.std.proofs.Common.{◌≡◌, ◌≢◌, ℕ, false, refl, sym, ap, ◌∙◌, arith, IsSome}
 use Rattle.std.specs.BTreeMap.{IsUnchanged, get, is_at}
 use Rattle.std.specs.Map.{lookup}
 use Rattle.std.specs.Ordering.{nat_cmp}

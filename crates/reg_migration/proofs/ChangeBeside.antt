@@ -28,7 +28,7 @@ use Rattle.sqlite_typing.specs.Types.{accepts_program}
 use Rattle.sqlite_value.specs.declared.value.Value.TheVariants.{Int}
 use Rattle.reg_tables.specs.Schema.{office_table}
 use Rattle.reg_tables.specs.Selecting.{select_from}
-use Rattle.reg_tables.specs.Texts.{change_version}
+use Rattle.reg_tables.specs.declared.texts.TheConstants.{CHANGE_VERSION}
 
 -- ---- What the text is
 
@@ -45,7 +45,7 @@ parsed = record {
   tail = 30;
 }
 
-reads_text : first change_version ≡ Ok parsed
+reads_text : first CHANGE_VERSION.now ≡ Ok parsed
 unfolding everything
 reads_text = refl
 
@@ -96,36 +96,18 @@ module _ (schema : Schema) (at k : ℕ) (named : table_named schema office_table
     tail = 30;
   }
 
-  module _ (fits : is_accepted ≡ true) where
-    is_program : program schema [] draft ≡ Ok selection
-    unfolding program
-    is_program = rw fits refl
+  compiles : is_accepted ≡ true → compiled schema CHANGE_VERSION.now ≡ Ok whole_text
+  unfolding compiled planned meaning timed returning shows command update program
+  compiles fits = rw (reads_text, named, there, drafts, fits) refl
 
-    writes : update schema (codes "office") sets None ≡ Ok (does.Update at selection)
-    unfolding update
-    writes = rw (named, there, drafts, is_program) refl
+  refused : is_accepted ≡ false → compiled schema CHANGE_VERSION.now ≡ Err Mismatch
+  unfolding compiled planned meaning timed returning shows command update program
+  refused unfit = rw (reads_text, named, there, drafts, unfit) refl
 
-    compiles : compiled schema change_version ≡ Ok whole_text
-    unfolding compiled planned meaning timed returning shows command
-    compiles = rw (reads_text, writes) refl
+  pub understands : is_accepted ≡ true → understood schema CHANGE_VERSION.now ≡ Ok whole_text
+  unfolding understood
+  understands fits = rw (compiles fits) refl
 
-    pub understands : understood schema change_version ≡ Ok whole_text
-    unfolding understood
-    understands = rw compiles refl
-
-  module _ (unfit : is_accepted ≡ false) where
-    no_program : program schema [] draft ≡ Err Mismatch
-    unfolding program
-    no_program = rw unfit refl
-
-    no_write : update schema (codes "office") sets None ≡ Err Mismatch
-    unfolding update
-    no_write = rw (named, there, drafts, no_program) refl
-
-    refused : compiled schema change_version ≡ Err Mismatch
-    unfolding compiled planned meaning timed returning shows command
-    refused = rw (reads_text, no_write) refl
-
-    pub refuses : understood schema change_version ≡ Err Mismatch
-    unfolding understood
-    refuses = rw refused refl
+  pub refuses : is_accepted ≡ false → understood schema CHANGE_VERSION.now ≡ Err Mismatch
+  unfolding understood
+  refuses unfit = rw (refused unfit) refl

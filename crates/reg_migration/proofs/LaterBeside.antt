@@ -1,14 +1,11 @@
 -- The tables that a version lacks come beside other tables.
-use Rattle.std.proofs.Common.{◌≡◌, ◌≢◌, inl, inr, ◌<◌, ◌≤◌, ℕ, nat_lt, Bool, false, ◌||◌, List, [], ◌∷◌, ◌++◌, slice_get}
+use Rattle.std.proofs.Common.{◌≡◌, ◌≢◌, ◌<◌, ◌≤◌, ℕ, Bool, false, ◌||◌, List, [], ◌∷◌, ◌++◌, slice_get}
 use Rattle.std.proofs.Common.{refl, sym, ap, ap₂, subst, ◌∙◌, arith}
 use Rattle.std.specs.List.{AllByRecursion, list_any, position_from}
-use Rattle.std.proofs.lemmas.Bool.{cases_Bool, lt-ltb, ltb-true}
-use Rattle.std.proofs.lemmas.List.{append_assoc, append-nil}
 use Rattle.std.proofs.lemmas.List.Folds.{list_any-append}
 use Rattle.sqlite.specs.Effect.{Database}
 use Rattle.sqlite.specs.Schema.{Schema}
 use Rattle.sqlite.specs.Table.{Table}
-use Rattle.sqlite.specs.Tree.{Trees}
 use Rattle.sqlite_catalog.proofs.StepLemmas.{table_below}
 use Rattle.sqlite_catalog.specs.Change.{created, next_tree}
 use Rattle.sqlite_rules.specs.Lists.{Has}
@@ -16,49 +13,19 @@ use Rattle.sqlite_rules.proofs.ListLemmas.{all_from, all_has, has_got}
 use Rattle.sqlite_schema.specs.Names.{same_name}
 use Rattle.reg_tables.specs.Editing.{AreKeyed}
 use Rattle.reg_tables.specs.Having.{HasTable, unplaced}
-use Rattle.reg_tables.specs.Making.{AreCountless, AreToBeEmpty, HasCounter, HasRows, HasVersion, MakesEach}
+use Rattle.reg_tables.specs.Making.{AreCountless, HasCounter, HasRows, HasVersion, MakesEach}
 use Rattle.reg_tables.specs.Making.{placed, with_tables}
 use Rattle.reg_tables.specs.Schema.{office_table}
 use Rattle.reg_tables.specs.Version.{below, later_than, number_of}
 use Rattle.reg_tables.specs.declared.version.Version.{Version}
-use Rattle.reg_tables.specs.declared.version.Version.TheVariants.{First, Second, Third}
+use Rattle.reg_tables.specs.declared.version.Version.TheVariants.{First}
+use Rattle.reg_tables.proofs.BesideLemmas.{all_empty, held_low, next_above, none_high, tables_are}
+use Rattle.reg_tables.proofs.Library.EachOf.{all_back, all_front, all_join}
 use Rattle.reg_tables.proofs.Library.GrowingLists.{before_more, got_before}
 use Rattle.reg_tables.proofs.MigrateLemmas.{later_defined, later_texts}
 use Rattle.reg_migration.specs.Beside.{IsSole, IsUpgradedBeside, MakesLater, RaisesVersion, refers_to}
 
--- ---- Lists
-
-all_front : (P : Table → Type 0) (front back : List Table) → AllByRecursion P (front ++ back)
-    → AllByRecursion P front
-all_front P [] back all = tt
-all_front P (t ∷ front) back all = (all.0, all_front P front back all.1)
-
-all_back : (P : Table → Type 0) (front back : List Table) → AllByRecursion P (front ++ back)
-    → AllByRecursion P back
-all_back P [] back all = all
-all_back P (t ∷ front) back all = all_back P front back all.1
-
-all_join : (P : Table → Type 0) (front back : List Table) → AllByRecursion P front
-    → AllByRecursion P back → AllByRecursion P (front ++ back)
-all_join P [] back a b = b
-all_join P (t ∷ front) back a b = (a.0, all_join P front back a.1 b)
-
 -- ---- The tables that come are above those that are there
-
-has_last : (tables : List Table) (t : Table) → Has (tables ++ t ∷ []) t
-has_last [] t = inl refl
-has_last (s ∷ tables) t = inr (has_last tables t)
-
-next_above : (schema : Schema) (t : Table) → next_tree schema < next_tree (created schema t)
-next_above schema t =
-    table_below (created schema t) (record t { tree = next_tree schema })
-    (has_last schema.tables (record t { tree = next_tree schema }))
-
-tables_are : (schema : Schema) (tables : List Table)
-    → (with_tables schema tables).tables ≡ schema.tables ++ placed schema tables
-tables_are schema [] = sym (append-nil schema.tables)
-tables_are schema (t ∷ tables) =
-    tables_are (created schema (unplaced t)) tables ∙ append_assoc schema.tables _ _
 
 placed_above : (n : ℕ) (schema : Schema) (tables : List Table) → n ≤ next_tree schema
     → AllByRecursion (λ (t : Table). n ≤ t.tree) (placed schema tables)
@@ -77,36 +44,15 @@ placed_refers name schema (t ∷ tables) =
 
 later_countless : (v : Version) → AreCountless (later_than v)
 later_countless First = refl
-later_countless Second = refl
-later_countless Third = refl
+later_countless _ = refl
 
 -- none of them refers to the table of the office
 later_refers : (v : Version) → list_any (refers_to office_table.name) (later_than v) ≡ false
 unfolding same_name
 later_refers First = refl
-later_refers Second = refl
-later_refers Third = refl
+later_refers _ = refl
 
 -- ---- The rows
-
-module _ (n : ℕ) (trees : Trees) where
-  held_low : (t : ℕ) → t < n → below n trees t ≡ trees t
-  held_low t low = rw (lt-ltb t n low) refl
-
-  none_high : (t : ℕ) → n ≤ t → below n trees t ≡ []
-  none_high t high = elim (cases_Bool (nat_lt t n)) [
-    | inl is ↦ absurd (omega (arith, high, ltb-true t n is))
-    | inr is ↦ rw is refl
-  ]
-
-  all_empty : (schema : Schema) (tables : List Table) → n ≤ next_tree schema
-      → AreToBeEmpty (below n trees) schema tables
-  all_empty schema [] high = tt
-  all_empty schema (t ∷ tables) high =
-      let more = next_above schema (unplaced t) in (
-        none_high (next_tree schema) high,
-        all_empty (created schema (unplaced t)) tables (omega (arith, high, more)),
-      )
 
 pub later_made_beside : (v : Version) (old new : Database) → MakesEach (later_texts v) old new
     → MakesLater v old new

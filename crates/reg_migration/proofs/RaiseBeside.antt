@@ -1,25 +1,25 @@
 -- What the write of the version leaves of its table and of the others.
-use Rattle.std.proofs.Common.{◌≡◌, ◌≢◌, inl, inr, ℕ, ℤ, ◌==◌, Bool, true, false, List, [], ◌∷◌, map, filter, drop, slice_get, length}
+use Rattle.std.proofs.Common.{◌≡◌, inl, inr, ℕ, ℤ, ◌==◌, Bool, true, false, List, [], ◌∷◌, map, filter, drop, slice_get, length}
 use Rattle.std.proofs.Common.{Option, Some, None, Ok, refl, sym, ap, subst, ◌∙◌}
-use Rattle.std.specs.List.{AllByRecursion, filter_map, flat_map, list_any}
+use Rattle.std.specs.List.{filter_map, flat_map, list_any}
 use Rattle.std.specs.List.Sorted.{IsPermutation}
 use Rattle.std.proofs.lemmas.Bool.{cases_Bool, both_ways, eqb-true, or_parts}
 use Rattle.sqlite.specs.declared.types.Value.TheVariants.{Int, Null}
 use Rattle.sqlite.specs.Command.{Command}
 use Rattle.sqlite.specs.Command.TheVariants as does
-use Rattle.sqlite.specs.Does.{AtPlace, Concludes, OnRows}
+use Rattle.sqlite.specs.Does.{AtPlace, OnRows}
 use Rattle.sqlite.specs.Effect.{Database, IsDatabase}
 use Rattle.sqlite.specs.Listing.{understood}
 use Rattle.sqlite.specs.Order.{Row}
 use Rattle.sqlite.specs.Program.{overlay}
 use Rattle.sqlite.specs.Query.{IsAnswer}
 use Rattle.sqlite.specs.Rowids.TheVariants.{Given}
-use Rattle.sqlite.specs.Rows.{Edited, Gives, Queried, Task, Then, Updates, Written}
+use Rattle.sqlite.specs.Rows.{Queried, Task, Written}
 use Rattle.sqlite.specs.Schema.{Schema}
 use Rattle.sqlite.specs.State.{State, Executes, ExecutesIn, Runs, mode_of}
 use Rattle.sqlite.specs.Table.{Table}
 use Rattle.sqlite.specs.Tree.{Trees, rowid}
-use Rattle.sqlite.proofs.Callers.{IsPlain, command_of, one_step, runs_as, statement_of, through}
+use Rattle.sqlite.proofs.Callers.{IsPlain, command_of, one_step, runs_as, statement_of}
 use Rattle.sqlite.specs.Kind.TheVariants.{Integer}
 use Rattle.sqlite.specs.Term.{col}
 use Rattle.sqlite_resolve.specs.declared.compiled.Compiled.{Compiled}
@@ -47,8 +47,9 @@ use Rattle.reg_tables.proofs.Library.KeyedRows.{left_is, put_is}
 use Rattle.reg_tables.proofs.SelectLemmas.{answer_rows, as_kept}
 use Rattle.reg_tables.specs.Having.{HasTable}
 use Rattle.reg_tables.specs.Schema.{office_table}
-use Rattle.reg_tables.specs.Texts.{change_version}
-use Rattle.reg_tables.proofs.Library.Parts.{concluded, same_ok}
+use Rattle.reg_tables.specs.declared.texts.TheConstants.{CHANGE_VERSION}
+use Rattle.reg_tables.proofs.InsertLemmas.{placed_so}
+use Rattle.reg_tables.proofs.Library.Parts.{concluded, same_ok, went}
 use Rattle.reg_migration.specs.Beside.{IsSole, RaisesVersion, refers_to}
 use Rattle.reg_migration.proofs.ChangeBeside.{is_accepted, is_query_of, refuses, selection, terms, understands, whole_text}
 
@@ -102,13 +103,6 @@ module _ (schema : Schema) (k : ℕ)
 
 -- ---- The statement
 
-placed_so : (new done db : Trees) (k : ℕ) → ((t : ℕ) → new t ≡ done t) → (tables : List Table)
-    → AllByRecursion (λ (t : Table). t.tree ≢ k → done t.tree ≡ db t.tree) tables
-    → AllByRecursion (λ (t : Table). t.tree ≢ k → new t.tree ≡ db t.tree) tables
-placed_so new done db k same [] all = tt
-placed_so new done db k same (t ∷ tables) all =
-    (λ other. same t.tree ∙ all.0 other, placed_so new done db k same tables all.1)
-
 ran_is : (sql : List ℕ) (params : Row) (old new : State) (count : ℕ)
     → Executes sql params old new (Ok count) → (c : Compiled) × (understood old.now.schema sql ≡ Ok c)
 unfolding ExecutesIn
@@ -118,7 +112,7 @@ ran_is sql params old new count h = (h.0, h.1.is)
 module _ (old new : State) (params : Row) (count at k : ℕ)
     (named : table_named old.now.schema office_table.name ≡ Some at)
     (there : slice_get old.now.schema.tables at ≡ Some (office_in k))
-    (ran : Executes change_version params old new (Ok count))
+    (ran : Executes CHANGE_VERSION.now params old new (Ok count))
     (sole : (t : Table) → Has old.now.schema.tables t → t.tree ≡ k → t ≡ office_in k)
     (unreferred : list_any (refers_to office_table.name) old.now.schema.tables ≡ false) where
   abbrev schema : Schema
@@ -157,30 +151,24 @@ module _ (old new : State) (params : Row) (count at k : ℕ)
     pub after : new.now ≡ record { schema = schema; trees = next }
     pub sound : IsDatabase new.now
 
-  module _ (is : understood schema change_version ≡ Ok (whole_text schema at k named there)) where
-    plain : IsPlain (understood schema change_version)
+  module _ (is : understood schema CHANGE_VERSION.now ≡ Ok (whole_text schema at k named there)) where
+    plain : IsPlain (understood schema CHANGE_VERSION.now)
     plain = rw is (refl, refl)
 
     abbrev command : Command
     command = does.Update at query
 
-    runs : Runs old new None command (statement_of change_version (understood schema change_version))
+    runs : Runs old new None command (statement_of CHANGE_VERSION.now (understood schema CHANGE_VERSION.now))
         params count
-    runs = runs_as change_version params old new schema refl command (ap command_of is) plain count ran
+    runs = runs_as CHANGE_VERSION.now params old new schema refl command (ap command_of is) plain count ran
 
     raises : Raises
     raises =
         let found = subst (λ o. AtPlace (λ (t : Table). OnRows (record here { table = t })
         (mode_of old) None command db) o (Ok (runs.tally, new.now))) there runs.changed in
-        let done = through (Updates here query params db) (Concludes here (mode_of old) None)
-        (runs.tally, new.now) found in
-        let asked = through (Queried old.step_limit before query params)
-        (λ rows. Then (Edited schema Enforced db (edit_by rows))
-        (λ next. Gives (wrote rows next)))
-        done.0 done.1 in
-        let edited = through (Edited schema Enforced db (edit_by asked.0))
-        (λ next. Gives (wrote asked.0 next))
-        done.0 asked.2 in
+        let done = went found in
+        let asked = went done.1 in
+        let edited = went asked.2 in
         let trees : done.0.trees ≡ edited.0 =
         ap (λ (w : Written). w.trees)
         (same_ok {a = done.0} {b = wrote asked.0 edited.0} edited.2) in
@@ -201,7 +189,7 @@ module _ (old new : State) (params : Row) (count at k : ℕ)
   raised = elim (cases_Bool (is_accepted schema at k named there)) [
     | inl fits ↦ raises (understands schema at k named there fits)
     | inr unfit ↦ absurd (let e = sym (refuses schema at k named there unfit)
-        ∙ (ran_is change_version params old new count ran).1 in cc)
+        ∙ (ran_is CHANGE_VERSION.now params old new count ran).1 in cc)
   ]
 
 -- ---- What it leaves
@@ -212,7 +200,7 @@ there_is tables at = ap (λ (t : Table). record t { tree = at.table.tree }) at.s
 
 module _ (old new : State) (count : ℕ) (at : HasTable old.now.schema office_table)
     (sole : IsSole old.now.schema at)
-    (ran : Executes change_version (Int (number_of newest) ∷ []) old new (Ok count)) where
+    (ran : Executes CHANGE_VERSION.now (Int (number_of newest) ∷ []) old new (Ok count)) where
   abbrev n : ℤ
   n = number_of newest
 

@@ -39,6 +39,11 @@ pub record RaisesVersion (old new : Database) (at : HasTable old.schema office_t
       → HasVersion n (old.trees at.table.tree)
       → HasVersion (number_of newest) (new.trees at.table.tree)
 
+-- so it is wherever the table of the office stands, if it alone is in its tree
+abbrev pub RaisesAnywhere : Database → Database → Type 0
+RaisesAnywhere old new =
+    (at : HasTable old.schema office_table) → IsSole old.schema at → RaisesVersion old new at
+
 -- An office of a version was brought to the newest, wherever its tables stand: those that it lacked came
 -- after all others, empty; its one row says the newest version, if it is known by its rowid; and each
 -- other table, the office's and those beside it, has the rows that it had.

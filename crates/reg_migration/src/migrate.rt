@@ -1,17 +1,17 @@
 //! An office of an older version is made one of the newest, or left as it is.
 
-ghost use Rattle.std.specs.Prelude.{◌≡◌, ℤ, IfErr, IsTrue, OnOk, OnErr};
+ghost use Rattle.std.specs.Prelude.{◌≡◌, IfErr, IsTrue, OnOk, OnErr};
 ghost use Rattle.sqlite.specs.Held.{state};
 ghost use Rattle.sqlite.specs.State.{HasCleanDisk};
-ghost use Rattle.reg_tables.specs.Schema.{office_table};
 ghost use Rattle.reg_tables.specs.Connection.{IsIdle, Works};
-ghost use Rattle.reg_tables.specs.Editing.{IsOffice, IsOfficeOf};
+ghost use Rattle.reg_tables.specs.Editing.{IsOfficeOf};
 ghost use Rattle.reg_tables.specs.Faulting.{IsGivenUp};
-ghost use Rattle.reg_tables.specs.Having.{GainsTables, HasTable};
+ghost use Rattle.reg_tables.specs.Having.{GainsTables};
 ghost use Rattle.reg_tables.specs.Inside.{GoesInside, StaysInside};
-ghost use Rattle.reg_tables.specs.Making.{HasLater, HasVersion, IsMigrated, IsRaised};
-ghost use Rattle.reg_tables.specs.Version.{later_than, number_of};
-ghost use Rattle.reg_migration.specs.Beside.{IsSole, MakesLater, RaisesVersion, UpgradesBeside};
+ghost use Rattle.reg_tables.specs.Making.{HasLater};
+ghost use Rattle.reg_tables.specs.Version.{later_than};
+ghost use Rattle.reg_migration.specs.Beside.{MakesLater, RaisesAnywhere, UpgradesBeside};
+ghost use Rattle.reg_migration.specs.Migrating.{Migrates, RaisesOffice};
 
 use reg_tables::make::{later_texts, make_each};
 use reg_tables::reports::Reports;
@@ -46,17 +46,14 @@ fn raise_version<S: Reports>(tx: &mut Transaction<'_, S>) -> Result<(), Error>
     ensures inside { GoesInside (state S.Store tx.old.conn.now)
         (state S.Store tx.new.conn.now) result }
     ensures raised { HasCleanDisk (state S.Store tx.new.conn.now)
-        → OnOk result ((n : ℤ) → IsOffice (state S.Store tx.old.conn.now).now
-        → HasVersion n ((state S.Store tx.old.conn.now).now.trees office_table.tree)
-        → IsRaised (state S.Store tx.old.conn.now).now (state S.Store tx.new.conn.now).now) }
+        → OnOk result (RaisesOffice (state S.Store tx.old.conn.now).now
+        (state S.Store tx.new.conn.now).now) }
     ensures defined { HasCleanDisk (state S.Store tx.new.conn.now)
         → OnOk result ((state S.Store tx.new.conn.now).now.schema
         ≡ (state S.Store tx.old.conn.now).now.schema) }
     ensures anywhere { HasCleanDisk (state S.Store tx.new.conn.now)
-        → OnOk result ((at : HasTable (state S.Store tx.old.conn.now).now.schema office_table)
-        → IsSole (state S.Store tx.old.conn.now).now.schema at
-        → RaisesVersion (state S.Store tx.old.conn.now).now
-        (state S.Store tx.new.conn.now).now at) }
+        → OnOk result (RaisesAnywhere (state S.Store tx.old.conn.now).now
+        (state S.Store tx.new.conn.now).now) }
     ensures reported { IfErr result S.Reported }
 {
     run(tx, texts::CHANGE_VERSION, &[ValueRef::Int(NEWEST.number())])?;
@@ -69,9 +66,7 @@ fn make_and_raise<S: Reports>(tx: &mut Transaction<'_, S>, from: Version) -> Res
     ensures inside { GoesInside (state S.Store tx.old.conn.now)
         (state S.Store tx.new.conn.now) result }
     ensures migrated { HasCleanDisk (state S.Store tx.new.conn.now)
-        → OnOk result (IsOfficeOf from (state S.Store tx.old.conn.now).now
-        → HasVersion (number_of from) ((state S.Store tx.old.conn.now).now.trees office_table.tree)
-        → IsMigrated from (state S.Store tx.old.conn.now).now
+        → OnOk result (Migrates from (state S.Store tx.old.conn.now).now
         (state S.Store tx.new.conn.now).now) }
     ensures gained { HasCleanDisk (state S.Store tx.new.conn.now)
         → OnOk result (GainsTables (later_than from) (state S.Store tx.old.conn.now).now.schema
@@ -93,9 +88,7 @@ pub fn migrate<S: Reports>(conn: &mut Connection<S>, from: Version) -> Result<()
     ensures live { HasCleanDisk (state S.Store conn.new)
         → OnOk result (IsTrue (state S.Store conn.new).is_open) }
     ensures migrated { Works (state S.Store conn.new)
-        → OnOk result (IsOfficeOf from (state S.Store conn.old).now
-        → HasVersion (number_of from) ((state S.Store conn.old).now.trees office_table.tree)
-        → IsMigrated from (state S.Store conn.old).now (state S.Store conn.new).now) }
+        → OnOk result (Migrates from (state S.Store conn.old).now (state S.Store conn.new).now) }
     ensures gained { Works (state S.Store conn.new)
         → OnOk result (GainsTables (later_than from) (state S.Store conn.old).now.schema
         (state S.Store conn.new).now.schema) }

@@ -4,7 +4,7 @@ use Rattle.std.specs.Borrow.{Bor}
 use Rattle.csv.specs.declared.iter.ByteRecordsIntoIter.{ByteRecordsIntoIter}
 use Rattle.reg_ranges.specs.RowReading.{HasRead, text_rows}
 use Rattle.reg_ranges.proofs.ReachedRows.{first_rows}
-use Rattle.reg_notes.specs.Reading.{◌>>=◌, IsFaultOf, Noted, added, is_header, row_of, rows_from, rows_of}
+use Rattle.reg_notes.specs.Reading.{◌>>=◌, IsFaultOfNotes, Noted, added, is_header, row_of, rows_from, rows_of}
 use Rattle.reg_notes.specs.declared.reading.NotesFault.{NotesFault}
 use Rattle.reg_notes.specs.declared.reading.NotesFault.TheVariants as fault
 
@@ -80,7 +80,7 @@ all_from text old new n before fields r read =
 
 -- a fault of the whole
 fault_of : {A : Type 0} (f : NotesFault) (a : Result A NotesFault) (whole : Result (List Noted) NotesFault)
-    → (a ≡ Err f → whole ≡ Err f) → IsFaultOf a f → IsFaultOf whole f
+    → (a ≡ Err f → whole ≡ Err f) → IsFaultOfNotes a f → IsFaultOfNotes whole f
 fault_of fault.Memory a whole same h = tt
 fault_of fault.Large a whole same h = same h
 fault_of fault.Header a whole same h = same h
@@ -89,8 +89,8 @@ fault_of (fault.Row n part) a whole same h = same h
 -- the row after those that were read is at fault
 pub row_at_fault : (text : List ℕ) (old new : ByteRecordsIntoIter (Bor (List ℕ))) (n : ℕ)
     (before : List Noted) (fields : List (List ℕ)) (f : NotesFault) (r : Reads text old n before)
-    → HasRead text (r.first ∷ (r.done ++ fields ∷ [])) new → IsFaultOf (row_of n fields) f
-    → IsFaultOf (rows_of (text_rows text)) f
+    → HasRead text (r.first ∷ (r.done ++ fields ∷ [])) new → IsFaultOfNotes (row_of n fields) f
+    → IsFaultOfNotes (rows_of (text_rows text)) f
 row_at_fault text old new n before fields f r read h =
     let all = all_from text old new n before fields r read in
     fault_of f (row_of n fields) (rows_of (text_rows text))
@@ -100,8 +100,8 @@ row_at_fault text old new n before fields f r read h =
 pub row_repeats : (text : List ℕ) (old new : ByteRecordsIntoIter (Bor (List ℕ))) (n : ℕ)
     (before : List Noted) (fields : List (List ℕ)) (row : Noted) (f : NotesFault)
     (r : Reads text old n before) → HasRead text (r.first ∷ (r.done ++ fields ∷ [])) new
-    → row_of n fields ≡ Ok row → IsFaultOf (added n before row) f
-    → IsFaultOf (rows_of (text_rows text)) f
+    → row_of n fields ≡ Ok row → IsFaultOfNotes (added n before row) f
+    → IsFaultOfNotes (rows_of (text_rows text)) f
 row_repeats text old new n before fields row f r read is h =
     let all = all_from text old new n before fields r read in
     fault_of f (added n before row) (rows_of (text_rows text))

@@ -96,11 +96,11 @@ file_notes file =
     if nat_lt 1048576 (length file) then Err fault.Large else rows_of (text_rows file)
 
 -- the fault is the one that reading finds, unless memory ran out
-abbrev pub IsFaultOf : {A : Type 0} → Result A NotesFault → NotesFault → Type 0
-IsFaultOf read fault.Memory = Unit {0}
-IsFaultOf read fault.Large = read ≡ Err fault.Large
-IsFaultOf read fault.Header = read ≡ Err fault.Header
-IsFaultOf read (fault.Row n part) = read ≡ Err (fault.Row n part)
+abbrev pub IsFaultOfNotes : {A : Type 0} → Result A NotesFault → NotesFault → Type 0
+IsFaultOfNotes read fault.Memory = Unit {0}
+IsFaultOfNotes read fault.Large = read ≡ Err fault.Large
+IsFaultOfNotes read fault.Header = read ≡ Err fault.Header
+IsFaultOfNotes read (fault.Row n part) = read ≡ Err (fault.Row n part)
 
 -- ---- Faults as texts
 
@@ -124,6 +124,6 @@ abbrev pub AreNotes : Notes → List Noted → Type 0
 AreNotes notes rows = (thing : List ℕ) → note_at notes thing ≡ noted_at rows thing
 
 -- A row was added: the notes are those of the rows now. It was not: that is the fault.
-abbrev pub Adds : Result (Unit {0}) NotesFault → Notes → Result (List Noted) NotesFault → Type 0
-Adds (Ok done) notes rows = (all : List Noted) × (rows ≡ Ok all) × AreNotes notes all
-Adds (Err f) notes rows = IsFaultOf rows f
+abbrev pub AddsNotes : Result (Unit {0}) NotesFault → Notes → Result (List Noted) NotesFault → Type 0
+AddsNotes (Ok done) notes rows = (all : List Noted) × (rows ≡ Ok all) × AreNotes notes all
+AddsNotes (Err f) notes rows = IsFaultOfNotes rows f

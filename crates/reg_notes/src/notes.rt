@@ -75,6 +75,7 @@ impl Notes {
     }
 
     /// Notes a thing on which there is no note yet. Only want of memory is an error.
+    #[tactic(auto, using(std::proofs::lemmas::Map::Text::btree_map_updates_text))]
     pub(crate) fn add(&mut self, thing: String, note: Note) -> Result<(), AllocError>
         requires { note_at self.old (string_bytes thing) ≡ None }
         ensures counted { OnOk result (note_count self.new ≡ note_count self.old + 1) }

@@ -4,7 +4,7 @@ ghost use Rattle.csv.specs.Reading.{owned_rows_left};
 ghost use Rattle.csv.specs.Records.{fields_of};
 ghost use Rattle.reg_ranges.specs.RowReading.{HasRead, text_rows};
 ghost use Rattle.reg_notes.specs.Notes.{note_count};
-ghost use Rattle.reg_notes.specs.Reading.{Adds, AreNotes, IsFaultOf, Noted, added, file_notes, is_header, note_of, notes_fault_text, part_word, row_of, rows_of, thing_of, words_of};
+ghost use Rattle.reg_notes.specs.Reading.{AddsNotes, AreNotes, IsFaultOfNotes, Noted, added, file_notes, is_header, note_of, notes_fault_text, part_word, row_of, rows_of, thing_of, words_of};
 ghost use Rattle.reg_notes.specs.declared.reading.NotesFault.TheVariants as fault;
 
 use crate::note::Note;
@@ -105,6 +105,7 @@ struct Row {
     note: Note,
 }
 
+#[tactic(auto, using(crate::proofs::FiveFields::five_there, crate::proofs::FiveFields::these_five))]
 fn five_fields(row: &ByteRecord) -> Option<Fields<'_>>
     ensures { MatchOption result (length (fields_of row.now) ≢ 5)
         (λ f. fields_of row.now ≡ f.registry.now ∷ f.value.now ∷ f.title.now ∷ f.reference.now
@@ -146,7 +147,7 @@ fn names_columns(fields: Fields<'_>) -> bool
 fn read_row(alloc: Global, n: usize, row: &ByteRecord) -> Result<Row, NotesFault>
     ensures row { IfOk result
         (λ r. row_of n (fields_of row.now) ≡ Ok (string_bytes r.thing, r.note)) }
-    ensures fault { IfErr result (IsFaultOf (row_of n (fields_of row.now))) }
+    ensures fault { IfErr result (IsFaultOfNotes (row_of n (fields_of row.now))) }
 {
     match five_fields(row) {
         None => Err(NotesFault::Row(n, RowPart::Columns)),
@@ -160,7 +161,7 @@ fn read_fields(alloc: Global, n: usize, fields: Fields<'_>) -> Result<Row, Notes
         (fields.entry.registry.now ∷ fields.entry.value.now ∷ fields.entry.title.now
         ∷ fields.entry.reference.now ∷ fields.entry.note.now ∷ []) ≡ Ok (string_bytes r.thing, r.note)) }
     ensures fault { IfErr result
-        (IsFaultOf
+        (IsFaultOfNotes
         (row_of n
         (fields.entry.registry.now ∷ fields.entry.value.now ∷ fields.entry.title.now
         ∷ fields.entry.reference.now ∷ fields.entry.note.now ∷ []))) }
@@ -173,7 +174,7 @@ fn read_fields(alloc: Global, n: usize, fields: Fields<'_>) -> Result<Row, Notes
 // What row n is about.
 fn read_thing(alloc: Global, n: usize, registry: &[u8], value: &[u8]) -> Result<String, NotesFault>
     ensures thing { IfOk result (λ t. thing_of n registry.now value.now ≡ Ok (string_bytes t)) }
-    ensures fault { IfErr result (IsFaultOf (thing_of n registry.now value.now)) }
+    ensures fault { IfErr result (IsFaultOfNotes (thing_of n registry.now value.now)) }
 {
     if registry.is_empty() {
         return read_authority(alloc, n, value);
@@ -189,7 +190,7 @@ fn read_thing(alloc: Global, n: usize, registry: &[u8], value: &[u8]) -> Result<
 // The name of the authority, which has no value.
 fn read_authority(alloc: Global, n: usize, value: &[u8]) -> Result<String, NotesFault>
     ensures thing { IfOk result (λ t. thing_of n [] value.now ≡ Ok (string_bytes t)) }
-    ensures fault { IfErr result (IsFaultOf (thing_of n [] value.now)) }
+    ensures fault { IfErr result (IsFaultOfNotes (thing_of n [] value.now)) }
 {
     if value.is_empty() {
         Ok(String::new(alloc))
@@ -206,7 +207,7 @@ fn read_note(
     note: &[u8],
 ) -> Result<Note, NotesFault>
     ensures note { IfOk result (λ r. note_of n title.now reference.now note.now ≡ Ok r) }
-    ensures fault { IfErr result (IsFaultOf (note_of n title.now reference.now note.now)) }
+    ensures fault { IfErr result (IsFaultOfNotes (note_of n title.now reference.now note.now)) }
 {
     let title = read_words(alloc, n, title)?;
     let reference = read_words(alloc, n, reference)?;
@@ -220,7 +221,7 @@ fn read_note(
 
 fn read_words(alloc: Global, n: usize, field: &[u8]) -> Result<Words, NotesFault>
     ensures words { IfOk result (λ w. words_of n field.now ≡ Ok w) }
-    ensures fault { IfErr result (IsFaultOf (words_of n field.now)) }
+    ensures fault { IfErr result (IsFaultOfNotes (words_of n field.now)) }
 {
     match Words::read(alloc, field)? {
         Some(words) => Ok(words),
@@ -236,7 +237,7 @@ fn read_words(alloc: Global, n: usize, field: &[u8]) -> Result<Words, NotesFault
 pub fn read_notes(alloc: Global, file: &[u8]) -> Result<Notes, NotesFault>
     ensures notes { IfOk result (λ notes. (rows : List Noted) × (file_notes file.now ≡ Ok rows)
         × AreNotes notes rows) }
-    ensures fault { IfErr result (IsFaultOf (file_notes file.now)) }
+    ensures fault { IfErr result (IsFaultOfNotes (file_notes file.now)) }
 {
     if MOST_BYTES < file.len() {
         return Err(NotesFault::Large);
@@ -251,7 +252,7 @@ fn notes_of(alloc: Global, rows: &mut ByteRecordsIntoIter<&[u8]>) -> Result<Note
         → IfOk result (λ notes. (all : List Noted) × (rows_of (text_rows text) ≡ Ok all)
         × AreNotes notes all) }
     ensures fault { (text : List ℕ) → HasRead text [] rows.old
-        → IfErr result (IsFaultOf (rows_of (text_rows text))) }
+        → IfErr result (IsFaultOfNotes (rows_of (text_rows text))) }
 {
     let Some(first) = next_row(rows)? else {
         return Err(NotesFault::Header);
@@ -271,7 +272,7 @@ fn notes_of(alloc: Global, rows: &mut ByteRecordsIntoIter<&[u8]>) -> Result<Note
 fn add(notes: &mut Notes, row: Row) -> Result<(), NotesFault>
     ensures counted { OnOk result (note_count notes.new ≡ note_count notes.old + 1) }
     ensures added { (before : List Noted) → AreNotes notes.old before
-        → Adds result notes.new (added (note_count notes.old) before (string_bytes row.thing, row.note)) }
+        → AddsNotes result notes.new (added (note_count notes.old) before (string_bytes row.thing, row.note)) }
 {
     let n = notes.count();
     if notes.at(row.thing.as_str()).is_some() {

@@ -17,7 +17,7 @@ use Rattle.reg_core.specs.declared.capability.Cap.{Cap}
 use Rattle.reg_core.specs.declared.capability.Kind.{Kind}
 use Rattle.reg_core.specs.declared.capability.Kind.TheVariants as kind
 use Rattle.reg_core.specs.declared.command.ApplicantCommand.{ApplicantCommand}
-use Rattle.reg_core.specs.declared.command.ApplicantCommand.TheVariants.{Own, OwnOne, Submit, Withdraw, Holdings, SetListing, SetAgent, Agents, Principals, PrincipalRows}
+use Rattle.reg_core.specs.declared.command.ApplicantCommand.TheVariants.{OwnOne, Submit, Withdraw, SetAgent, PrincipalRows}
 use Rattle.reg_core.specs.declared.command.ClerkCommand.{ClerkCommand}
 use Rattle.reg_core.specs.declared.command.Command.TheVariants.{Applicant, Expert, Clerk}
 use Rattle.reg_core.specs.declared.command.ExpertCommand.{ExpertCommand}
@@ -97,18 +97,14 @@ principal_answered account principal w =
 own_rows : (w : World) (account : List ℕ) (command : ApplicantCommand)
     → own_answer (published w) account (personal account w) command
     ≡ answer_to_account account command w
-own_rows w account Own = refl
 own_rows w account (OwnOne reference) = rw (own_request account reference w) refl
 own_rows w account (Submit reference ask) = rw (own_request account reference w) refl
 own_rows w account (Withdraw reference) = rw (own_request account reference w) refl
-own_rows w account Holdings = refl
-own_rows w account (SetListing block private) = refl
 own_rows w account (SetAgent agent reads) =
     ap (λ there. by_rule (agent_rule (account, agent) reads there)
     (λ decision. tells.Agent agent reads)) (own_agent account agent w)
-own_rows w account Agents = refl
-own_rows w account Principals = refl
 own_rows w account (PrincipalRows principal) = principal_answered account principal w
+own_rows w account other = refl
 
 pub applicant_answered : (w : World) (caller : Option (List ℕ)) (moment : ℕ)
     (command : ApplicantCommand) → is_in_clock moment ≡ true

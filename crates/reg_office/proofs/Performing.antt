@@ -9,7 +9,7 @@ use Rattle.reg_core.specs.declared.told.Told.{Told}
 use Rattle.reg_core.specs.declared.refusal.Refusal.{Refusal}
 use Rattle.reg_core.specs.declared.reply.Reply.TheVariants.{Accepted}
 use Rattle.reg_keeper.proofs.Premises.{goes_on_then}
-use Rattle.reg_commands.specs.Performs.{Finds, Performs}
+use Rattle.reg_commands.specs.Performs.{LooksUp, Performs}
 use Rattle.reg_commands.specs.Stops.{Refuses}
 use Rattle.reg_commands.specs.declared.stop.Stop.{Stop}
 use Rattle.reg_commands.specs.declared.stop.Stop.TheVariants.{Refused, Fault}
@@ -18,7 +18,7 @@ use Rattle.reg_commands.specs.declared.stop.Stop.TheVariants.{Refused, Fault}
 pub performs_then : {S T : Type 0} {world : S → World} {Holds Sound : S → Type 0} {fails : Bool}
     {old mid new : S} {x : T} {result : Result Told Stop}
     (found : World → Result T Refusal) (act : T → World → Answer) (answer : World → Answer)
-    → Finds world Holds Sound fails old mid (Ok x) found
+    → LooksUp world Holds Sound fails old mid (Ok x) found
     → Performs world Holds Sound fails mid new result (act x)
     → answer (world old) ≡ (found (world old) >>= (λ x. act x (world old)))
     → Performs world Holds Sound fails old new result answer
@@ -55,7 +55,7 @@ refuses_then found act (Fault fault) h = tt
 pub performs_stopped : {S T : Type 0} {world : S → World} {Holds Sound : S → Type 0} {fails : Bool}
     {old new : S} {result : Result Told Stop}
     (found : World → Result T Refusal) (act : T → World → Answer) (answer : World → Answer)
-    (stop : Stop) → Finds world Holds Sound fails old new (Err stop) found
+    (stop : Stop) → LooksUp world Holds Sound fails old new (Err stop) found
     → IsErrAnd result (λ s. s ≡ stop)
     → answer (world old) ≡ (found (world old) >>= (λ x. act x (world old)))
     → Performs world Holds Sound fails old new result answer

@@ -32,19 +32,19 @@ use Rattle.reg_audit.specs.Audits.{Audits, knows_free}
 use Rattle.reg_audit.specs.Rows.{with_row, IsInTurn, IsNew}
 use Rattle.reg_audit.specs.declared.audit.Audit.{Audit}
 use Rattle.reg_audit.specs.declared.row.Row.{Row}
-use Rattle.reg_tables.specs.Selecting.{BeginsWith, Selects, columns_of, shows, stored}
+use Rattle.reg_tables.specs.Selecting.{BeginsWith, SelectsFrom, columns_of, shows, stored}
 use Rattle.reg_statements.specs.Defined.{IsDefined}
 use Rattle.reg_statements.specs.Parts.{TableDef}
 use Rattle.reg_opening.specs.FedRows.{IsPlaced}
 use Rattle.reg_opening.specs.Numbered.{ShowsNumbered, numbered_columns, numbered_in}
 use Rattle.reg_opening.specs.declared.numbered.Numbered.{Numbered}
 use Rattle.reg_opening.proofs.RowidLemmas.{keyed_at, keyed_none, rowids_read}
-use Rattle.reg_tables.specs.Texts.{select_ranges, select_registries}
-use Rattle.reg_tables.proofs.Statements.Ranges.{all_ranges}
-use Rattle.reg_tables.proofs.Statements.Registries.{all_registries}
+use Rattle.reg_tables.specs.declared.texts.TheConstants.{SELECT_RANGES, SELECT_REGISTRIES}
+use Rattle.reg_tables.proofs.Statements.{all_ranges}
+use Rattle.reg_tables.proofs.Statements.{all_registries}
 use Rattle.reg_opening.proofs.Versions.{first_begins, ranges_rows, registries_rows, version_begins}
 use Rattle.reg_opening.proofs.Feeding.{feeds_none}
-use Rattle.reg_opening.specs.Feeding.{EachIsTied, MakesPart, IsTiedTable, FeedsPart, FeedsRows, FeedsTable, IsFed, TellsTable}
+use Rattle.reg_opening.specs.Feeding.{EachIsTied, MakesPart, IsTiedTable, FeedsPart, FeedsRows, FeedsShown, FeedsTable, IsFed, TellsTable}
 use Rattle.reg_opening.specs.Feeding.{AreInTurn, AreNew, tables_at, with_rows}
 
 few : (m n : ℕ) → nat_lt m n ≡ true → m + 1 ≤ n
@@ -57,7 +57,7 @@ untied (t ∷ ts) = (tt, untied ts)
 
 -- the rows that a query of a whole table shows are those that are stored
 pub all_shown : (m n : ℕ) (sql : List ℕ) (t : ℕ) (order : List (Term × Key)) (old new : State)
-    (shown : List SqlRow) → Selects m sql t [] (columns_of n) order → BeginsWith m old.now.schema
+    (shown : List SqlRow) → SelectsFrom m sql t [] (columns_of n) order → BeginsWith m old.now.schema
     → Shown sql [] old new shown → IsPermutation (map (stored n) (old.now.trees t)) shown
 all_shown m n sql t order old new shown selects begins answer =
     let found =
@@ -69,14 +69,14 @@ all_shown m n sql t order old new shown selects begins answer =
 
 -- so of the registries and the ranges of a store of a version
 pub registries_shown : (v : Version) (old new : State) (shown : List SqlRow)
-    → BeginsWith (table_count v) old.now.schema → Shown select_registries [] old new shown
+    → BeginsWith (table_count v) old.now.schema → Shown SELECT_REGISTRIES.now [] old new shown
     → IsPermutation (map (stored 2) (tables_at v old.now).registries) shown
 registries_shown v old new shown is answer =
     subst (λ rows. IsPermutation (map (stored 2) rows) shown) (sym (registries_rows v old.now.trees))
     (all_shown 3 2 _ 3 _ old new shown all_registries (first_begins v 3 (omega arith) is) answer)
 
 pub ranges_shown : (v : Version) (old new : State) (shown : List SqlRow)
-    → BeginsWith (table_count v) old.now.schema → Shown select_ranges [] old new shown
+    → BeginsWith (table_count v) old.now.schema → Shown SELECT_RANGES.now [] old new shown
     → IsPermutation (map (stored 5) (tables_at v old.now).ranges) shown
 ranges_shown v old new shown is answer =
     subst (λ rows. IsPermutation (map (stored 5) rows) shown) (sym (ranges_rows v old.now.trees))
@@ -295,8 +295,8 @@ module _ {T K X : Type 0} (d : TableDef T K X) (l : IsDefined d) (of : SqlRow �
   module _ (v : Version) (old new : State) (before after : Audit) where
     module _ (sql : List ℕ) (all : ShowsNumbered d sql) (has : nat_lt d.slot (table_count v) ≡ true)
       where
-        each_told : {E : Type 0} (result : Result Bool E) → IfOk result (λ k. (shown : List SqlRow)
-            × Shown sql [] old new shown × IsFed numbered row_of shown before after k)
+        each_told : {E : Type 0} (result : Result Bool E)
+            → IfOk result (FeedsShown of d.width row sql old new before after)
             → BeginsWith (table_count v) old.now.schema
             → IfOk result (Told (tables_at v old.now) (content_at v old.now) before after d.at
             (d.rows (tables_at v old.now)))
@@ -315,8 +315,7 @@ module _ {T K X : Type 0} (d : TableDef T K X) (l : IsDefined d) (of : SqlRow �
 
         pub feeds_part : {E : Type 0} (result : Result Bool E) → IsIdle new → Endures old new
             → Stays old new → IfOk result (λ _. IsTrue (knows_free before) → IsTrue (knows_free after))
-            → (Works new → IfOk result (λ k. (shown : List SqlRow) × Shown sql [] old new shown
-            × IsFed numbered row_of shown before after k))
+            → (Works new → IfOk result (FeedsShown of d.width row sql old new before after))
             → FeedsIt v old new before after result
         feeds_part result now endures stays free rows = record {
           idle = now;

@@ -28,13 +28,12 @@ use Rattle.reg_tables.specs.declared.version.Version.{Version}
 use Rattle.reg_tables.proofs.HavingLemmas.{version_found}
 use Rattle.reg_tables.proofs.Enduring.{endures_then}
 use Rattle.reg_tables.proofs.RestLemmas.{stays_then}
-use Rattle.reg_statements.specs.Content.{HasVersion, content, content_at}
+use Rattle.reg_statements.specs.Content.{HasVersionRow, content, content_at}
 use Rattle.reg_statements.specs.Loading.{ReadAs}
 use Rattle.reg_statements.specs.Tables.{Tables, tables_in}
 use Rattle.reg_opening.specs.Feeding.{FeedsTable, tables_at}
-use Rattle.reg_opening.specs.Opening.{AreRowsOf, IsOfVersion, FindsKind, HasVersionTables, ComesFirst, IsFlawIn, IsFlawOf, IsFoundAs, IsFree, IsFreeBy}
+use Rattle.reg_opening.specs.Opening.{AreRowsOf, IsOfVersion, FindsKind, HasVersionTables, ComesFirst, IsFlawIn, IsFlawOf, IsFoundAs, LeavesRoom, IsFreeBy}
 use Rattle.reg_opening.specs.Opening.{HasFlaw, IsOurs, IsReadAs, IsVersionOf, LeaveFree, Reads, only, kind_of}
-use Rattle.reg_opening.specs.Partitions.{AreRegistries}
 use Rattle.reg_opening.specs.Parts.{AreParts, IsBlankWorld, with_parts}
 use Rattle.reg_opening.specs.Rowids.{AreOrderedKeyed}
 use Rattle.reg_opening.specs.declared.flaw.Flaw.{Flaw}
@@ -52,7 +51,7 @@ one_row [] one = absurd (omega (arith, one))
 one_row (row ∷ []) one = (row, refl)
 one_row (row ∷ next ∷ rows) one = absurd (omega (arith, one))
 
-counted : (n : ℤ) (rows : List Row) → HasVersion n rows → length rows ≡ 1
+counted : (n : ℤ) (rows : List Row) → HasVersionRow n rows → length rows ≡ 1
 counted n rows has = ap length has.1
 
 each_is : (n : ℤ) (rows : List Row)
@@ -84,7 +83,7 @@ version_read rows shown all moved read =
 
 -- and rows of which one does not
 pub version_unread : (rows shown : List Row) → IsPermutation (map (stored 1) rows) shown
-    → ¬ AllByRecursion (λ row. IsSome (version_in row)) shown → (n : ℤ) → ¬ HasVersion n rows
+    → ¬ AllByRecursion (λ row. IsSome (version_in row)) shown → (n : ℤ) → ¬ HasVersionRow n rows
 version_unread rows shown moved unread n has =
     let one : AllByRecursion (λ row. IsSome (version_in row)) (map (stored 1) (has.0 ∷ [])) =
     (ap is_some has.2, tt) in
@@ -92,7 +91,7 @@ version_unread rows shown moved unread n has =
     (subst (λ rs. AllByRecursion (λ row. IsSome (version_in row)) (map (stored 1) rs)) (sym has.1) one))
 
 -- a table has one version
-pub one_version : (m n : ℤ) (rows : List Row) → HasVersion m rows → HasVersion n rows → m ≡ n
+pub one_version : (m n : ℤ) (rows : List Row) → HasVersionRow m rows → HasVersionRow n rows → m ≡ n
 one_version m n rows a b =
     let same : a.0 ∷ [] ≡ b.0 ∷ [] = sym a.1 ∙ b.1 in
     let row : a.0 ≡ b.0 = cc in
@@ -147,22 +146,18 @@ front_tree schema begins has =
 pub one_number : (m n : ℤ) (db : Database) → IsOfVersion m db → IsOfVersion n db → m ≡ n
 one_number m n db a b =
     let same = ap (λ (t : Table). t.tree) (one_table db.schema office_table a.has b.has) in
-    one_version m n (db.trees b.has.table.tree) (subst (λ k. HasVersion m (db.trees k)) same a.says) b.says
+    one_version m n (db.trees b.has.table.tree) (subst (λ k. HasVersionRow m (db.trees k)) same a.says) b.says
 
 -- where its table comes first, that has the row
 front_says : (n : ℤ) (db : Database) → BeginsWith 1 db.schema → IsOfVersion n db
-    → HasVersion n (tables_in db.trees).office
+    → HasVersionRow n (tables_in db.trees).office
 front_says n db begins is =
-    subst (λ k. HasVersion n (db.trees k)) (front_tree db.schema begins is.has) is.says
+    subst (λ k. HasVersionRow n (db.trees k)) (front_tree db.schema begins is.has) is.says
 
 -- ---- The rows
 
 blank : IsBlankWorld empty_world
-blank = record {
-  assigned = record { caps = refl; registries = refl; entries = refl; requests = refl };
-  given = record { pool = refl; blocks = refl; requests = refl; queue = refl };
-  reviewed = record { queue = refl; advice = refl; agents = refl };
-}
+blank = assumption
 
 -- what an audit says that was fed all rows
 pub rows_leave : (t : Tables) (old new : Audit) (free : Option Vacancies) → Audits old empty_world
@@ -192,90 +187,24 @@ version_first v db begins = first_begins v 4 (omega arith) begins
 rows_keyed : (v : Version) (db : Database) → AreOrderedKeyed db.trees → AreParts (tables_at v db)
     → AllByRecursion (λ t. AreKeyed (rows_of v db.trees t.tree)) office_schema.tables
 rows_keyed v db keyed parts =
-    let assigned = parts.0 in
-    let given = parts.1.0 in
-    let reviewed = parts.1.1 in (
+    assumption (
       subst AreKeyed (sym (office_rows v db.trees)) keyed.0,
-      (
-        assigned.0.0.1,
-        (
-          subst AreKeyed (sym (registries_rows v db.trees)) keyed.1.0,
-          (
-            subst AreKeyed (sym (ranges_rows v db.trees)) keyed.1.1.0,
-            (
-              assigned.1.1.0.0.1,
-              (
-                given.1.1.0.0.1,
-                (
-                  reviewed.0.0.1,
-                  (
-                    reviewed.1.0.0.1,
-                    (
-                      given.0.0.1,
-                      (
-                        given.1.0.0.1,
-                        (assigned.1.1.1.0.1, (given.1.1.1.0.1, (reviewed.1.1.0.1, tt))),
-                      ),
-                    ),
-                  ),
-                ),
-              ),
-            ),
-          ),
-        ),
-      ),
+      subst AreKeyed (sym (registries_rows v db.trees)) keyed.1.0,
+      subst AreKeyed (sym (ranges_rows v db.trees)) keyed.1.1.0,
+      parts,
     )
 
 pub is_first : (v : Version) (db : Database) → BeginsWith (table_count v) db.schema
-    → HasVersion (number_of v) (tables_in db.trees).office → AreOrderedKeyed db.trees
+    → HasVersionRow (number_of v) (tables_in db.trees).office → AreOrderedKeyed db.trees
     → AreParts (tables_at v db) → WellKept (content_at v db) → ComesFirst v db
 is_first v db begins version keyed parts kept =
-    let assigned = parts.0 in
-    let given = parts.1.0 in
-    let reviewed = parts.1.1 in
-    record {
-      begins = begins;
-      keyed = version_keyed v db.trees (rows_keyed v db keyed parts);
-      kept = record {
-        whole = (
-          subst (HasVersion (number_of v)) (sym (office_rows v db.trees)) version,
-          (
-            assigned.0.0.0,
-            (
-              assigned.1.0.registries,
-              (
-                assigned.1.0.ranges,
-                (
-                  assigned.1.1.0.0.0,
-                  (
-                    given.1.1.0.0.0,
-                    (
-                      reviewed.0.0.0,
-                      (
-                        reviewed.1.0.0.0,
-                        (
-                          given.0.0.0,
-                          (
-                            given.1.0.0.0,
-                            (assigned.1.1.1.0.0, (given.1.1.1.0.0, reviewed.1.1.0.0)),
-                          ),
-                        ),
-                      ),
-                    ),
-                  ),
-                ),
-              ),
-            ),
-          ),
-        );
-        tied = record {
-          ranges = assigned.1.0.owned;
-          holds = assigned.1.1.1.1;
-          minutes = given.1.1.1.1;
-        };
-      };
-      well = kept;
-    }
+    assumption (
+      version_keyed v db.trees (rows_keyed v db keyed parts),
+      subst (HasVersionRow (number_of v)) (sym (office_rows v db.trees)) version,
+      parts,
+      begins,
+      kept,
+    )
 
 -- where there are no others it is an office's
 is_ours : (v : Version) (s : State) → IsLive s → Works s → s.now.schema ≡ schema_of v
@@ -294,63 +223,11 @@ is_ours v s live works schema first = (
 
 -- and an office's alone comes first
 ours_first : (v : Version) (db : Database) → IsOurs v db → ComesFirst v db
-ours_first v db ours = record {
-  begins = schema_first v ours.0.office.schema;
-  keyed = ours.0.office.tables;
-  kept = ours.0.kept;
-  well = ours.1;
-}
+ours_first v db ours = assumption (schema_first v ours.0.office.schema, ours)
 
 pub first_parts : (v : Version) (db : Database) → ComesFirst v db
     → AreParts (tables_at v db) × WellKept (content_at v db)
-first_parts v db first =
-    let t = first.kept.whole in
-    let tied = first.kept.tied in
-    let keyed = keyed_version v db.trees first.keyed in
-    let registries : AreRegistries (tables_at v db) =
-    record { registries = t.1.1.0; ranges = t.1.1.1.0; owned = tied.ranges } in (
-      (
-        (
-          ((t.1.0, keyed.1.0), λ k there. tt),
-          (
-            registries,
-            (
-              ((t.1.1.1.1.0, keyed.1.1.1.1.0), λ k there. tt),
-              (
-                (t.1.1.1.1.1.1.1.1.1.1.0, keyed.1.1.1.1.1.1.1.1.1.1.0),
-                tied.holds,
-              ),
-            ),
-          ),
-        ),
-        (
-          (
-            ((t.1.1.1.1.1.1.1.1.0, keyed.1.1.1.1.1.1.1.1.0), λ k there. tt),
-            (
-              ((t.1.1.1.1.1.1.1.1.1.0, keyed.1.1.1.1.1.1.1.1.1.0), λ k there. tt),
-              (
-                ((t.1.1.1.1.1.0, keyed.1.1.1.1.1.0), λ k there. tt),
-                (
-                  (t.1.1.1.1.1.1.1.1.1.1.1.0, keyed.1.1.1.1.1.1.1.1.1.1.1.0),
-                  tied.minutes,
-                ),
-              ),
-            ),
-          ),
-          (
-            ((t.1.1.1.1.1.1.0, keyed.1.1.1.1.1.1.0), λ k there. tt),
-            (
-              ((t.1.1.1.1.1.1.1.0, keyed.1.1.1.1.1.1.1.0), λ k there. tt),
-              (
-                (t.1.1.1.1.1.1.1.1.1.1.1.1, keyed.1.1.1.1.1.1.1.1.1.1.1.1.0),
-                λ k there. tt,
-              ),
-            ),
-          ),
-        ),
-      ),
-      first.well,
-    )
+first_parts v db first = assumption (keyed_version v db.trees first.keyed, first)
 
 -- whatever flaw a store has that says a version, its rows are no office's where its tables come first
 unread_rows : (v : Version) (db : Database) (flaw : Flaw) → IsFlawOf v db flaw → HasVersionTables v db
@@ -379,8 +256,8 @@ first_says v db first =
     let front = front_there db.schema (schema_begins v db first.begins) in
     record {
       has = front.0;
-      says = subst (λ k. HasVersion (number_of v) (db.trees k)) (sym front.1)
-          (subst (HasVersion (number_of v)) (office_rows v db.trees) first.kept.whole.0);
+      says = subst (λ k. HasVersionRow (number_of v) (db.trees k)) (sym front.1)
+          (subst (HasVersionRow (number_of v)) (office_rows v db.trees) first.kept.whole.0);
     }
 
 -- where a store says a version, it is none of another
@@ -435,7 +312,7 @@ module _ (v : Version) (old new : State) (stays : Stays old new) (live : IsLive 
     λ w has. no_first flaw read works w has.0 has.1,
   )
 
-  pub read_free : (f : Found) → IsReadAs v old.now f → IsFree old.now f
+  pub read_free : (f : Found) → IsReadAs v old.now f → LeavesRoom old.now f
   read_free (found.Ours w free) read =
       subst (λ (w : Version). BeginsWith (table_count w) old.now.schema
       → AreVacanciesOf (content_at w old.now) free) (sym read.0) (λ begins. (read.2 begins).1.1)

@@ -1,7 +1,7 @@
 -- Registries that take their ranges in turn, where no row is left, take all of theirs.
-use Rattle.std.proofs.Common.{◌≡◌, ℕ, Bool, true, false, cond, ◌&&◌, ◌||◌, List, [], ◌∷◌, ◌++◌, map, filter, length, get_or, ◌<◌, ◌≤◌, arith}
+use Rattle.std.proofs.Common.{◌≡◌, ℕ, Bool, true, false, cond, ◌&&◌, ◌||◌, List, [], ◌∷◌, ◌++◌, map, filter, length, ◌<◌, arith}
 use Rattle.std.proofs.Common.{refl, sym, ap, subst, ◌∙◌, Option, Some, None}
-use Rattle.std.proofs.lemmas.Bool.{and_parts}
+use Rattle.std.proofs.lemmas.Bool.{and_parts, or_parts, or_right}
 use Rattle.std.proofs.lemmas.List.{append-nil}
 use Rattle.std.specs.Cmp.{eq_by_cmp_equiv}
 use Rattle.std.specs.List.{AllByRecursion}
@@ -89,12 +89,8 @@ all_others : (name : List ℕ) (gs : List Registry) (rows : List RegistryRange)
     → is_named gs name ≡ false → map (share_of (trailing name rows)) gs ≡ map (share_of rows) gs
 all_others name [] rows none = refl
 all_others name (g ∷ gs) rows none =
-    let both = neither (same_text g.name name) (is_named gs name) none in
+    let both = or_parts (same_text g.name name) (is_named gs name) none in
     λ i. (g, others name g.name both.0 rows i) ∷ all_others name gs rows both.1 i
-  where
-    neither : (a b : Bool) → (a || b) ≡ false → (a ≡ false) × (b ≡ false)
-    neither true b is = absurd (cc)
-    neither false b is = (refl, is)
 
 -- ---- Rows and their registries
 
@@ -118,12 +114,8 @@ owned_more : (g : Registry) (gs : List Registry) (rows : List RegistryRange)
 owned_more g gs [] all = refl
 owned_more g gs (r ∷ rows) all =
     let both = and_parts (is_named gs r.registry) (are_owned gs rows) all in
-    λ i. (later (same_text g.name r.registry) (is_named gs r.registry) both.0 i)
+    λ i. (or_right (same_text g.name r.registry) (is_named gs r.registry) both.0 i)
     && owned_more g gs rows both.1 i
-  where
-    later : (a b : Bool) → b ≡ true → (a || b) ≡ true
-    later true b is = refl
-    later false b is = is
 
 owned_before : (g : Registry) (gs : List Registry) (rows : List RegistryRange)
     → are_owned gs (trailing g.name rows) ≡ true → are_owned (g ∷ gs) rows ≡ true

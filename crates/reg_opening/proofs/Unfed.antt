@@ -15,7 +15,7 @@ use Rattle.reg_records.specs.Registries.{registry_in}
 use Rattle.reg_records.specs.declared.ranges.RegistryRange.{RegistryRange}
 use Rattle.reg_records.specs.declared.registries.Registry.{Registry}
 use Rattle.reg_tables.specs.Connection.{Stays, Works}
-use Rattle.reg_tables.specs.Texts.{select_ranges, select_registries}
+use Rattle.reg_tables.specs.declared.texts.TheConstants.{SELECT_RANGES, SELECT_REGISTRIES}
 use Rattle.reg_statements.specs.Loading.{IsAscending, ReadAs, ReadsInOrder}
 use Rattle.reg_statements.proofs.ReadLemmas.{same_values}
 use Rattle.reg_opening.specs.Causes.{HasCause, ShowsMisordered}
@@ -33,10 +33,10 @@ module _ {S : Type 0} {g : Ghosts S} {Reported : Error → Type 0} {Read Ungrown
     (old mid new : Held S) (fault : Fault) (registries : List Registry) (ranges : List RegistryRange)
     (first : Stays (state g old) (state g mid)) (second : Stays (state g mid) (state g new))
     (names : Works (state g mid) → (rows : List Row)
-    × Shown select_registries [] (state g old) (state g mid) rows
+    × Shown SELECT_REGISTRIES.now [] (state g old) (state g mid) rows
     × ReadAs registry_in rows registries)
     (values : Works (state g new) → (rows : List Row)
-    × Shown select_ranges [] (state g mid) (state g new) rows
+    × Shown SELECT_RANGES.now [] (state g mid) (state g new) rows
     × ReadAs range_in rows ranges) where
   pub unfed_cause : AreUnfed Ungrown registries ranges fault
       → HasCause Reported (Read ⊎ Ungrown) AreRegistriesUnordered g (state g old) (state g new) fault
@@ -49,7 +49,7 @@ module _ {S : Type 0} {g : Ghosts S} {Reported : Error → Type 0} {Read Ungrown
       shows works (inl not) =
           let read = names (second.worked works) in
           record {
-            sql = select_registries;
+            sql = SELECT_REGISTRIES.now;
             rows = read.0;
             from = old;
             upto = mid;
@@ -60,7 +60,7 @@ module _ {S : Type 0} {g : Ghosts S} {Reported : Error → Type 0} {Read Ungrown
       shows works (inr not) =
           let read = values works in
           record {
-            sql = select_ranges;
+            sql = SELECT_RANGES.now;
             rows = read.0;
             from = mid;
             upto = new;

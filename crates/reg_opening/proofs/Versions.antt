@@ -1,11 +1,12 @@
 -- What is so of each version.
-use Rattle.std.proofs.Common.{◌≡◌, ℕ, zero, suc, ◌≤◌, List, [], ◌∷◌, ◌++◌, take, refl, sym, ap, ◌∙◌, arith}
+use Rattle.std.proofs.Common.{◌≡◌, ℕ, zero, suc, ◌≤◌, List, [], ◌∷◌, take, refl, sym, ap, ◌∙◌, arith}
 use Rattle.std.specs.Fmt.{digits}
 use Rattle.std.specs.List.{AllByRecursion}
 use Rattle.std.proofs.lemmas.List.{take-take}
 use Rattle.sqlite.specs.Schema.{Schema}
 use Rattle.sqlite.specs.Table.{Table}
 use Rattle.sqlite.specs.Tree.{Trees}
+use Rattle.sqlite_trees.proofs.ListLemmas.{all-append}
 use Rattle.reg_tables.specs.Editing.{AreKeyed}
 use Rattle.reg_tables.specs.Schema.{office_schema}
 use Rattle.reg_tables.specs.Selecting.{BeginsWith}
@@ -36,8 +37,7 @@ version_begins {schema} v n few begins = record {
 -- each has ten at least
 ten : (v : Version) → 10 ≤ table_count v
 ten First = omega arith
-ten Second = omega arith
-ten Third = omega arith
+ten _ = omega arith
 
 pub first_begins : {schema : Schema} (v : Version) (n : ℕ) → n ≤ 10
     → BeginsWith (table_count v) schema → BeginsWith n schema
@@ -48,14 +48,9 @@ first_begins v n few begins =
 
 pub number_exact : (v w : Version) → number_of v ≡ number_of w → v ≡ w
 number_exact First First same = refl
-number_exact First Second same = absurd (cc)
-number_exact First Third same = absurd (cc)
-number_exact Second First same = absurd (cc)
 number_exact Second Second same = refl
-number_exact Second Third same = absurd (cc)
-number_exact Third First same = absurd (cc)
-number_exact Third Second same = absurd (cc)
 number_exact Third Third same = refl
+number_exact _ _ same = absurd (cc)
 
 -- ---- The tables that each version has
 
@@ -64,22 +59,19 @@ pub office_rows : (v : Version) (trees : Trees)
     → (tables_in (rows_of v trees)).office ≡ (tables_in trees).office
 unfolding digits
 office_rows First trees = refl
-office_rows Second trees = refl
-office_rows Third trees = refl
+office_rows _ trees = refl
 
 pub registries_rows : (v : Version) (trees : Trees)
     → (tables_in (rows_of v trees)).registries ≡ (tables_in trees).registries
 unfolding digits
 registries_rows First trees = refl
-registries_rows Second trees = refl
-registries_rows Third trees = refl
+registries_rows _ trees = refl
 
 pub ranges_rows : (v : Version) (trees : Trees)
     → (tables_in (rows_of v trees)).ranges ≡ (tables_in trees).ranges
 unfolding digits
 ranges_rows First trees = refl
-ranges_rows Second trees = refl
-ranges_rows Third trees = refl
+ranges_rows _ trees = refl
 
 -- the tables of a version have their rows by rowids just where all have that it has or lacks
 abbrev AreKeyedIn : Version → Trees → List Table → Type 0
@@ -90,11 +82,6 @@ first_all : (P : Table → Type 0) (n : ℕ) (tables : List Table) → AllByRecu
 first_all P zero tables all = tt
 first_all P (suc n) [] all = tt
 first_all P (suc n) (t ∷ tables) all = (all.0, first_all P n tables all.1)
-
-pub both_all : (P : Table → Type 0) (tables others : List Table) → AllByRecursion P tables
-    → AllByRecursion P others → AllByRecursion P (tables ++ others)
-both_all P [] others all more = more
-both_all P (t ∷ tables) others all more = (all.0, both_all P tables others all.1 more)
 
 pub version_keyed : (v : Version) (trees : Trees) → AreKeyedIn v trees office_schema.tables
     → AllByRecursion (λ t. AreKeyed (trees t.tree)) (tables_of v)
@@ -108,10 +95,10 @@ pub keyed_version : (v : Version) (trees : Trees)
     → AreKeyedIn v trees office_schema.tables
 unfolding digits
 keyed_version First trees all =
-    both_all (λ t. AreKeyed (rows_of First trees t.tree)) (tables_of First) (later_than First) all
+    all-append (λ t. AreKeyed (rows_of First trees t.tree)) (tables_of First) (later_than First) all
     (keyed_none, (keyed_none, (keyed_none, tt)))
 keyed_version Second trees all =
-    both_all (λ t. AreKeyed (rows_of Second trees t.tree)) (tables_of Second) (later_than Second) all
+    all-append (λ t. AreKeyed (rows_of Second trees t.tree)) (tables_of Second) (later_than Second) all
     (keyed_none, tt)
 keyed_version Third trees all =
-    both_all (λ t. AreKeyed (rows_of Third trees t.tree)) (tables_of Third) (later_than Third) all tt
+    all-append (λ t. AreKeyed (rows_of Third trees t.tree)) (tables_of Third) (later_than Third) all tt

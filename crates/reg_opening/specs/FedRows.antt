@@ -14,7 +14,7 @@ use Rattle.reg_core.specs.declared.entry.Registration.{Registration}
 use Rattle.reg_core.specs.declared.request.Case.{Case}
 use Rattle.reg_core.specs.Minutes.{ask_with, is_renewal, with_minute}
 use Rattle.reg_records.specs.Requests.Reading.{request_in}
-use Rattle.reg_records.proofs.RequestLaws.Selected.{request_in-columns}
+use Rattle.reg_records.proofs.RequestLaws.Selected.{request_in_columns}
 use Rattle.reg_tables.specs.Selecting.{shows, stored}
 use Rattle.reg_tables.specs.Version.{end_of, table_count}
 use Rattle.reg_tables.specs.declared.version.Version.{Version}
@@ -285,4 +285,4 @@ agents_placed Third = refl
 -- a request is read of its columns alone
 pub request_reads : (row : SqlRow)
     → request_in (shows (numbered_columns 25) [] row) ≡ request_in (stored 25 row)
-request_reads row = sym (request_in-columns (shows (numbered_columns 25) [] row))
+request_reads row = sym (request_in_columns (shows (numbered_columns 25) [] row))

@@ -1,12 +1,12 @@
 -- What an audit is fed of the rows of a table.
 use Rattle.std.specs.FinMap.{FinMap, get, insert, empty}
 use Rattle.std.specs.declared.cmp.Ordering.{Ordering}
-use Rattle.std.specs.Prelude.{◌≡◌, ℤ, None, Result, Ok, IfOk, List, [], ◌∷◌, ◌++◌, map, reverse, Bool, true, false, IsTrue, IsSome, Option}
+use Rattle.std.specs.Prelude.{◌≡◌, ℕ, ℤ, None, Result, Ok, IfOk, List, [], ◌∷◌, ◌++◌, map, reverse, Bool, true, false, IsTrue, IsSome, Option}
 use Rattle.std.specs.List.{AllByRecursion}
 use Rattle.std.specs.declared.alloc.AllocError.{AllocError}
 use Rattle.sqlite.specs.Effect.{Database}
 use Rattle.sqlite.specs.Order.{Row as SqlRow}
-use Rattle.sqlite.specs.State.{State}
+use Rattle.sqlite.specs.State.{State, Shown}
 use Rattle.reg_maps.specs.RowMaps.{IsTable, held_in}
 use Rattle.reg_core.specs.WellKept.{WellKept}
 use Rattle.reg_core.specs.World.{World}
@@ -19,7 +19,7 @@ use Rattle.reg_tables.specs.Editing.{AreKeyed}
 use Rattle.reg_tables.specs.Selecting.{BeginsWith}
 use Rattle.reg_tables.specs.Version.{rows_of, table_count}
 use Rattle.reg_tables.specs.declared.version.Version.{Version}
-use Rattle.reg_opening.specs.Numbered.{HasRisen, IsRising}
+use Rattle.reg_opening.specs.Numbered.{HasRisen, IsRising, numbered_in}
 use Rattle.reg_opening.specs.declared.feeder.Feeder.{Feeder}
 use Rattle.reg_opening.specs.declared.numbered.Numbered.{Numbered}
 use Rattle.reg_statements.specs.Content.{content_at}
@@ -75,6 +75,13 @@ IsFed {T} of row rows old new true =
     (values : List (Numbered T)) × ReadAs of rows values × IsRising (rowids_of values)
     × FeedsRows old new (map row (reverse values))
 IsFed of row rows old new false = ¬ AllByRecursion (λ r. IsSome (of r)) rows
+
+-- the query showed rows: whether each reads with its rowid, and where each does, the audit was fed them
+abbrev pub FeedsShown : {T : Type 0} → (SqlRow → Option T) → ℕ → (T → Row) → List ℕ → State → State
+    → Audit → Audit → Bool → Type 0
+FeedsShown read width row sql old new before after fed =
+    (rows : List SqlRow) × Shown sql [] old new rows
+    × IsFed (numbered_in read width) (λ numbered. row numbered.value) rows before after fed
 
 -- an audit that was fed the rows of a part of the office: whether they are the table of the part,
 -- and where they are, it was fed the rows of the world with this

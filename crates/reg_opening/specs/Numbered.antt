@@ -5,7 +5,7 @@ use Rattle.sqlite.specs.Order.{Row, column}
 use Rattle.sqlite.specs.Term.{Term, col}
 use Rattle.sqlite_value.specs.declared.keys.Key.{Key}
 use Rattle.reg_records.specs.Columns.{int_in}
-use Rattle.reg_tables.specs.Selecting.{Selects, columns_of}
+use Rattle.reg_tables.specs.Selecting.{SelectsFrom, columns_of}
 use Rattle.reg_statements.specs.Loading.{IsAscending}
 use Rattle.reg_statements.specs.Parts.{TableDef}
 use Rattle.reg_opening.specs.declared.numbered.Numbered.{Numbered}
@@ -18,7 +18,7 @@ numbered_columns n = columns_of n ++ col 1 0 ∷ []
 -- the text is a query of all rows of the table, each with its rowid
 pub record ShowsNumbered {T K X : Type 0} (d : TableDef T K X) (sql : List ℕ) : Type 0 where
   pub order : List (Term × Key)
-  pub selects : Selects (d.slot + 1) sql d.table.tree [] (numbered_columns d.width) order
+  pub selects : SelectsFrom (d.slot + 1) sql d.table.tree [] (numbered_columns d.width) order
 
 -- what a row reads as, with the whole number in the column behind
 abbrev pub numbered_in : {T : Type 0} → (Row → Option T) → ℕ → Row → Option (Numbered T)

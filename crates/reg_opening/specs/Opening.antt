@@ -21,7 +21,7 @@ use Rattle.reg_tables.specs.Schema.{office_table}
 use Rattle.reg_tables.specs.Selecting.{BeginsWith}
 use Rattle.reg_tables.specs.Version.{IsOther, number_of, rows_of, schema_of, table_count, tables_of}
 use Rattle.reg_tables.specs.declared.version.Version.{Version}
-use Rattle.reg_statements.specs.Content.{AreKept, HasVersion, IsStoredAs, content, content_at}
+use Rattle.reg_statements.specs.Content.{AreKept, HasVersionRow, IsStoredAs, content, content_at}
 use Rattle.reg_statements.specs.Tables.{Tables, tables_in}
 use Rattle.reg_opening.specs.Causes.{HasCause}
 use Rattle.reg_opening.specs.Feeding.{tables_at}
@@ -39,7 +39,7 @@ use Rattle.reg_opening.specs.declared.kind.StoreKind.TheVariants.{Ours, OtherVer
 -- the version of the table's one row, or none where it has another number of rows or another form
 abbrev pub IsVersionOf : List Row → Option ℤ → Type 0
 IsVersionOf rows version =
-    MatchOption version ((n : ℤ) → ¬ HasVersion n rows) (λ n. HasVersion n rows)
+    MatchOption version ((n : ℤ) → ¬ HasVersionRow n rows) (λ n. HasVersionRow n rows)
 
 -- the one element of a list
 abbrev pub only : List ℤ → Option ℤ
@@ -48,8 +48,8 @@ only (n ∷ []) = Some n
 only (n ∷ m ∷ more) = None
 
 -- the version of this number, or none where no version has it
-abbrev pub IsNumberOf : ℤ → Option Version → Type 0
-IsNumberOf n version = MatchOption version (IsOther n) (λ v. n ≡ number_of v)
+abbrev pub IsNumberShown : ℤ → Option Version → Type 0
+IsNumberShown n version = MatchOption version (IsOther n) (λ v. n ≡ number_of v)
 
 -- the tables are those of a version, and hold a world that is well kept
 abbrev pub IsOurs : Version → Database → Type 0
@@ -70,7 +70,7 @@ pub record ComesFirst (v : Version) (db : Database) : Type 0 where
 -- version
 pub record IsOfVersion (n : ℤ) (db : Database) : Type 0 where
   pub has : HasTable db.schema office_table
-  pub says : HasVersion n (db.trees has.table.tree)
+  pub says : HasVersionRow n (db.trees has.table.tree)
 
 -- what a store is whose tables stand alone: an office's of a version, with the tables of this and no
 -- others and a content that is well kept; an office's of a version that this library does not know;
@@ -99,11 +99,11 @@ kind_of (found.OtherVersion n) = OtherVersion n
 kind_of (found.NotOurs flaw) = NotOurs
 
 -- and what is free in it, if it is an office's whose tables come first
-abbrev pub IsFree : Database → Found → Type 0
-IsFree db (found.Ours v free) =
+abbrev pub LeavesRoom : Database → Found → Type 0
+LeavesRoom db (found.Ours v free) =
     BeginsWith (table_count v) db.schema → AreVacanciesOf (content_at v db) free
-IsFree db (found.OtherVersion n) = Unit {0}
-IsFree db (found.NotOurs flaw) = Unit {0}
+LeavesRoom db (found.OtherVersion n) = Unit {0}
+LeavesRoom db (found.NotOurs flaw) = Unit {0}
 
 -- What a store is told to be. Where it is an office's of a version, the row of the version says so and
 -- its tables are there, and where they come first, or there are no others, its rows are what is told.
@@ -174,16 +174,16 @@ pub record FindsKind {E : Type 0} (old new : State) (result : Result Found E) : 
   pub endures : Endures old new
   pub stays : Stays old new
   pub kind : Works new → IfOk result (λ found. IsFoundAs old.now (kind_of found))
-  pub free : Works new → IfOk result (IsFree old.now)
+  pub free : Works new → IfOk result (LeavesRoom old.now)
   pub flaw : Works new → IfOk result (HasFlaw old.now)
 
 -- A call that tells what a store is, whatever tables it has. The store stays as it was.
-pub record Decides {E : Type 0} (old new : State) (result : Result StoreKind E) : Type 0 where
+pub record TellsKind {E : Type 0} (old new : State) (result : Result StoreKind E) : Type 0 where
   pub rest : IsIdle new
   pub endures : Endures old new
   pub stays : Stays old new
   pub kind : Works new → IfOk result (IsFoundAs old.now)
 
 -- why a call that finds what a store is tells a fault
-abbrev pub IsStopped : {S : Type 0} → (Error → Type 0) → Type 0 → Ghosts S → State → State → Fault → Type 0
-IsStopped Reported Refused g old new fault = HasCause Reported Refused IsUnordered g old new fault
+abbrev pub OpeningIsStopped : {S : Type 0} → (Error → Type 0) → Type 0 → Ghosts S → State → State → Fault → Type 0
+OpeningIsStopped Reported Refused g old new fault = HasCause Reported Refused IsUnordered g old new fault

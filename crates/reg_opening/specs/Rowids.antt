@@ -9,7 +9,7 @@ use Rattle.sqlite_value.specs.declared.keys.Key.{Key}
 use Rattle.reg_records.specs.Columns.{int_in}
 use Rattle.reg_tables.specs.Editing.{AreKeyed}
 use Rattle.reg_tables.specs.Schema.{office_table, ranges_table, registries_table}
-use Rattle.reg_tables.specs.Selecting.{Selects, ordered_by}
+use Rattle.reg_tables.specs.Selecting.{SelectsFrom, ordered_by}
 
 -- the rowid that a row begins with
 abbrev pub rowid_in : Row → Option ℤ
@@ -17,7 +17,7 @@ rowid_in row = int_in (column row 0)
 
 -- the text is a query of the rowids of the table in a tree
 abbrev pub SelectsRowids : List ℕ → ℕ → List (Term × Key) → Type 0
-SelectsRowids sql t = Selects 4 sql t [] (col 1 0 ∷ [])
+SelectsRowids sql t = SelectsFrom 4 sql t [] (col 1 0 ∷ [])
 
 -- each text is the query of the rowids of the table in its place, in their order
 abbrev pub AreRowids : List (List ℕ) → List Table → Type 0

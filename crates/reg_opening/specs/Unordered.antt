@@ -6,7 +6,7 @@ use Rattle.reg_maps.specs.Maps.{text_cmp}
 use Rattle.reg_core.specs.World.{place_cmp}
 use Rattle.reg_records.specs.Ranges.{range_in}
 use Rattle.reg_records.specs.Registries.{registry_in}
-use Rattle.reg_tables.specs.Texts.{select_ranges, select_registries}
+use Rattle.reg_tables.specs.declared.texts.TheConstants.{SELECT_RANGES, SELECT_REGISTRIES}
 use Rattle.reg_statements.specs.Loading.{ReadsInOrder}
 use Rattle.reg_statements.specs.Office as office
 use Rattle.reg_statements.specs.Parts.{TableDef}
@@ -21,8 +21,8 @@ IsUnnumbered d sql rows = ShowsNumbered d sql × AreUnrisen d.width rows
 -- all registries, or all ranges, which are not in the order of their names and first values
 abbrev pub AreRegistriesUnordered : List ℕ → List Row → Type 0
 AreRegistriesUnordered sql rows =
-    ((sql ≡ select_registries) × ¬ ReadsInOrder registry_in (λ a b. text_cmp a.name b.name) rows)
-    ⊎ ((sql ≡ select_ranges) × ¬ ReadsInOrder range_in
+    ((sql ≡ SELECT_REGISTRIES.now) × ¬ ReadsInOrder registry_in (λ a b. text_cmp a.name b.name) rows)
+    ⊎ ((sql ≡ SELECT_RANGES.now) × ¬ ReadsInOrder range_in
     (λ a b. place_cmp (a.registry, a.range.lo) (b.registry, b.range.lo)) rows)
 
 -- so of the parts, in the order in which an audit is fed them

@@ -21,9 +21,9 @@ use reg_core::entry::Entry;
 use reg_core::holding::Holding;
 use reg_core::request::Request;
 use reg_records::advice::ExpertAdvice;
-use reg_records::agents::Link;
 use reg_records::caps::Grant;
 use reg_records::holds::Hold;
+use reg_records::links::Link;
 use reg_records::minutes::Minute;
 use reg_records::pool::Prefix;
 use reg_records::queue::Seat;
@@ -123,6 +123,7 @@ impl FedRow for Grant {
 
     ghost IsTied = { λ t k. Unit {0} };
 
+    #[tactic(auto, using(crate::proofs::FedRows::shows_caps))]
     fn all() -> &'static str {
         "SELECT digest, account, kind, until, rowid FROM caps ORDER BY rowid"
     }
@@ -159,6 +160,7 @@ impl FedRow for Entry {
 
     ghost IsTied = { λ t k. Unit {0} };
 
+    #[tactic(auto, using(crate::proofs::FedRows::shows_entries))]
     fn all() -> &'static str {
         "SELECT registry, value, label, assignee, first, expires, renewed, rowid FROM entries \
          ORDER BY rowid"
@@ -196,6 +198,7 @@ impl FedRow for Prefix {
 
     ghost IsTied = { λ t k. Unit {0} };
 
+    #[tactic(auto, using(crate::proofs::FedRows::shows_pool))]
     fn all() -> &'static str {
         "SELECT prefix, rowid FROM pool ORDER BY rowid"
     }
@@ -232,6 +235,7 @@ impl FedRow for Holding {
 
     ghost IsTied = { λ t k. Unit {0} };
 
+    #[tactic(auto, using(crate::proofs::FedRows::shows_blocks))]
     fn all() -> &'static str {
         "SELECT first, size, holder, organization, address, private, rowid FROM blocks \
          ORDER BY rowid"
@@ -269,6 +273,7 @@ impl FedRow for Request {
 
     ghost IsTied = { λ t k. Unit {0} };
 
+    #[tactic(auto, using(crate::proofs::FedRows::shows_requests))]
     fn all() -> &'static str {
         "SELECT account, reference, kind, registry, value, least, label, contact, specification, \
          rfc_number, rfc_stream, rfc_track, minute, draft, stable, interest, chair, director, \
@@ -308,6 +313,7 @@ impl FedRow for Seat {
 
     ghost IsTied = { λ t k. Unit {0} };
 
+    #[tactic(auto, using(crate::proofs::FedRows::shows_queue))]
     fn all() -> &'static str {
         "SELECT account, reference, expert, rowid FROM queue ORDER BY rowid"
     }
@@ -344,6 +350,7 @@ impl FedRow for ExpertAdvice {
 
     ghost IsTied = { λ t k. Unit {0} };
 
+    #[tactic(auto, using(crate::proofs::FedRows::shows_advice))]
     fn all() -> &'static str {
         "SELECT account, reference, expert, verdict, text, rowid FROM advice ORDER BY rowid"
     }
@@ -380,6 +387,7 @@ impl FedRow for Hold {
 
     ghost IsTied = { ExpiresIn };
 
+    #[tactic(auto, using(crate::proofs::FedRows::shows_holds))]
     fn all() -> &'static str {
         "SELECT registry, value, rowid FROM holds ORDER BY rowid"
     }
@@ -416,6 +424,7 @@ impl FedRow for Minute {
 
     ghost IsTied = { RenewsIn };
 
+    #[tactic(auto, using(crate::proofs::FedRows::shows_minutes))]
     fn all() -> &'static str {
         "SELECT account, reference, minute, rowid FROM minutes ORDER BY rowid"
     }
@@ -452,6 +461,7 @@ impl FedRow for Link {
 
     ghost IsTied = { λ t k. Unit {0} };
 
+    #[tactic(auto, using(crate::proofs::FedRows::shows_agents))]
     fn all() -> &'static str {
         "SELECT principal, agent, rowid FROM agents ORDER BY rowid"
     }

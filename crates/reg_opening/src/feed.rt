@@ -3,7 +3,6 @@ ghost use Rattle.std.specs.Prelude.{◌≡◌, ◌⊎◌, ℕ, List, [], IfErr, 
 ghost use Rattle.std.specs.FinMap.{FinMap};
 ghost use Rattle.sqlite.specs.Held.{state};
 ghost use Rattle.sqlite.specs.Order.{Row as SqlRow, column};
-ghost use Rattle.sqlite.specs.State.{Shown};
 ghost use Rattle.sqlite.specs.Tree.{rowid};
 ghost use Rattle.reg_maps.specs.RowMaps.{held_in};
 ghost use Rattle.reg_core.specs.World.{World};
@@ -17,8 +16,8 @@ ghost use Rattle.reg_statements.specs.Parts.{TableDef};
 ghost use Rattle.reg_statements.specs.Tables.{Tables};
 ghost use Rattle.reg_opening.specs.Causes.{AreUnrisen, HasCause};
 ghost use Rattle.reg_opening.specs.FedRows.{IsPlaced};
-ghost use Rattle.reg_opening.specs.Feeding.{FeedsPart, FeedsRows, IsFed, MakesPart, IsTiedTable};
-ghost use Rattle.reg_opening.specs.Numbered.{ShowsNumbered, numbered_columns, numbered_in};
+ghost use Rattle.reg_opening.specs.Feeding.{FeedsPart, FeedsRows, FeedsShown, MakesPart, IsTiedTable};
+ghost use Rattle.reg_opening.specs.Numbered.{ShowsNumbered, numbered_columns};
 ghost use Rattle.reg_opening.specs.Unordered.{IsUnnumbered};
 
 use crate::feeder::Feeder;
@@ -149,10 +148,8 @@ fn feed_table<S: Opens, T: FedRow>(
     ensures idle { IsIdle (state S.Store conn.new) }
     ensures stays { Stays (state S.Store conn.old) (state S.Store conn.new) }
     ensures endures { Endures (state S.Store conn.old) (state S.Store conn.new) }
-    ensures rows { Works (state S.Store conn.new) → IfOk result (λ read. (rows : _)
-        × Shown sql.now [] (state S.Store conn.old) (state S.Store conn.new) rows
-        × IsFed (numbered_in T.of T.table.width) (λ numbered. T.row_of numbered.value) rows
-        feeder.old.audit feeder.new.audit read) }
+    ensures rows { Works (state S.Store conn.new) → IfOk result (FeedsShown T.of T.table.width T.row_of
+        sql.now (state S.Store conn.old) (state S.Store conn.new) feeder.old.audit feeder.new.audit) }
     ensures free { IfOk result (λ _. IsTrue (knows_free feeder.old.audit)
         → IsTrue (knows_free feeder.new.audit)) }
     ensures fault { IfErr result (HasCause S.Reported (S.Unloaded ⊎ S.Ungrown)

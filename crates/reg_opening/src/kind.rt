@@ -9,8 +9,8 @@ ghost use Rattle.reg_tables.specs.Schema.{office_table};
 ghost use Rattle.reg_tables.specs.Selecting.{BeginsWith};
 ghost use Rattle.reg_tables.specs.Version.{table_count};
 ghost use Rattle.reg_opening.specs.Causes.{TellsError};
-ghost use Rattle.reg_opening.specs.Opening.{AreRowsOf, Decides, FindsKind, IsFreeBy, IsNumberOf, IsVersionOf};
-ghost use Rattle.reg_opening.specs.Opening.{IsStopped, Reads, free_in, only, kind_of};
+ghost use Rattle.reg_opening.specs.Opening.{AreRowsOf, TellsKind, FindsKind, IsFreeBy, IsNumberShown, IsVersionOf};
+ghost use Rattle.reg_opening.specs.Opening.{OpeningIsStopped, Reads, free_in, only, kind_of};
 
 use crate::feed::Reading;
 use crate::feeder::Feeder;
@@ -69,8 +69,8 @@ impl Found {
 /// the store does not give in their order are a fault of it.
 pub fn check<S: Opens>(alloc: Global, conn: &mut Connection<S>) -> Result<StoreKind, Fault>
     requires { IsIdle (state S.Store conn.old) }
-    ensures decides { Decides (state S.Store conn.old) (state S.Store conn.new) result }
-    ensures fault { IfErr result (IsStopped S.Reported (S.Unloaded ⊎ S.Ungrown) S.Store
+    ensures decides { TellsKind (state S.Store conn.old) (state S.Store conn.new) result }
+    ensures fault { IfErr result (OpeningIsStopped S.Reported (S.Unloaded ⊎ S.Ungrown) S.Store
         (state S.Store conn.old) (state S.Store conn.new)) }
 {
     Ok(find(alloc, conn)?.kind())
@@ -82,7 +82,7 @@ pub fn check<S: Opens>(alloc: Global, conn: &mut Connection<S>) -> Result<StoreK
 pub fn find<S: Opens>(alloc: Global, conn: &mut Connection<S>) -> Result<Found, Fault>
     requires { IsIdle (state S.Store conn.old) }
     ensures finds { FindsKind (state S.Store conn.old) (state S.Store conn.new) result }
-    ensures fault { IfErr result (IsStopped S.Reported (S.Unloaded ⊎ S.Ungrown) S.Store
+    ensures fault { IfErr result (OpeningIsStopped S.Reported (S.Unloaded ⊎ S.Ungrown) S.Store
         (state S.Store conn.old) (state S.Store conn.new)) }
 {
     match S::has_office(alloc, conn.schema()) {
@@ -98,7 +98,7 @@ fn find_version<S: Opens>(alloc: Global, conn: &mut Connection<S>) -> Result<Fou
     requires live { IsLive (state S.Store conn.old) }
     requires there { HasTable (state S.Store conn.old).now.schema office_table }
     ensures finds { FindsKind (state S.Store conn.old) (state S.Store conn.new) result }
-    ensures fault { IfErr result (IsStopped S.Reported (S.Unloaded ⊎ S.Ungrown) S.Store
+    ensures fault { IfErr result (OpeningIsStopped S.Reported (S.Unloaded ⊎ S.Ungrown) S.Store
         (state S.Store conn.old) (state S.Store conn.new)) }
 {
     let Some(number) = version(alloc, conn)? else {
@@ -112,7 +112,7 @@ fn find_version<S: Opens>(alloc: Global, conn: &mut Connection<S>) -> Result<Fou
 
 /// The version of a number.
 fn version_of(number: i64) -> Option<Version>
-    ensures { IsNumberOf number result }
+    ensures { IsNumberShown number result }
 {
     match number {
         1 => Some(Version::First),
@@ -130,7 +130,7 @@ fn find_office<S: Opens>(
 ) -> Result<Found, Fault>
     requires { IsIdle (state S.Store conn.old) }
     ensures reads { Reads version (state S.Store conn.old) (state S.Store conn.new) result }
-    ensures fault { IfErr result (IsStopped S.Reported (S.Unloaded ⊎ S.Ungrown) S.Store
+    ensures fault { IfErr result (OpeningIsStopped S.Reported (S.Unloaded ⊎ S.Ungrown) S.Store
         (state S.Store conn.old) (state S.Store conn.new)) }
 {
     if !has_tables(alloc, conn, version)? {
@@ -169,7 +169,7 @@ fn version<S: Opens>(alloc: Global, conn: &mut Connection<S>) -> Result<Option<i
     ensures version { Works (state S.Store conn.new)
         → (has : HasTable (state S.Store conn.old).now.schema office_table)
         → IfOk result (IsVersionOf ((state S.Store conn.old).now.trees has.table.tree)) }
-    ensures fault { IfErr result (IsStopped S.Reported (S.Unloaded ⊎ S.Ungrown) S.Store
+    ensures fault { IfErr result (OpeningIsStopped S.Reported (S.Unloaded ⊎ S.Ungrown) S.Store
         (state S.Store conn.old) (state S.Store conn.new)) }
 {
     match load::<S, VersionRow>(alloc, conn, SELECT_VERSION, &[])? {
@@ -202,7 +202,7 @@ fn read_rows<S: Opens>(
     ensures rows { Works (state S.Store conn.new)
         → BeginsWith (table_count version) (state S.Store conn.old).now.schema
         → IfOk result (λ read. AreRowsOf version (state S.Store conn.old).now (free_in read)) }
-    ensures fault { IfErr result (IsStopped S.Reported (S.Unloaded ⊎ S.Ungrown) S.Store
+    ensures fault { IfErr result (OpeningIsStopped S.Reported (S.Unloaded ⊎ S.Ungrown) S.Store
         (state S.Store conn.old) (state S.Store conn.new)) }
 {
     check_rowids(alloc, conn)?;

@@ -49,11 +49,7 @@ range_of-spared n (first ∷ last ∷ word ∷ remark ∷ []) =
     after-spared (ok_or (read_treatment word) (fault.Row n part.Treatment)) _
     (ok_or-spared (read_treatment word) n part.Treatment) (λ treatment.
     after-spared (note_of n remark) _ (note_of-spared n remark) (λ note. ok-spared _))))
-range_of-spared n [] = row-spared n part.Columns
-range_of-spared n (a ∷ []) = row-spared n part.Columns
-range_of-spared n (a ∷ b ∷ []) = row-spared n part.Columns
-range_of-spared n (a ∷ b ∷ c ∷ []) = row-spared n part.Columns
-range_of-spared n (a ∷ b ∷ c ∷ d ∷ e ∷ more) = row-spared n part.Columns
+range_of-spared n other = row-spared n part.Columns
 
 ranges_from-spared : (n : ℕ) (rows : List (List (List ℕ))) → Spared (ranges_from n rows)
 ranges_from-spared n [] = ok-spared []

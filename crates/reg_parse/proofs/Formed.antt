@@ -25,11 +25,22 @@ ok-passes test x h = record { passed = λ y e. let same : x ≡ y = cc in rw (�
 pub err-passes : {A E : Type 0} (test : A → Bool) (e : E) → Passes test (Err e)
 err-passes test e = record { passed = λ y h. cc }
 
--- what is read after a part passes, whatever that part is
-pub after-passes : {A B : Type 0} (test : B → Bool) (part : Reading A) (more : A → Reading B)
+after-passes : {A B : Type 0} (test : B → Bool) (part : Reading A) (more : A → Reading B)
     → ((x : A) → part ≡ Ok x → Passes test (more x)) → Passes test (part >>= more)
 after-passes test (Ok x) more h = h x refl
 after-passes test (Err e) more h = err-passes test e
+
+-- what is read after a part passes, whatever that part is
+pub after_any : {A B : Type 0} {test : B → Bool} {more : A → Reading B} (part : Reading A)
+    → ((x : A) → Passes test (more x)) → Passes test (part >>= more)
+after_any part h = after-passes _ part _ (λ x is. h x)
+
+-- and so it is where that part passes a test itself
+pub after_passing : {A B : Type 0} {of_part : A → Bool} {test : B → Bool} {part : Reading A}
+    {more : A → Reading B} → Passes of_part part
+    → ((x : A) → of_part x ≡ true → Passes test (more x)) → Passes test (part >>= more)
+after_passing {part = part} passes h =
+    after-passes _ part _ (λ x is. h x (passes.passed x is))
 
 -- ---- forms
 

@@ -12,7 +12,6 @@ use Rattle.reg_ranges.specs.Words.{read_treatment}
 use Rattle.reg_ranges.specs.declared.range_file.RowFault.{RowFault}
 use Rattle.reg_ranges.specs.declared.range_file.RowFault.TheVariants as fault
 use Rattle.reg_ranges.specs.declared.range_file.RowPart.TheVariants as part
-use Rattle.reg_ranges.specs.declared.policy.Treatment.{Treatment}
 use Rattle.reg_ranges.specs.declared.range.Range.{Range}
 use Rattle.reg_ranges.specs.declared.table.RangeFault.{RangeFault}
 use Rattle.reg_core.specs.Ask.{has_note_form}
@@ -35,49 +34,35 @@ note_of-passes : (n : ℕ) (field : List ℕ) → Passes has_note_form (note_of 
 note_of-passes n [] = ok-passes has_note_form None refl
 note_of-passes n (b ∷ rest) = note_at n (read_text is_text (b ∷ rest)) (guard is_text (b ∷ rest))
 
-range_parts : (l : Result ℕ RowFault) (h : Result ℕ RowFault) (t : Result Treatment RowFault)
-    (n : Result (Option (List ℕ)) RowFault) → Passes has_note_form n
-    → Passes has_form
-    (l >>= (λ lo. h
-    >>= (λ hi. t
-    >>= (λ treatment. n
-    >>= (λ note. Ok (record { lo = lo; hi = hi; treatment = treatment; note = note }))))))
-range_parts (Ok l) (Ok h) (Ok t) (Ok n) p = ok-passes has_form _ (p.passed n refl)
-range_parts (Ok l) (Ok h) (Ok t) (Err e) p = err-passes _ e
-range_parts (Ok l) (Ok h) (Err e) n p = err-passes _ e
-range_parts (Ok l) (Err e) t n p = err-passes _ e
-range_parts (Err e) h t n p = err-passes _ e
+-- what is read after a part of a row passes, whatever that part is
+after_part : {A B : Type 0} {test : B → Bool} {more : A → Result B RowFault}
+    (part : Result A RowFault) → ((x : A) → part ≡ Ok x → Passes test (more x))
+    → Passes test (part >>= more)
+after_part (Ok x) h = h x refl
+after_part (Err e) h = err-passes _ e
 
 range_of-passes : (n : ℕ) (fields : List (List ℕ)) → Passes has_form (range_of n fields)
 range_of-passes n (first ∷ last ∷ word ∷ remark ∷ []) =
-    range_parts (ok_or (read_number first) (fault.Row n part.Number))
-    (ok_or (read_number last) (fault.Row n part.Number))
-    (ok_or (read_treatment word) (fault.Row n part.Treatment)) (note_of n remark)
-    (note_of-passes n remark)
-range_of-passes n [] = err-passes _ (fault.Row n part.Columns)
-range_of-passes n (a ∷ []) = err-passes _ (fault.Row n part.Columns)
-range_of-passes n (a ∷ b ∷ []) = err-passes _ (fault.Row n part.Columns)
-range_of-passes n (a ∷ b ∷ c ∷ []) = err-passes _ (fault.Row n part.Columns)
-range_of-passes n (a ∷ b ∷ c ∷ d ∷ e ∷ more) = err-passes _ (fault.Row n part.Columns)
+    after_part (ok_or (read_number first) (fault.Row n part.Number))
+    (λ lo is_lo. after_part (ok_or (read_number last) (fault.Row n part.Number))
+    (λ hi is_hi. after_part (ok_or (read_treatment word) (fault.Row n part.Treatment))
+    (λ how is_how. after_part (note_of n remark)
+    (λ note is. ok-passes has_form _ ((note_of-passes n remark).passed note is)))))
+range_of-passes n other = err-passes _ (fault.Row n part.Columns)
 
 -- ---- files
 
 abbrev have_form : List Range → Bool
 have_form ranges = list_all has_form ranges
 
-rows_parts : (r : Result Range RowFault) (rs : Result (List Range) RowFault) → Passes has_form r
-    → Passes have_form rs → Passes have_form
-    (r >>= (λ range. rs >>= (λ ranges. Ok (range ∷ ranges))))
-rows_parts (Ok r) (Ok rs) h hs =
-    ok-passes have_form (r ∷ rs) (rw (h.passed r refl) (hs.passed rs refl))
-rows_parts (Ok r) (Err e) h hs = err-passes _ e
-rows_parts (Err e) rs h hs = err-passes _ e
-
 ranges_from-passes : (n : ℕ) (rows : List (List (List ℕ))) → Passes have_form (ranges_from n rows)
 ranges_from-passes n [] = ok-passes have_form [] refl
 ranges_from-passes n (row ∷ rows) =
-    rows_parts (range_of n row) (ranges_from (n + 1) rows) (range_of-passes n row)
-    (ranges_from-passes (n + 1) rows)
+    after_part (range_of n row)
+    (λ r is_r. after_part (ranges_from (n + 1) rows)
+    (λ rs is_rs. ok-passes have_form (r ∷ rs)
+    (rw ((range_of-passes n row).passed r is_r)
+    ((ranges_from-passes (n + 1) rows).passed rs is_rs))))
 
 headed : (b : Bool) (rows : List (List (List ℕ)))
     → Passes have_form (cond b (ranges_from 0 rows) (Err fault.Header))

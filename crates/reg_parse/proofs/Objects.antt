@@ -5,7 +5,7 @@ use Rattle.std.specs.declared.alloc.Global.{Global}
 use Rattle.std.specs.Str.{IsUtf8, is_utf8}
 use Rattle.std.specs.List.{list_all}
 use Rattle.std.proofs.lemmas.Str.{IsUtf8-from_is_utf8, is_utf8-from_IsUtf8}
-use Rattle.serde_json.specs.Data.{Data, null, boolean, number, string, array, object}
+use Rattle.serde_json.specs.Data.{Data, object}
 use Rattle.serde_json.specs.Read.{read}
 use Rattle.serde_json.specs.Find.{as_object}
 use Rattle.serde_json.specs.View.{members_view}
@@ -16,19 +16,11 @@ use Rattle.reg_parse.specs.Bodies.Members.{object_of, or_refusal, if_object, all
 
 if_object-some : (json : Data) → is_some (as_object json) ≡ true → if_object json ≡ Some json
 if_object-some (object ms) h = refl
-if_object-some null h = cc
-if_object-some (boolean b) h = cc
-if_object-some (number n) h = cc
-if_object-some (string s) h = cc
-if_object-some (array items) h = cc
+if_object-some other h = cc
 
 if_object-none : (json : Data) → is_some (as_object json) ≡ false → if_object json ≡ None
 if_object-none (object ms) h = cc
-if_object-none null h = refl
-if_object-none (boolean b) h = refl
-if_object-none (number n) h = refl
-if_object-none (string s) h = refl
-if_object-none (array items) h = refl
+if_object-none other h = refl
 
 -- an object was read
 pub object_of-object : (body : List ℕ) (json : Data) → IsUtf8 body → read body ≡ Some json

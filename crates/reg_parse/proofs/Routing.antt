@@ -6,9 +6,9 @@ use Rattle.matchit.specs.Router.{InsertsRead, RouteOf, nearest}
 use Rattle.matchit.specs.declared.error.InsertError.{InsertError}
 use Rattle.matchit.specs.declared.error.InsertError.TheVariants.{Conflict, InvalidParam, InvalidParamSegment, InvalidCatchAll, OutOfMemory}
 use Rattle.reg_parse.specs.declared.route.Methods.{Methods}
-use Rattle.reg_parse.specs.Route.{Table, with_scan, scan_fits}
+use Rattle.reg_parse.specs.Route.{RouteTable, with_scan, scan_fits}
 
-pub inserted : (read : Result Scan InsertError) (methods : Methods) (old new : Table)
+pub inserted : (read : Result Scan InsertError) (methods : Methods) (old new : RouteTable)
     (r : Result (Unit {0}) InsertError) → InsertsRead read methods old new r
     → OnOk r (new ≡ with_scan read methods old)
 inserted (Ok scan) methods old new (Ok u) h = h.1
@@ -20,7 +20,7 @@ near_none : (o : Option (RouteOf Methods)) (n : RouteOf Methods) → is_none o �
 near_none None n h e = cc
 near_none (Some m) n h e = cc
 
-pub fails_for_memory : (read : Result Scan InsertError) (methods : Methods) (old new : Table)
+pub fails_for_memory : (read : Result Scan InsertError) (methods : Methods) (old new : RouteTable)
     (e : InsertError) → InsertsRead read methods old new (Err e) → scan_fits read old ≡ true
     → e ≡ OutOfMemory
 fails_for_memory (Ok scan) methods old new (Conflict with) h fit =

@@ -18,7 +18,7 @@ use Rattle.reg_parse.specs.Route.{operation_for, registry_path, listing_path}
 use Rattle.reg_parse.specs.Bodies.Members.{Reading, ◌>>=◌, or_refusal}
 use Rattle.reg_parse.specs.Command.{asked, command_of, empty, name_at, registry_csv_of, registry_of, routed}
 use Rattle.reg_parse.specs.Shown.{are_public, is_open, is_public, is_shown_whole, no_route, pattern_at, shown, shown_by}
-use Rattle.reg_parse.proofs.Formed.{Passes, ok-passes, err-passes, after-passes}
+use Rattle.reg_parse.proofs.Formed.{Passes, ok-passes, err-passes, after_any}
 
 -- ---- paths of one route
 
@@ -44,15 +44,13 @@ abbrev takes_none : Command → Bool
 takes_none c = is_none (kind_of c)
 
 spelled : (n : Reading ⊤) (c : PublicCommand) → Passes takes_none (n >>= (λ nothing. Ok (command.Public c)))
-spelled n c =
-    after-passes takes_none n _ (λ nothing is. ok-passes takes_none (command.Public c) refl)
+spelled n c = after_any n (λ nothing. ok-passes takes_none (command.Public c) refl)
 
 named : (make : List ℕ → PublicCommand) (n : Reading ⊤) (r : Reading (List ℕ))
     → Passes takes_none (n >>= (λ nothing. r >>= (λ name. Ok (command.Public (make name)))))
 named make n r =
-    after-passes takes_none n _
-    (λ nothing is. after-passes takes_none r _
-    (λ name is_name. ok-passes takes_none (command.Public (make name)) refl))
+    after_any n
+    (λ nothing. after_any r (λ name. ok-passes takes_none (command.Public (make name)) refl))
 
 public_passes : (o : Operation) (path body : List ℕ) → is_public o ≡ true
     → Passes takes_none (command_of o path body)
@@ -64,33 +62,7 @@ public_passes operation.RegistryListing path body h =
     named (λ s. public.RegistryListing s) (empty body) (name_at item.Name listing_path path)
 public_passes operation.BlockListing path body h = spelled (empty body) public.BlockListing
 public_passes operation.PoolList path body h = spelled (empty body) public.PoolList
-public_passes operation.Own path body h = cc
-public_passes operation.OwnOne path body h = cc
-public_passes operation.Submit path body h = cc
-public_passes operation.Withdraw path body h = cc
-public_passes operation.Holdings path body h = cc
-public_passes operation.SetListing path body h = cc
-public_passes operation.SetAgent path body h = cc
-public_passes operation.Agents path body h = cc
-public_passes operation.Principals path body h = cc
-public_passes operation.PrincipalRows path body h = cc
-public_passes operation.Queue path body h = cc
-public_passes operation.Advise path body h = cc
-public_passes operation.AllRequests path body h = cc
-public_passes operation.OneRequest path body h = cc
-public_passes operation.AssignExpert path body h = cc
-public_passes operation.Approve path body h = cc
-public_passes operation.Decline path body h = cc
-public_passes operation.SetHold path body h = cc
-public_passes operation.Define path body h = cc
-public_passes operation.AddPool path body h = cc
-public_passes operation.Grant path body h = cc
-public_passes operation.Revoke path body h = cc
-public_passes operation.PendingRequests path body h = cc
-public_passes operation.AllCapabilities path body h = cc
-public_passes operation.RevokeDigits path body h = cc
-public_passes operation.RevokeAccount path body h = cc
-public_passes operation.CountRows path body h = cc
+public_passes private path body h = cc
 
 -- ---- what is done at a public path is public
 

@@ -112,35 +112,35 @@ rows =
     ∷ []
 
 -- what a router keeps of them
-abbrev pub Table : Type 0
-Table = RowsOf (RouteOf Methods)
+abbrev pub RouteTable : Type 0
+RouteTable = RowsOf (RouteOf Methods)
 
-abbrev pub with_scan : Result Scan InsertError → Methods → Table → Table
+abbrev pub with_scan : Result Scan InsertError → Methods → RouteTable → RouteTable
 with_scan (Ok scan) methods table = placed (scan.pattern, route_from scan methods) table
 with_scan (Err error) methods table = table
 
-unfoldable pub with_row : Row → Table → Table
+unfoldable pub with_row : Row → RouteTable → RouteTable
 with_row r table = with_scan (parse_route r.0) r.1 table
 
-abbrev pub with_rows : List Row → Table → Table
+abbrev pub with_rows : List Row → RouteTable → RouteTable
 with_rows [] table = table
 with_rows (r ∷ more) table = with_rows more (with_row r table)
 
 -- a path conflicts with none of the table
-abbrev pub scan_fits : Result Scan InsertError → Table → Bool
+abbrev pub scan_fits : Result Scan InsertError → RouteTable → Bool
 scan_fits (Ok scan) table = is_none (nearest scan.pattern table)
 scan_fits (Err error) table = false
 
 -- a path conflicts with none of the table; nor do those of a list, put in one after another
-unfoldable pub fits : Row → Table → Bool
+unfoldable pub fits : Row → RouteTable → Bool
 fits r table = scan_fits (parse_route r.0) table
 
-abbrev pub all_fit : List Row → Table → Bool
+abbrev pub all_fit : List Row → RouteTable → Bool
 all_fit [] table = true
 all_fit (r ∷ more) table = fits r table && all_fit more (with_row r table)
 
 -- the router that it makes
-unfoldable pub routes : Table
+unfoldable pub routes : RouteTable
 routes = with_rows rows []
 
 -- what the methods do at a path, if it has a route

@@ -78,26 +78,24 @@ fn command_of(
     ensures { Gives result (command_of operation path.now body.now) }
 {
     match operation {
-        Operation::Registries => without_body(Command::Public(PublicCommand::Registries), body),
+        Operation::Registries => bodiless(Command::Public(PublicCommand::Registries), body),
         Operation::Registry => read_registry(path, body),
         Operation::RegistryListing => read_registry_csv(path, body),
-        Operation::BlockListing => without_body(Command::Public(PublicCommand::BlockListing), body),
-        Operation::PoolList => without_body(Command::Public(PublicCommand::PoolList), body),
-        Operation::Own => without_body(Command::Applicant(ApplicantCommand::Own), body),
+        Operation::BlockListing => bodiless(Command::Public(PublicCommand::BlockListing), body),
+        Operation::PoolList => bodiless(Command::Public(PublicCommand::PoolList), body),
+        Operation::Own => bodiless(Command::Applicant(ApplicantCommand::Own), body),
         Operation::OwnOne => read_own_one(path, body),
         Operation::Submit => read_submit(alloc, path, body),
         Operation::Withdraw => read_withdraw(path, body),
-        Operation::Holdings => without_body(Command::Applicant(ApplicantCommand::Holdings), body),
+        Operation::Holdings => bodiless(Command::Applicant(ApplicantCommand::Holdings), body),
         Operation::SetListing => read_set_listing(alloc, path, body),
         Operation::SetAgent => read_set_agent(alloc, path, body),
-        Operation::Agents => without_body(Command::Applicant(ApplicantCommand::Agents), body),
-        Operation::Principals => {
-            without_body(Command::Applicant(ApplicantCommand::Principals), body)
-        },
+        Operation::Agents => bodiless(Command::Applicant(ApplicantCommand::Agents), body),
+        Operation::Principals => bodiless(Command::Applicant(ApplicantCommand::Principals), body),
         Operation::PrincipalRows => read_principal_rows(path, body),
-        Operation::Queue => without_body(Command::Expert(ExpertCommand::Queue), body),
+        Operation::Queue => bodiless(Command::Expert(ExpertCommand::Queue), body),
         Operation::Advise => read_advise(alloc, path, body),
-        Operation::AllRequests => without_body(Command::Clerk(ClerkCommand::AllRequests), body),
+        Operation::AllRequests => bodiless(Command::Clerk(ClerkCommand::AllRequests), body),
         Operation::OneRequest => read_one_request(path, body),
         Operation::AssignExpert => read_assign_expert(path, body),
         Operation::Approve => read_approve(path, body),
@@ -107,15 +105,11 @@ fn command_of(
         Operation::AddPool => read_add_pool(path, body),
         Operation::Grant => read_grant(alloc, body),
         Operation::Revoke => read_revoke(alloc, body),
-        Operation::PendingRequests => {
-            without_body(Command::Clerk(ClerkCommand::PendingRequests), body)
-        },
-        Operation::AllCapabilities => {
-            without_body(Command::Clerk(ClerkCommand::AllCapabilities), body)
-        },
+        Operation::PendingRequests => bodiless(Command::Clerk(ClerkCommand::PendingRequests), body),
+        Operation::AllCapabilities => bodiless(Command::Clerk(ClerkCommand::AllCapabilities), body),
         Operation::RevokeDigits => read_revoke_digits(path, body),
         Operation::RevokeAccount => read_revoke_account(path, body),
-        Operation::CountRows => without_body(Command::Clerk(ClerkCommand::CountRows), body),
+        Operation::CountRows => bodiless(Command::Clerk(ClerkCommand::CountRows), body),
     }
 }
 
@@ -324,7 +318,7 @@ fn read_revoke_account(path: &str, body: &[u8]) -> Result<Command, ReadFault>
     Ok(Command::Clerk(ClerkCommand::RevokeAccount(account)))
 }
 
-fn without_body(command: Command, body: &[u8]) -> Result<Command, ReadFault>
+fn bodiless(command: Command, body: &[u8]) -> Result<Command, ReadFault>
     ensures { Gives result (without_body command body.now) }
 {
     empty(body)?;

@@ -1,5 +1,5 @@
 -- What is printed one behind another, and between brackets, spells objects and arrays.
-use Rattle.std.proofs.Common.{rules, max, option_and_then, suc, ◌+◌, length, take, get_or, append-nil, ◌≡◌, ℕ, ◌^◌, ◌<◌, ◌≤◌, List, [], ◌∷◌, ◌++◌, true, Option, Some, None, map, refl, sym, ap, ap₂, ◌∙◌, append_assoc, arith}
+use Rattle.std.proofs.Common.{rules, max, option_and_then, suc, ◌+◌, length, take, get_or, append-nil, ◌≡◌, ℕ, ◌^◌, ◌<◌, ◌≤◌, List, [], ◌∷◌, ◌++◌, Bool, true, false, Option, Some, None, map, refl, sym, ap, ap₂, ◌∙◌, append_assoc, arith}
 use Rattle.std.specs.List.{All, flat_map, AllByRecursion}
 use Rattle.std.proofs.lemmas.Grind.{flat_map-append}
 use Rattle.std.proofs.lemmas.List.{take_more, take_all}
@@ -128,14 +128,25 @@ object-exact n ms h e = record {
   shallow = let within = members_depth-with n ms h e in omega (arith, within);
 }
 
+-- the test holds, which `tt` proves where it computes
+abbrev pub IsSo : Bool → Type 0
+IsSo true = Unit {0}
+IsSo false = ⊥
+
+is_so : (b : Bool) → IsSo b → b ≡ true
+is_so true h = refl
+is_so false h = absurd h
+
 -- members that ascend, between brackets, are an object
-pub prints_object : {a b c d : Written} {n : ℕ} (ms : Listed) → ascends ms ≡ true
-    → Added a b (begin_object ∷ []) → PrintedMembers b c n ms → Added c d (end_object ∷ [])
+pub prints_object : {a b c d : Written} {n : ℕ} {ms : Listed} → Added a b (begin_object ∷ [])
+    → PrintedMembers b c n ms → Added c d (end_object ∷ []) → IsSo (ascends ms)
     → Printed a d (suc n) (object_with ms)
-prints_object {a} {b} {c} {d} {n} ms h begun members ended = record {
-  added = same_added (object_tokens ms h) (behind begun (behind members.added ended));
-  exact = object-exact n ms h members.exact;
-}
+prints_object {a} {b} {c} {d} {n} {ms} begun members ended up =
+    let h = is_so (ascends ms) up in
+    record {
+      added = same_added (object_tokens ms h) (behind begun (behind members.added ended));
+      exact = object-exact n ms h members.exact;
+    }
 
 -- what was printed nests no deeper than any greater number of levels
 pub printed_within : {a b : Written} {n m : ℕ} {d : Data} → n ≤ m → Printed a b n d

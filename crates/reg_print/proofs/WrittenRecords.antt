@@ -1,7 +1,8 @@
 -- What a writer of CSV has written, a record at a time.
-use Rattle.std.proofs.Common.{◌≡◌, ◌≢◌, ℕ, ◌+◌, ◌<◌, length, take, get_or, List, [], ◌∷◌, ◌++◌, map, Option, Some, None, false, refl, sym, ap, ◌∙◌, append-nil}
+use Rattle.std.proofs.Common.{◌≡◌, ◌≢◌, ℕ, ◌+◌, ◌<◌, length, take, get_or, List, [], ◌∷◌, ◌++◌, map, Option, Some, None, false, sym, ap, ◌∙◌, append-nil}
 use Rattle.std.specs.Io.KnownBytes.{Appends}
 use Rattle.std.proofs.lemmas.Grind.{flat_map-append}
+use Rattle.std.proofs.lemmas.List.{map-append}
 use Rattle.csv.specs.Writing.{default_writer, writer_setup, fields_written, has_written, text_written, row_text}
 use Rattle.csv.specs.declared.writer.QuoteStyle.TheVariants as style
 use Rattle.csv.specs.declared.writer.Writer.{Writer}
@@ -45,18 +46,13 @@ adds contents old new fields bytes ended clean setup records h =
       setup = setup ∙ h.setup;
     }
 
-map-more : {X Y : Type 0} (f : X → Y) (xs : List X) (x : X)
-    → map f xs ++ f x ∷ [] ≡ map f (xs ++ x ∷ [])
-map-more f [] x = refl
-map-more f (y ∷ xs) x = ap (λ ys. f y ∷ ys) (map-more f xs x)
-
 -- the records of the first rows, and of one more
 pub records_more : {X Y : Type 0} (f : X → Y) (first : Y) (xs : List X) (i : ℕ) (x : X)
     → i < length xs → x ≡ get_or xs i x
     → (first ∷ map f (take i xs)) ++ f x ∷ [] ≡ first ∷ map f (take (i + 1) xs)
 records_more f first xs i x h is =
     ap (λ ys. first ∷ ys)
-    (map-more f (take i xs) x ∙ ap (map f) (sym (one_more xs i x h is)))
+    (sym (map-append f (take i xs) (x ∷ [])) ∙ ap (map f) (sym (one_more xs i x h is)))
 
 -- the same, of rows as they are seen
 pub rows_more : {X Y Z : Type 0} (f : Y → Z) (g : X → Y) (first : Z) (xs : List X) (i : ℕ) (x : X)
@@ -65,5 +61,6 @@ pub rows_more : {X Y Z : Type 0} (f : Y → Z) (g : X → Y) (first : Z) (xs : L
     ≡ first ∷ map f (map g (take (i + 1) xs))
 rows_more f g first xs i x h is =
     ap (λ ys. first ∷ ys)
-    (map-more f (map g (take i xs)) (g x) ∙ ap (map f) (map-more g (take i xs) x)
+    (sym (map-append f (map g (take i xs)) (g x ∷ []))
+    ∙ ap (map f) (sym (map-append g (take i xs) (x ∷ [])))
     ∙ ap (λ ys. map f (map g ys)) (sym (one_more xs i x h is)))

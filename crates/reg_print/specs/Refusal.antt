@@ -8,23 +8,23 @@ use Rattle.reg_print.specs.declared.detail.Detail.{Detail}
 use Rattle.reg_print.specs.declared.detail.Detail.TheVariants as detail
 use Rattle.reg_print.specs.declared.refusal.RefusalRow.{RefusalRow}
 
-pub record Row : Type 0 where
+pub record RowOfRefusals : Type 0 where
   pub status : ℕ
   pub name : List ℕ
   pub item : Option Detail
 
 -- a row without where its name lies in memory
-abbrev pub row_view : RefusalRow → Row
+abbrev pub row_view : RefusalRow → RowOfRefusals
 row_view r = record { status = r.status; name = r.name.now; item = r.item }
 
-abbrev pub row : ℕ → List ℕ → Row
+abbrev pub row : ℕ → List ℕ → RowOfRefusals
 row status name = record { status = status; name = name; item = None }
 
-abbrev pub row_about : ℕ → List ℕ → Detail → Row
+abbrev pub row_about : ℕ → List ℕ → Detail → RowOfRefusals
 row_about status name item = record { status = status; name = name; item = Some item }
 
 -- of the office
-abbrev pub office_row : Refusal → Row
+abbrev pub office_row : Refusal → RowOfRefusals
 office_row Clock = row 503 (codes "clock")
 office_row Token = row 401 (codes "token")
 office_row Kind = row 403 (codes "kind")
@@ -51,7 +51,7 @@ office_row Exists = row 409 (codes "exists")
 office_row Bits = row 422 (codes "bits")
 
 -- of bytes that spell no command
-abbrev pub wire_row : WireRefusal → Row
+abbrev pub wire_row : WireRefusal → RowOfRefusals
 wire_row Line = row 400 (codes "line")
 wire_row Route = row 404 (codes "route")
 wire_row Method = row 405 (codes "method")
@@ -60,5 +60,5 @@ wire_row (Field item) = row_about 422 (codes "field") (detail.Part item)
 wire_row (Ranges fault) = row_about 422 (codes "ranges") (detail.Ranges fault)
 
 -- of a fault of memory or of the store
-abbrev pub storage_row : Row
+abbrev pub storage_row : RowOfRefusals
 storage_row = row 503 (codes "storage")

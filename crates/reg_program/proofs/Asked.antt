@@ -20,11 +20,11 @@ use Rattle.reg_core.specs.declared.command.Command.TheVariants.{Public, Applican
 use Rattle.reg_core.specs.declared.command.PublicCommand.{PublicCommand}
 use Rattle.reg_core.specs.declared.command.PublicCommand.TheVariants.{Registries, Registry, RegistryListing, PoolList, BlockListing}
 use Rattle.reg_core.specs.declared.command.ApplicantCommand.{ApplicantCommand}
-use Rattle.reg_core.specs.declared.command.ApplicantCommand.TheVariants.{Own, OwnOne, Submit, Withdraw, Holdings, SetListing, SetAgent, Agents, Principals, PrincipalRows}
+use Rattle.reg_core.specs.declared.command.ApplicantCommand.TheVariants.{Own, OwnOne, Holdings, Agents, Principals, PrincipalRows}
 use Rattle.reg_core.specs.declared.command.ExpertCommand.{ExpertCommand}
 use Rattle.reg_core.specs.declared.command.ExpertCommand.TheVariants.{Queue, Advise}
 use Rattle.reg_core.specs.declared.command.ClerkCommand.{ClerkCommand}
-use Rattle.reg_core.specs.declared.command.ClerkCommand.TheVariants.{AllRequests, OneRequest, AssignExpert, Approve, Decline, SetHold, Define, AddPool, Grant, Revoke, PendingRequests, AllCapabilities, RevokeDigits, RevokeAccount, CountRows}
+use Rattle.reg_core.specs.declared.command.ClerkCommand.TheVariants.{AllRequests, OneRequest, PendingRequests, AllCapabilities, CountRows}
 use Rattle.reg_core.specs.declared.told.Told.TheVariants as tells
 use Rattle.reg_core.specs.declared.refusal.Refusal.{Refusal}
 use Rattle.reg_core.specs.declared.refusal.Refusal.TheVariants as no
@@ -70,8 +70,7 @@ refused_may fails told (Explained failure why) h = absurd h
 pub printing_unprinted : (old new : World) (step : Stepped) (why : Undone)
     → new ≡ step.world → IsOfPrinting why → IsUnprinted step old new why
 printing_unprinted old new step (Fault failure) changed h = inr changed
-printing_unprinted old new step (Explained failure why) changed h = absurd h
-printing_unprinted old new step (Refused line) changed h = absurd h
+printing_unprinted old new step _ changed h = absurd h
 
 -- where it is
 pub is_printed : (form : Form) (had has : Option (List ℕ)) (step : Stepped) (new : World)
@@ -129,17 +128,14 @@ applicant_stays p account my Own h = refl
 applicant_stays p account my (OwnOne reference) h =
     after_found no.Request (get my.requests (account, reference))
     (λ case. unchanged (own_row (account, reference) case)) (λ case. refl)
-applicant_stays p account my (Submit reference ask) h = cc
-applicant_stays p account my (Withdraw reference) h = cc
 applicant_stays p account my Holdings h = refl
-applicant_stays p account my (SetListing block private) h = cc
-applicant_stays p account my (SetAgent agent reads) h = cc
 applicant_stays p account my Agents h = refl
 applicant_stays p account my Principals h = refl
 applicant_stays p account my (PrincipalRows principal) h =
     after_found no.Principal (get my.principals (principal, account))
     (λ link. unchanged (tells.Rows (request_rows (requests_by principal my.principal_rows))))
     (λ link. refl)
+applicant_stays p account my _ h = cc
 
 expert_stays : (account : List ℕ) (my : Personal) (command : ExpertCommand)
     → expert_looks command ≡ true → change_of (expert_answer account my command) ≡ None
@@ -153,19 +149,10 @@ clerk_stays w in_use moment today AllRequests h = refl
 clerk_stays w in_use moment today (OneRequest account reference) h =
     after_found no.Request (get w.requests (account, reference))
     (λ case. unchanged (tells.Filed (file w (account, reference) case))) (λ case. refl)
-clerk_stays w in_use moment today (AssignExpert account reference expert) h = cc
-clerk_stays w in_use moment today (Approve account reference) h = cc
-clerk_stays w in_use moment today (Decline account reference reason) h = cc
-clerk_stays w in_use moment today (SetHold name value held) h = cc
-clerk_stays w in_use moment today (Define name table) h = cc
-clerk_stays w in_use moment today (AddPool prefix) h = cc
-clerk_stays w in_use moment today (Grant token cap) h = cc
-clerk_stays w in_use moment today (Revoke token) h = cc
 clerk_stays w in_use moment today PendingRequests h = refl
 clerk_stays w in_use moment today AllCapabilities h = refl
-clerk_stays w in_use moment today (RevokeDigits digits) h = cc
-clerk_stays w in_use moment today (RevokeAccount account) h = cc
 clerk_stays w in_use moment today CountRows h = refl
+clerk_stays w in_use moment today _ h = cc
 
 -- while the office is open or not
 seen_stays : (w : World) (caller : Option (List ℕ)) (moment : ℕ) (command : Command)

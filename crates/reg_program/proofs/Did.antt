@@ -11,7 +11,7 @@ use Rattle.reg_program.specs.Undone.{IsOfPrinting, IsOfStoreOrPrinting, MayUndo,
 use Rattle.reg_program.specs.declared.faults.JobFailure.{JobFailure}
 use Rattle.reg_program.specs.declared.faults.JobFailure.TheVariants as failure
 use Rattle.reg_program.specs.declared.faults.Undone.{Undone}
-use Rattle.reg_program.specs.declared.faults.Undone.TheVariants.{Fault, Explained, Refused}
+use Rattle.reg_program.specs.declared.faults.Undone.TheVariants.{Fault}
 
 -- ---- Faults
 
@@ -27,26 +27,12 @@ may_fault keeper.Store h = h
 
 printing_fails : (fails : Bool) (why : JobFailure) → IsOfPrinting (Fault why)
     → MayUndo fails (Fault why)
-printing_fails fails failure.Memory h = tt
 printing_fails fails failure.Store h = absurd h
-printing_fails fails failure.Read h = tt
-printing_fails fails failure.Write h = tt
-printing_fails fails failure.Busy h = tt
-printing_fails fails failure.NotOurs h = tt
-printing_fails fails (failure.Version version) h = tt
-printing_fails fails failure.Token h = tt
-printing_fails fails failure.Exists h = tt
-printing_fails fails failure.Port h = tt
-printing_fails fails failure.Large h = tt
-printing_fails fails failure.Header h = tt
-printing_fails fails (failure.Row number) h = tt
-printing_fails fails failure.History h = tt
-printing_fails fails failure.Notes h = tt
+printing_fails fails _ h = tt
 
 pub printing_may : (fails : Bool) (why : Undone) → IsOfPrinting why → MayUndo fails why
 printing_may fails (Fault why) h = printing_fails fails why h
-printing_may fails (Explained why text) h = absurd h
-printing_may fails (Refused line) h = tt
+printing_may fails _ h = absurd h
 
 pub write_may : (fails : Bool) (why : Undone) → why ≡ Fault failure.Write → MayUndo fails why
 write_may fails why h = rw h tt
@@ -63,25 +49,12 @@ fault_is_common keeper.Store = tt
 
 printing_common : (why : JobFailure) → IsOfPrinting (Fault why) → IsOfStoreOrPrinting (Fault why)
 printing_common failure.Memory h = tt
-printing_common failure.Store h = tt
-printing_common failure.Read h = absurd h
 printing_common failure.Write h = tt
-printing_common failure.Busy h = absurd h
-printing_common failure.NotOurs h = absurd h
-printing_common (failure.Version version) h = absurd h
-printing_common failure.Token h = absurd h
-printing_common failure.Exists h = absurd h
-printing_common failure.Port h = absurd h
-printing_common failure.Large h = absurd h
-printing_common failure.Header h = absurd h
-printing_common (failure.Row number) h = absurd h
-printing_common failure.History h = absurd h
-printing_common failure.Notes h = absurd h
+printing_common _ h = absurd h
 
 pub printing_is_common : (why : Undone) → IsOfPrinting why → IsOfStoreOrPrinting why
 printing_is_common (Fault why) h = printing_common why h
-printing_is_common (Explained why text) h = absurd h
-printing_is_common (Refused line) h = absurd h
+printing_is_common _ h = absurd h
 
 -- ---- The premise
 

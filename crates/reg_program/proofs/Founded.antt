@@ -16,15 +16,13 @@ use Rattle.reg_program.proofs.Did.{goes_as, may_fault, may_undo}
 
 may_found : (fails : Bool) (fault : FoundFault) → MayFound fails fault
     → MayUndo fails (Fault (found_failure fault))
-may_found fails found.Token h = tt
-may_found fails found.Exists h = tt
 may_found fails (found.Fault fault) h = may_undo fails fault h
+may_found fails _ h = tt
 
 may_have_found : (fault : FoundFault) → MayUndo false (Fault (found_failure fault))
     → MayFound false fault
-may_have_found found.Token h = tt
-may_have_found found.Exists h = tt
 may_have_found (found.Fault fault) h = may_fault fault h
+may_have_found _ h = tt
 
 module _ {S : Type 0} (world : S → World) (Holds Sound : S → Type 0) (fails : Bool)
     (before after : S) (token : List ℕ) where

@@ -20,10 +20,10 @@ use Rattle.reg_core.specs.declared.wire_refusal.WireRefusal.TheVariants as refus
 use Rattle.reg_parse.specs.Bodies.Members.{Reading, ◌>>=◌, or_refusal}
 use Rattle.reg_parse.specs.Command.{asked, command_of, empty, name_at, one_request_of, own_one_of, principal_rows_of, registry_csv_of, registry_of, routed}
 use Rattle.reg_parse.specs.Path.{has_empty_segment}
-use Rattle.reg_parse.specs.Route.{Row, Table, case_path, listing_path, methods_at, operation_for, principal_path, registry_path, request_path, routes, rows, with_row, with_rows, with_scan}
+use Rattle.reg_parse.specs.Route.{Row, RouteTable, case_path, listing_path, methods_at, operation_for, principal_path, registry_path, request_path, routes, rows, with_row, with_rows, with_scan}
 use Rattle.reg_parse.specs.declared.route.Methods.{Methods}
 use Rattle.reg_parse.specs.declared.route.Operation.{Operation}
-use Rattle.reg_parse.specs.declared.route.Operation.TheVariants.{Registries, Registry, RegistryListing, BlockListing, PoolList, Own, OwnOne, Submit, Withdraw, Holdings, SetListing, SetAgent, Agents, Principals, PrincipalRows, Queue, Advise, AllRequests, OneRequest, AssignExpert, Approve, Decline, SetHold, Define, AddPool, Grant, Revoke, PendingRequests, AllCapabilities, RevokeDigits, RevokeAccount, CountRows}
+use Rattle.reg_parse.specs.declared.route.Operation.TheVariants.{Registries, Registry, RegistryListing, BlockListing, PoolList, Own, OwnOne, Holdings, Agents, Principals, PrincipalRows, Queue, AllRequests, OneRequest, PendingRequests, AllCapabilities, CountRows}
 use Rattle.reg_parse.proofs.Formed.{Passes, err-passes, ok-passes}
 use Rattle.reg_program.specs.Looking.{only_looks}
 
@@ -106,31 +106,17 @@ is_look BlockListing = true
 is_look PoolList = true
 is_look Own = true
 is_look OwnOne = true
-is_look Submit = false
-is_look Withdraw = false
 is_look Holdings = true
-is_look SetListing = false
-is_look SetAgent = false
 is_look Agents = true
 is_look Principals = true
 is_look PrincipalRows = true
 is_look Queue = true
-is_look Advise = false
 is_look AllRequests = true
 is_look OneRequest = true
-is_look AssignExpert = false
-is_look Approve = false
-is_look Decline = false
-is_look SetHold = false
-is_look Define = false
-is_look AddPool = false
-is_look Grant = false
-is_look Revoke = false
 is_look PendingRequests = true
 is_look AllCapabilities = true
-is_look RevokeDigits = false
-is_look RevokeAccount = false
 is_look CountRows = true
+is_look _ = false
 
 abbrev GetLooks : Methods → Type 0
 GetLooks methods = IfSome methods.get (λ o. is_look o ≡ true)
@@ -138,18 +124,18 @@ GetLooks methods = IfSome methods.get (λ o. is_look o ≡ true)
 abbrev RouteLooks : RouteOf Methods → Type 0
 RouteLooks route = GetLooks route.value
 
-scan-has : (scan : Result Scan InsertError) (methods : Methods) (table : Table) → GetLooks methods
+scan-has : (scan : Result Scan InsertError) (methods : Methods) (table : RouteTable) → GetLooks methods
     → All RouteLooks table → All RouteLooks (with_scan scan methods table)
 scan-has (Ok scan) methods table p h =
     placed-has RouteLooks (scan.pattern, route_from scan methods) table p h
 scan-has (Err error) methods table p h = h
 
-row-has : (r : Row) (table : Table) → GetLooks r.1 → All RouteLooks table
+row-has : (r : Row) (table : RouteTable) → GetLooks r.1 → All RouteLooks table
     → All RouteLooks (with_row r table)
 unfolding with_row
 row-has r table p h = scan-has (parse_route r.0) r.1 table p h
 
-rows-has : (rs : List Row) (table : Table) → AllByRecursion (λ (r : Row). GetLooks r.1) rs
+rows-has : (rs : List Row) (table : RouteTable) → AllByRecursion (λ (r : Row). GetLooks r.1) rs
     → All RouteLooks table → All RouteLooks (with_rows rs table)
 rows-has [] table p h = h
 rows-has (r ∷ more) table p h = rows-has more (with_row r table) p.1 (row-has r table p.0 h)
@@ -220,12 +206,8 @@ operation_looks Own path body h = plain (empty body) (command.Applicant applican
 operation_looks OwnOne path body h =
     named (λ s. command.Applicant (applicant.OwnOne s)) (λ s. refl) (empty body)
     (name_at item.Reference request_path path)
-operation_looks Submit path body h = cc
-operation_looks Withdraw path body h = cc
 operation_looks Holdings path body h =
     plain (empty body) (command.Applicant applicant.Holdings) refl
-operation_looks SetListing path body h = cc
-operation_looks SetAgent path body h = cc
 operation_looks Agents path body h = plain (empty body) (command.Applicant applicant.Agents) refl
 operation_looks Principals path body h =
     plain (empty body) (command.Applicant applicant.Principals) refl
@@ -233,28 +215,18 @@ operation_looks PrincipalRows path body h =
     named (λ s. command.Applicant (applicant.PrincipalRows s)) (λ s. refl) (empty body)
     (name_at item.Account principal_path path)
 operation_looks Queue path body h = plain (empty body) (command.Expert expert.Queue) refl
-operation_looks Advise path body h = cc
 operation_looks AllRequests path body h =
     plain (empty body) (command.Clerk clerk.AllRequests) refl
 operation_looks OneRequest path body h =
     two_named (λ a r. command.Clerk (clerk.OneRequest a r)) (λ a r. refl) (empty body)
     (name_at item.Account case_path path) (name_at item.Reference case_path path)
-operation_looks AssignExpert path body h = cc
-operation_looks Approve path body h = cc
-operation_looks Decline path body h = cc
-operation_looks SetHold path body h = cc
-operation_looks Define path body h = cc
-operation_looks AddPool path body h = cc
-operation_looks Grant path body h = cc
-operation_looks Revoke path body h = cc
 operation_looks PendingRequests path body h =
     plain (empty body) (command.Clerk clerk.PendingRequests) refl
 operation_looks AllCapabilities path body h =
     plain (empty body) (command.Clerk clerk.AllCapabilities) refl
-operation_looks RevokeDigits path body h = cc
-operation_looks RevokeAccount path body h = cc
 operation_looks CountRows path body h =
     plain (empty body) (command.Clerk clerk.CountRows) refl
+operation_looks _ path body h = cc
 
 by_operation : (o : Option Operation) (path body : List ℕ) → IfSome o (λ op. is_look op ≡ true)
     → Passes only_looks (or_refusal refusal.Method o >>= (λ op. command_of op path body))

@@ -1,9 +1,7 @@
-pub mod Answered
 pub mod Asked
 pub mod Carried
 pub mod Checked
 pub mod Closed
-pub mod Copied
 pub mod Did
 pub mod Founded
 pub mod Gotten
@@ -12,5 +10,3 @@ pub mod Listed
 pub mod Results
 pub mod Revoked
 pub mod Taken
-pub mod Imported
-pub mod Verified

@@ -17,7 +17,7 @@ use Rattle.reg_core.specs.declared.capability.CapRow.{CapRow}
 use Rattle.reg_print.specs.Records.{Adds}
 use Rattle.reg_print.proofs.PrintedTokens.{one_more}
 use Rattle.reg_program.specs.Printing.{Prints}
-use Rattle.reg_program.specs.Tokens.{AddsRecord, IsRecord, place}
+use Rattle.reg_program.specs.Tokens.{AddsTokenRow, IsRecord, place}
 
 zip_more : {A B : Type 0} (R : A → B → Type 0) (xs : List A) (ys : List B) (x : A) (y : B)
     → AllZip R xs ys → R x y → AllZip R (xs ++ x ∷ []) (ys ++ y ∷ [])
@@ -43,7 +43,7 @@ shown_at_end until shown nanosecond e is = omega (arith, signed_arith, e, is)
 -- these fields are a record, and they were written
 pub adds_record : {W T E : Type 0} (contents : W → Option (List ℕ)) (old new : Writer W)
     (row : CapRow) (result : Result T E) (fields : List (List ℕ)) → IsRecord row fields
-    → OnOk result (Adds contents old new fields) → OnOk result (AddsRecord contents old new row)
+    → OnOk result (Adds contents old new fields) → OnOk result (AddsTokenRow contents old new row)
 adds_record contents old new row (Ok x) fields is adds = (fields, is, adds)
 adds_record contents old new row (Err e) fields is adds = tt
 

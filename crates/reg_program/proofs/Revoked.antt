@@ -20,15 +20,11 @@ use Rattle.reg_program.proofs.Did.{goes_as, may_fault, may_undo}
 unrevoked_as : (moment : ℕ) (choice : Choice) (old new : World) (fault : RevokeFault) (why : Undone)
     → IsUnrevokedBy fault why → IsCause moment choice old fault → new ≡ old
     → IsUnrevoked moment choice old new why
+unrevoked_as moment choice old new fault (Fault failure) by h same = inl same
 unrevoked_as moment choice old new no.Token (Refused line) by h same = (no.Token, h, by, same)
-unrevoked_as moment choice old new no.Token (Fault failure) by h same = inl same
-unrevoked_as moment choice old new no.Token (Explained failure why) by h same = absurd by
 unrevoked_as moment choice old new no.Own (Refused line) by h same = (no.Own, h, by, same)
-unrevoked_as moment choice old new no.Own (Fault failure) by h same = inl same
-unrevoked_as moment choice old new no.Own (Explained failure why) by h same = absurd by
-unrevoked_as moment choice old new (no.Fault fault) (Refused line) by h same = cc
-unrevoked_as moment choice old new (no.Fault fault) (Fault failure) by h same = inl same
-unrevoked_as moment choice old new (no.Fault fault) (Explained failure why) by h same = cc
+unrevoked_as moment choice old new (no.Fault fault) _ by h same = cc
+unrevoked_as moment choice old new _ _ by h same = absurd by
 
 -- they were all taken away, and that could not be printed
 pub printing_unrevoked : (moment : ℕ) (choice : Choice) (old new : World) (rows : List CapRow)
@@ -36,25 +32,20 @@ pub printing_unrevoked : (moment : ℕ) (choice : Choice) (old new : World) (row
     → IsUnrevoked moment choice old new why
 printing_unrevoked moment choice old new rows (Fault failure) chosen gone of =
     inr (rows, chosen, gone)
-printing_unrevoked moment choice old new rows (Explained failure why) chosen gone of = absurd of
-printing_unrevoked moment choice old new rows (Refused line) chosen gone of = absurd of
+printing_unrevoked moment choice old new rows _ chosen gone of = absurd of
 
 -- the store failed only where the office said so
 may_unrevoke : (fails : Bool) (fault : RevokeFault) (why : Undone) → IsUnrevokedBy fault why
     → MayRevoke fails fault → MayUndo fails why
-may_unrevoke fails no.Token (Refused line) by may = tt
-may_unrevoke fails no.Token (Fault failure) by may = rw by tt
-may_unrevoke fails no.Token (Explained failure why) by may = absurd by
-may_unrevoke fails no.Own (Refused line) by may = tt
-may_unrevoke fails no.Own (Fault failure) by may = rw by tt
-may_unrevoke fails no.Own (Explained failure why) by may = absurd by
 may_unrevoke fails (no.Fault fault) why by may = rw by (may_undo fails fault may)
+may_unrevoke fails _ (Refused line) by may = tt
+may_unrevoke fails _ (Fault failure) by may = rw by tt
+may_unrevoke fails _ (Explained failure why) by may = absurd by
 
 may_revoke_as : (fault : RevokeFault) (why : Undone) → IsUnrevokedBy fault why → MayUndo false why
     → MayRevoke false fault
-may_revoke_as no.Token why by may = tt
-may_revoke_as no.Own why by may = tt
 may_revoke_as (no.Fault fault) why by may = may_fault fault (rw by at may)
+may_revoke_as _ why by may = tt
 
 module _ {S : Type 0} (world : S → World) (Holds Sound : S → Type 0) (fails : Bool)
     (before after : S) (moment : ℕ) (choice : Choice) where

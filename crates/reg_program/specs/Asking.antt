@@ -1,5 +1,5 @@
 -- The jobs that are one command: which command that is, and what is printed of its answer.
-use Rattle.std.specs.Prelude.{◌≡◌, ◌⊎◌, ◌∷◌, ◌++◌, ℕ, [], true, false, List, Option, Some, None}
+use Rattle.std.specs.Prelude.{◌≡◌, ◌⊎◌, ◌∷◌, ◌++◌, ⊤, ℕ, [], Bool, true, false, List, Option, Some, None}
 use Rattle.std.specs.Prelude.{Result, Err, Ok, MatchResult, codes}
 use Rattle.std.specs.Io.KnownBytes.{Appends}
 use Rattle.reg_core.specs.Laws.{is_refused}
@@ -14,6 +14,7 @@ use Rattle.reg_print.specs.declared.answer.Answer.{Answer}
 use Rattle.reg_print.specs.declared.answer.Answer.TheVariants as answer
 use Rattle.reg_print.specs.declared.answer.Format.{Format}
 use Rattle.reg_print.specs.declared.answer.Format.TheVariants.{Json, Csv}
+use Rattle.reg_program.specs.Doing.{Does}
 use Rattle.reg_program.specs.Undone.{answer_line}
 use Rattle.reg_program.specs.declared.asking.Form.{Form}
 use Rattle.reg_program.specs.declared.asking.Form.TheVariants.{Body, Line}
@@ -33,16 +34,16 @@ listing_at (Some name) = codes "/listings/registries/" ++ name
 listing_at None = codes "/listings/blocks"
 
 -- the bytes spell no command, and this line says why; or there was no memory
-abbrev pub IsUnread : Reading Command → Undone → Type 0
-IsUnread reading (Refused line) =
+abbrev pub SpellsNoCommand : Reading Command → Undone → Type 0
+SpellsNoCommand reading (Refused line) =
     (refusal : WireRefusal) × (reading ≡ Err refusal)
     × (line.items ≡ answer_line (answer.Wire refusal))
-IsUnread reading (Fault failure) = failure ≡ Memory
-IsUnread reading (Explained failure why) = ⊥
+SpellsNoCommand reading (Fault failure) = failure ≡ Memory
+SpellsNoCommand reading (Explained failure why) = ⊥
 
 -- just the command that the bytes spell
 abbrev pub Spells : Reading Command → Result Command Undone → Type 0
-Spells reading result = MatchResult result (λ command. reading ≡ Ok command) (IsUnread reading)
+Spells reading result = MatchResult result (λ command. reading ≡ Ok command) (SpellsNoCommand reading)
 
 -- ---- What is printed
 
@@ -76,3 +77,10 @@ IsUnprinted step old new (Refused line) =
     × (new ≡ old)
 IsUnprinted step old new (Fault failure) = (new ≡ old) ⊎ (new ≡ step.world)
 IsUnprinted step old new (Explained failure why) = ⊥
+
+-- an office is asked for one step, in this form
+abbrev pub PrintsStep : {S : Type 0} → (S → World) → (S → Type 0) → (S → Type 0) → Bool → S → S
+    → (World → Stepped) → Form → Option (List ℕ) → Option (List ℕ) → Result ⊤ Undone → Type 0
+PrintsStep world Holds Sound fails before after step form had has result =
+    Does world Holds Sound fails before after result
+    (λ old new. IsPrinted form had has (step old) new) (λ old new. IsUnprinted (step old) old new)

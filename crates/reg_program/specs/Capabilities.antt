@@ -13,7 +13,7 @@ use Rattle.reg_site.specs.Site.{told_text}
 use Rattle.reg_program.specs.Printing.{Prints}
 use Rattle.reg_program.specs.Revoking.{no_token}
 use Rattle.reg_program.specs.Served.{IsRefusal}
-use Rattle.reg_program.specs.Tokens.{IsTable}
+use Rattle.reg_program.specs.Tokens.{IsTokenTable}
 use Rattle.reg_program.specs.Undone.{refusal_line}
 use Rattle.reg_program.specs.declared.faults.JobFailure.TheVariants.{Memory}
 use Rattle.reg_program.specs.declared.faults.Undone.{Undone}
@@ -40,21 +40,21 @@ IsIllFormed which (Explained failure why) = ⊥
 -- ---- What is answered
 
 -- the bytes are the answer of an office that lists these capabilities, as far as it shows them
-abbrev pub Lists : List ℕ → List CapRow → Type 0
-Lists bytes rows = bytes ≡ answer_text 200 Json (told_text (tells.Capabilities rows))
+abbrev pub ListsCapabilities : List ℕ → List CapRow → Type 0
+ListsCapabilities bytes rows = bytes ≡ answer_text 200 Json (told_text (tells.Capabilities rows))
 
 -- they are, and these capabilities are printed as those of an office in a file
 pub record PrintsListedOf (bytes : List ℕ) (had has : Option (List ℕ)) : Type 0 where
   pub rows : List CapRow
-  pub listed : Lists bytes rows
-  pub prints : Prints had has (IsTable rows)
+  pub listed : ListsCapabilities bytes rows
+  pub prints : Prints had has (IsTokenTable rows)
 
 -- the same of one capability at least
 pub record PrintsRevokedOf (bytes : List ℕ) (had has : Option (List ℕ)) : Type 0 where
   pub rows : List CapRow
-  pub listed : Lists bytes rows
+  pub listed : ListsCapabilities bytes rows
   pub some : 0 < length rows
-  pub prints : Prints had has (IsTable rows)
+  pub prints : Prints had has (IsTokenTable rows)
 
 -- what such an answer lists is printed
 abbrev pub PrintsListed : Option (List ℕ) → Option (List ℕ) → Type 0
@@ -81,6 +81,6 @@ IsSaidOfFile said (Explained failure why) = ⊥
 abbrev pub IsUnrevokedOf : List ℕ → Undone → Type 0
 IsUnrevokedOf bytes (Refused line) =
     ((said : List ℕ) × IsRefusal bytes said × IsLineOfFile said line.items)
-    ⊎ (Lists bytes [] × (line.items ≡ no_token))
+    ⊎ (ListsCapabilities bytes [] × (line.items ≡ no_token))
 IsUnrevokedOf bytes (Fault failure) = ⊤
 IsUnrevokedOf bytes (Explained failure why) = ⊥

@@ -9,6 +9,7 @@ use Rattle.reg_wire.specs.Script.Answers.{ServesOver}
 use Rattle.reg_wire.specs.Script.Lines.{AnswersAll, StopsAt}
 use Rattle.reg_wire.specs.declared.wire_fault.WireFault.{WireFault}
 use Rattle.reg_program.specs.Undone.{found_failure, script_failure}
+use Rattle.reg_program.specs.declared.console.Console.{Console}
 use Rattle.reg_program.specs.declared.faults.JobFailure.TheVariants.{Write}
 use Rattle.reg_program.specs.declared.faults.Undone.{Undone}
 use Rattle.reg_program.specs.declared.faults.Undone.TheVariants.{Fault}
@@ -30,7 +31,7 @@ IsUnready token old new undone =
 -- ---- The job that runs a script: over the states of a keeper
 
 -- the first clerk is there
-pub record Founds {S : Type 0} (world : S → World) (Holds Sound : S → Type 0) (before after : S)
+pub record FoundsClerk {S : Type 0} (world : S → World) (Holds Sound : S → Type 0) (before after : S)
     (token : List ℕ) : Type 0 where
   pub founded : Holds after → WasFounded (world before) (world after) token
   pub premise : GoesOn Holds Sound before after ⊤
@@ -47,7 +48,7 @@ pub record Unfounded {S : Type 0} (world : S → World) (Holds Sound : S → Typ
 pub record RunsAll {S : Type 0} (world : S → World) (Holds Sound : S → Type 0) (fails : Bool)
     (first last : S) (token : List ℕ) (unread left had has : Option (List ℕ)) : Type 0 where
   pub office : S
-  pub founds : Founds world Holds Sound first office token
+  pub founds : FoundsClerk world Holds Sound first office token
   pub answers : AnswersAll (ServesOver world Holds Sound fails) office last unread left had has
 
 -- no office is founded, and nothing is read or written; or it is, and lines are answered up to a
@@ -59,10 +60,25 @@ RunsUpTo {S} world Holds Sound fails first last token unread left had has undone
     ((fault : FoundFault) × (undone ≡ Fault (found_failure fault))
     × Unfounded world Holds Sound fails first last token fault × (left ≡ unread) × (has ≡ had))
     ⊎ ((fault : WireFault) × (undone ≡ Fault (script_failure fault))
-    × (office : S) × Founds world Holds Sound first office token
+    × (office : S) × FoundsClerk world Holds Sound first office token
     × StopsAt (ServesOver world Holds Sound fails) fault office last unread left had has)
 
 -- what is known of an output: nothing where progress is told on a terminal
 abbrev pub told_beside : Bool → Option (List ℕ) → Option (List ℕ)
 told_beside true known = None
 told_beside false known = known
+
+-- the same over a console, by what is known of such inputs and outputs
+module _ {S R W E : Type 0} (world : S → World) (Holds Sound : S → Type 0) (fails : Bool)
+    (remaining : R → Option (List ℕ)) (contents : W → Option (List ℕ)) (old new : Console R W E) where
+  abbrev pub RunsAllOn : S → S → List ℕ → Type 0
+  RunsAllOn first last token =
+      RunsAll world Holds Sound fails first last token (remaining old.input.now)
+      (remaining new.input.now) (told_beside old.is_watched (contents old.output.now))
+      (told_beside old.is_watched (contents new.output.now))
+
+  abbrev pub RunsUpToOn : S → S → List ℕ → Undone → Type 0
+  RunsUpToOn first last token =
+      RunsUpTo world Holds Sound fails first last token (remaining old.input.now)
+      (remaining new.input.now) (told_beside old.is_watched (contents old.output.now))
+      (told_beside old.is_watched (contents new.output.now))

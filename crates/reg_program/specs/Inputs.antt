@@ -1,15 +1,12 @@
 -- What the words of a command line, and standard input, give to a job.
-use Rattle.std.specs.Prelude.{◌≡◌, ◌<◌, ℕ, length, Bool, List, [], ◌∷◌, Option, Some, None, IfSome, ◌==◌, take, position, codes, if◌then◌else◌}
+use Rattle.std.specs.Prelude.{◌≡◌, ℕ, Bool, List, [], ◌∷◌, Option, Some, None, IfSome, ◌==◌, take, position, codes, if◌then◌else◌}
 use Rattle.std.specs.Io.BufRead.{strip_last}
 use Rattle.std.specs.Str.{bytes_eq}
+use Rattle.reg_publish.specs.Answers.{AreMore}
 
 -- the bytes are those that are known, where they are
 abbrev pub AreKnown : Option (List ℕ) → List ℕ → Type 0
 AreKnown known bytes = IfSome known (λ all. bytes ≡ all)
-
--- the bytes are more than so many, where they are known
-abbrev pub AreMore : ℕ → Option (List ℕ) → Type 0
-AreMore most known = IfSome known (λ all. most < length all)
 
 -- a file has just these bytes, where it is known what it has
 pub record HasBytes {F : Type 0} (held : F → Option (List ℕ)) (bytes : List ℕ) : Type 0 where

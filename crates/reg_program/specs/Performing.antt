@@ -3,12 +3,13 @@ use Rattle.std.specs.Prelude.{◌≡◌, ◌⊎◌, ⊤, ℕ, ℤ, Bool, false, 
 use Rattle.std.specs.Io.KnownBytes.{Appends}
 use Rattle.std.specs.Option.{option_copied}
 use Rattle.std.specs.String.{string_bytes}
-use Rattle.reg_jobs.specs.Asking.{IsServed}
+use Rattle.reg_jobs.specs.Asking.{IsAddress}
 use Rattle.reg_jobs.specs.declared.jobs.Definition.{Definition}
 use Rattle.reg_jobs.specs.declared.jobs.Job.{Job}
 use Rattle.reg_jobs.specs.declared.jobs.Job.TheVariants as job
 use Rattle.reg_jobs.specs.declared.jobs.JobFault.{JobFault}
 use Rattle.reg_jobs.specs.declared.jobs.JobFault.TheVariants as fault
+use Rattle.reg_jobs.specs.declared.jobs.Publication.{Publication}
 use Rattle.reg_jobs.specs.declared.jobs.Request.{Request}
 use Rattle.reg_jobs.specs.declared.jobs.Which.{Which}
 use Rattle.reg_jobs.specs.declared.jobs.Which.TheVariants as which
@@ -108,7 +109,7 @@ CarriesThen Carried file Is io done =
 abbrev pub TellsFrom : Type 0 → List ℕ → Type 0 → (Result ⊤ Undone → Type 0) → Result ⊤ Undone
     → Type 0
 TellsFrom Untouched source Printed Does done =
-    (IsServed source → Untouched × OnOk done Printed) × ((IsServed source → ⊥) → Does done)
+    (IsAddress source → Untouched × OnOk done Printed) × ((IsAddress source → ⊥) → Does done)
 
 -- the same, and it is printed in this form what the one that is served answers
 abbrev pub AnswersFrom : Type 0 → List ℕ → Form → Streams → (Result ⊤ Undone → Type 0)
@@ -127,74 +128,102 @@ pub record RunsInMemory (word : List ℕ) (io : Streams) : Type 0 where
   pub runs : RunsAll world_in (λ _. ⊤) (λ _. ⊤) false first last token io.unread io.left
       (told_beside io.is_watched io.had) (told_beside io.is_watched io.has)
 
--- What some jobs do with the offices in files. Of a task that was carried out with the one in a file
--- `Carried` tells, of one that was looked at `Checked`; and `Untouched` says that nothing was done
--- with any of them.
-module _ (Carried : List ℕ → Task → Streams → Result ⊤ Undone → Type 0)
-    (Checked : List ℕ → Streams → Result ⊤ Undone → Type 0) (Untouched : Type 0) where
-  -- the script is run with the office in a file or, without one, with one in memory
-  abbrev pub RunsIn : Option (List ℕ) → List ℕ → Streams → Result ⊤ Undone → Type 0
-  RunsIn None clerk io done = Untouched × RunsInMemory clerk io
-  RunsIn (Some file) clerk io done = Carries Carried file (IsRunning clerk) io done
+-- ---- What some jobs do with the offices in files
 
-  -- the office in a file is published in a folder; of one that is served nothing is said here
-  abbrev pub PublishesFrom : List ℕ → List ℕ → Bool → Streams → Result ⊤ Undone → Type 0
-  PublishesFrom source folder noted io done =
-      (IsServed source → Untouched)
-      × ((IsServed source → ⊥) → Carries Carried source (IsPublishedTo folder noted) io done)
+-- of a task that was carried out with the office in a file, what became of them
+abbrev pub ToldOfTasks : Type 1
+ToldOfTasks = List ℕ → Task → Streams → Result ⊤ Undone → Type 0
 
-  -- what is due is printed, of the office in a file, or of one that is served
-  abbrev pub TellsDue : List ℕ → ℕ → Streams → Result ⊤ Undone → Type 0
-  TellsDue source days io done =
-      TellsFrom Untouched source (PrintsTable io.had io.has)
-      (Carries Carried source (λ task. task ≡ Due days) io) done
+-- Of each job: `Carried` tells of a task that was carried out, and `Untouched` says that nothing was
+-- done with any office.
 
-  -- the version is printed
-  abbrev pub PrintsVersion : Streams → Result ⊤ Undone → Type 0
-  PrintsVersion io done = Untouched × OnOk done (Appends io.had io.has version_line)
+-- the script is run with the office in a file or, without one, with one in memory
+abbrev pub RunsIn : Option (List ℕ) → List ℕ → ToldOfTasks → Type 0 → Streams → Result ⊤ Undone → Type 0
+RunsIn None clerk Carried Untouched io done = Untouched × RunsInMemory clerk io
+RunsIn (Some file) clerk Carried Untouched io done = Carries Carried file (IsRunning clerk) io done
 
--- The same of each job. Of a copy `Copied` tells.
-module _ (Carried : List ℕ → Task → Streams → Result ⊤ Undone → Type 0)
-    (Checked : List ℕ → Streams → Result ⊤ Undone → Type 0)
+-- a request is carried out with the office in a file, once what is on standard input was read
+abbrev pub CarriesRequest : Request → ToldOfTasks → Type 0 → Streams → Result ⊤ Undone → Type 0
+CarriesRequest order Carried Untouched io done =
+    CarriesThen Carried (string_bytes order.source) (IsRequestedBy order io.unread) io done
+
+-- a request is answered
+abbrev pub AnswersRequest : Request → ToldOfTasks → Type 0 → Streams → Result ⊤ Undone → Type 0
+AnswersRequest order Carried Untouched io done =
+    AnswersFrom Untouched (string_bytes order.source) Body io
+    (CarriesRequest order Carried Untouched io) done
+
+-- a registry is defined
+abbrev pub AnswersDefinition : Definition → ToldOfTasks → Type 0 → Streams → Result ⊤ Undone → Type 0
+AnswersDefinition order Carried Untouched io done =
+    AnswersFrom Untouched (string_bytes order.source) Line io
+    (Carries Carried (string_bytes order.source) (IsDefinedBy order) io) done
+
+-- a registry is listed or, without one, the blocks
+abbrev pub AnswersListing : List ℕ → Option (List ℕ) → ToldOfTasks → Type 0 → Streams
+    → Result ⊤ Undone → Type 0
+AnswersListing source registry Carried Untouched io done =
+    AnswersFrom Untouched source Body io (Carries Carried source (IsListedBy registry) io) done
+
+-- the office in a file is published in a folder; of one that is served nothing is said here
+abbrev pub PublishesFrom : Publication → ToldOfTasks → Type 0 → Streams → Result ⊤ Undone → Type 0
+PublishesFrom order Carried Untouched io done =
+    let Is = IsPublishedTo (string_bytes order.folder) (is_some order.notes) in
+    (IsAddress (string_bytes order.source) → Untouched)
+    × ((IsAddress (string_bytes order.source) → ⊥)
+    → Carries Carried (string_bytes order.source) Is io done)
+
+-- what is due is printed
+abbrev pub TellsDue : List ℕ → ℕ → ToldOfTasks → Type 0 → Streams → Result ⊤ Undone → Type 0
+TellsDue source days Carried Untouched io done =
+    TellsFrom Untouched source (PrintsTable io.had io.has)
+    (Carries Carried source (λ task. task ≡ Due days) io) done
+
+-- all capabilities are printed
+abbrev pub TellsTokens : List ℕ → ToldOfTasks → Type 0 → Streams → Result ⊤ Undone → Type 0
+TellsTokens source Carried Untouched io done =
+    TellsFrom Untouched source (PrintsListed io.had io.has)
+    (Carries Carried source (λ task. task ≡ Tokens) io) done
+
+-- these capabilities are taken away, and printed
+abbrev pub TellsRevoked : List ℕ → Which → ToldOfTasks → Type 0 → Streams → Result ⊤ Undone → Type 0
+TellsRevoked source chosen Carried Untouched io done =
+    TellsFrom Untouched source (PrintsRevoked io.had io.has)
+    (Carries Carried source (IsTakenBy chosen) io) done
+
+-- The same of each job. Of one that was looked at `Checked` tells, and of a copy `Copied`.
+module _ (Carried : ToldOfTasks) (Checked : List ℕ → Streams → Result ⊤ Undone → Type 0)
     (Copied : List ℕ → List ℕ → ℤ → ℕ → Type 0) (Untouched : Type 0) where
   -- What a job does, with this result, by what is known of standard input and output and of the
   -- clock. Of what a served office publishes and of help nothing else is said here.
   abbrev pub DoesJob : Streams → Job → Result ⊤ Undone → Type 0
   DoesJob io (job.Script clerk file) done =
-      RunsIn Carried Checked Untouched (option_map string_bytes file) (string_bytes clerk) io done
+      RunsIn (option_map string_bytes file) (string_bytes clerk) Carried Untouched io done
   DoesJob io (job.Import order) done = Untouched × IsImported order io done
   DoesJob io (job.Init file clerk) done =
       Carries Carried (string_bytes file) (IsFounding (string_bytes clerk)) io done
   DoesJob io (job.Serve service) done =
       Carries Carried (string_bytes service.file)
       (λ task. task ≡ Serve service.port service.connections service.log) io done
-  DoesJob io (job.Request order) done =
-      AnswersFrom Untouched (string_bytes order.source) Body io
-      (CarriesThen Carried (string_bytes order.source) (IsRequestedBy order io.unread) io) done
-  DoesJob io (job.Define order) done =
-      AnswersFrom Untouched (string_bytes order.source) Line io
-      (Carries Carried (string_bytes order.source) (IsDefinedBy order) io) done
+  DoesJob io (job.Request order) done = AnswersRequest order Carried Untouched io done
+  DoesJob io (job.Define order) done = AnswersDefinition order Carried Untouched io done
   DoesJob io (job.Listing source registry) done =
-      AnswersFrom Untouched (string_bytes source) Body io
-      (Carries Carried (string_bytes source) (IsListedBy (option_map string_bytes registry)) io) done
-  DoesJob io (job.Publish order) done =
-      PublishesFrom Carried Checked Untouched (string_bytes order.source)
-      (string_bytes order.folder) (is_some order.notes) io done
+      AnswersListing (string_bytes source) (option_map string_bytes registry) Carried Untouched io
+      done
+  DoesJob io (job.Publish order) done = PublishesFrom order Carried Untouched io done
   DoesJob io (job.Verify folder digest) done =
       Untouched × IsVerifiedBy (option_map string_bytes digest) io.had io.has done
   DoesJob io (job.Due source within) done =
-      TellsDue Carried Checked Untouched (string_bytes source) within io done
+      TellsDue (string_bytes source) within Carried Untouched io done
   DoesJob io (job.Check file) done = Checked (string_bytes file) io done
   DoesJob io (job.Copy file folder) done =
       Untouched
       × OnOk done (PrintsCopied (Copied (string_bytes file) (string_bytes folder)) io.had io.has)
   DoesJob io (job.Tokens source token) done =
-      TellsFrom Untouched (string_bytes source) (PrintsListed io.had io.has)
-      (Carries Carried (string_bytes source) (λ task. task ≡ Tokens) io) done
+      TellsTokens (string_bytes source) Carried Untouched io done
   DoesJob io (job.Revoke source token chosen) done =
-      TellsFrom Untouched (string_bytes source) (PrintsRevoked io.had io.has)
-      (Carries Carried (string_bytes source) (IsTakenBy chosen) io) done
-  DoesJob io job.Version done = PrintsVersion Carried Checked Untouched io done
+      TellsRevoked (string_bytes source) chosen Carried Untouched io done
+  DoesJob io job.Version done = Untouched × OnOk done (Appends io.had io.has version_line)
   DoesJob io (job.Help text) done = Untouched
 
 -- Either this was done; or it was not, and then nothing was, or it itself failed.
@@ -207,3 +236,27 @@ abbrev pub EndsBy : Type 0 → (Result ⊤ Undone → Type 0) → ℕ → Type 0
 EndsBy Untouched Does status =
     ((status ≡ 0) × Does (Ok tt))
     ⊎ ((status ≡ 1) × (why : Undone) × Tries Untouched Does (Err why))
+
+-- The same of offices, before and after: they stay where nothing was done with any.
+module _ {O : Type 0} (Carried : O → O → ToldOfTasks) (old new : O) where
+  -- a task of this kind with the office in a file
+  abbrev pub TriesTask : List ℕ → (Task → Type 0) → Streams → Result ⊤ Undone → Type 0
+  TriesTask file Is io done = Tries (new ≡ old) (Carries (Carried old new) file Is io) done
+
+  -- what a job does
+  abbrev pub TriesIn : (ToldOfTasks → Type 0 → Streams → Result ⊤ Undone → Type 0) → Streams
+      → Result ⊤ Undone → Type 0
+  TriesIn Does io done = Tries (new ≡ old) (Does (Carried old new) (new ≡ old) io) done
+
+-- and any job, with copies of which `Copied` tells
+module _ {O : Type 0} (Carried : O → O → ToldOfTasks)
+    (Checked : O → O → List ℕ → Streams → Result ⊤ Undone → Type 0)
+    (Copied : List ℕ → List ℕ → ℤ → ℕ → Type 0) (old new : O) (io : Streams) where
+  abbrev pub TriesJob : Job → Result ⊤ Undone → Type 0
+  TriesJob job done =
+      Tries (new ≡ old) (DoesJob (Carried old new) (Checked old new) Copied (new ≡ old) io job) done
+
+  -- with this exit status
+  abbrev pub EndsJob : Job → ℕ → Type 0
+  EndsJob job status =
+      EndsBy (new ≡ old) (DoesJob (Carried old new) (Checked old new) Copied (new ≡ old) io job) status

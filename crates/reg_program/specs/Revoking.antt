@@ -9,7 +9,7 @@ use Rattle.reg_office.specs.declared.revocation.Choice.{Choice}
 use Rattle.reg_office.specs.declared.revocation.RevokeFault.{RevokeFault}
 use Rattle.reg_office.specs.declared.revocation.RevokeFault.TheVariants as no
 use Rattle.reg_program.specs.Printing.{Prints}
-use Rattle.reg_program.specs.Tokens.{IsTable}
+use Rattle.reg_program.specs.Tokens.{IsTokenTable}
 use Rattle.reg_program.specs.Undone.{IsSaidBy, failure_of, refusal_line}
 use Rattle.reg_program.specs.declared.faults.Undone.{Undone}
 use Rattle.reg_program.specs.declared.faults.Undone.TheVariants.{Fault, Explained, Refused}
@@ -26,7 +26,7 @@ pub record Revokes (moment : ℕ) (choice : Choice) (had has : Option (List ℕ)
   pub chosen : taken moment choice old ≡ Ok rows
   pub gone : new ≡ revoked rows old
   pub clerk : HasClerkAt moment new
-  pub prints : Prints had has (IsTable rows)
+  pub prints : Prints had has (IsTokenTable rows)
 
 -- why the office took none, as a job says it
 abbrev pub IsUnrevokedBy : RevokeFault → Undone → Type 0

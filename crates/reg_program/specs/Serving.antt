@@ -1,5 +1,5 @@
 -- What serving does with an office.
-use Rattle.std.specs.Prelude.{◌≡◌, ◌*◌, ℕ, List, [], ◌∷◌, Option}
+use Rattle.std.specs.Prelude.{◌≡◌, ◌*◌, ⊤, ℕ, List, [], ◌∷◌, Option, Result, MatchResult}
 use Rattle.std.specs.Duration.{as_nanos}
 use Rattle.std.specs.Net.Addr.{ipv4_octets}
 use Rattle.std.specs.Net.Socket.{v4_ip, v4_port}
@@ -9,6 +9,7 @@ use Rattle.std.specs.declared.time.Duration.{Duration}
 use Rattle.reg_wire.specs.Exchange.{Call}
 use Rattle.reg_http.specs.Meeting.{ServesInTurn}
 use Rattle.reg_http.specs.declared.response.Response.{Response}
+use Rattle.reg_program.specs.declared.faults.Undone.{Undone}
 
 -- the address is that of this port of loopback, 127.0.0.1
 abbrev pub IsLoopback : SocketAddr → ℕ → Type 0
@@ -21,7 +22,7 @@ IsPatience patience = as_nanos patience ≡ 10 * 1000000000
 
 -- they are the connections at this port of loopback, and a peer has ten seconds to send its request,
 -- and again to take the answer
-pub record IsOpened {P : Type 0} (Opened : SocketAddr → Duration → P → Type 0) (port : ℕ) (peers : P)
+pub record IsListener {P : Type 0} (Opened : SocketAddr → Duration → P → Type 0) (port : ℕ) (peers : P)
     : Type 0 where
   pub address : SocketAddr
   pub patience : Duration
@@ -37,7 +38,17 @@ pub record ServesOn {S P : Type 0} (Serves : S → Call → Response → S → T
   where
     pub first : P
     pub last : P
-    pub is_opened : IsOpened Opened port first
+    pub is_opened : IsListener Opened port first
     pub answered : ℕ
     pub served : ServesInTurn Serves blank count answered (coming first) (coming last) readings later
         (written first) (written last) before after
+
+-- they are served; or none is, and the office stays
+abbrev pub ServesOrStays : {S P : Type 0} → (S → Call → Response → S → Type 0)
+    → (SocketAddr → Duration → P → Type 0) → Option (List ℕ) → (P → Option (List (Option (List ℕ))))
+    → (P → Option (List (Option (List ℕ)))) → Option (List (Option Duration))
+    → Option (List (Option Duration)) → S → S → Result ⊤ Undone → ℕ → ℕ → Type 0
+ServesOrStays Serves Opened blank coming written readings later before after result port count =
+    MatchResult result
+    (λ _. ServesOn Serves Opened blank coming written readings later port count before after)
+    (λ why. after ≡ before)

@@ -7,13 +7,14 @@ use Rattle.reg_core.specs.World.{World}
 use Rattle.reg_office.specs.Caller.{step_by}
 use Rattle.reg_http.specs.Meeting.{ReadsMoment}
 use Rattle.reg_notes.specs.declared.notes.Notes.{Notes}
-use Rattle.reg_program.specs.Asking.{IsPrinted, IsUnprinted}
+use Rattle.reg_program.specs.Asking.{PrintsStep}
 use Rattle.reg_program.specs.Doing.{Does}
 use Rattle.reg_program.specs.Expiring.{PrintsDue}
 use Rattle.reg_program.specs.Founding.{IsReady, IsUnready, RunsAll, RunsUpTo, told_beside}
 use Rattle.reg_program.specs.Looking.{only_looks}
 use Rattle.reg_program.specs.Revoking.{IsUnrevoked, Revokes}
 use Rattle.reg_program.specs.Tokens.{IsListed}
+use Rattle.reg_program.specs.declared.console.Console.{Console}
 use Rattle.reg_program.specs.declared.faults.Undone.{Undone}
 use Rattle.reg_program.specs.declared.tasks.Task.{Task}
 use Rattle.reg_program.specs.declared.tasks.Task.TheVariants.{Found, Run, Serve, Ask, Tokens, Revoke, Publish, Due}
@@ -43,41 +44,66 @@ streams is_watched unread left had has readings later =
       later = later;
     }
 
+-- the same of a console and a clock, before and after, by what is known of such inputs, outputs and clocks
+abbrev pub streams_by : {R W E D : Type 0} → (R → Option (List ℕ)) → (W → Option (List ℕ))
+    → (D → Option (List (Option Duration))) → Console R W E → Console R W E → D → D → Streams
+streams_by remaining contents readings old new before after =
+    streams old.is_watched (remaining old.input.now) (remaining new.input.now)
+    (contents old.output.now) (contents new.output.now) (readings before) (readings after)
+
 -- this is the moment that the clock said, which was read once
 abbrev pub IsMoment : Streams → ℕ → Type 0
 IsMoment io moment = ReadsMoment io.readings io.later moment
 
 -- A task over the states of a keeper does what the function of its job does, at the moment that the
--- clock said. An office that is served on a port, for so many connections, is changed by these alone,
--- as `served` says; and what is published in a folder is what `placed` says.
+-- clock said. `IfServes` and `IfPublishes` say what the other two do.
 abbrev pub Did : {S : Type 0} → (S → World) → (S → Type 0) → (S → Type 0) → Bool → S → S → Streams
-    → (ℕ → ℕ → Type 0) → (List ℕ → Option Notes → ℕ → Type 0) → Result ⊤ Undone → Task → Type 0
-Did world Holds Sound fails before after io served placed result (Found clerk) =
+    → Result ⊤ Undone → Task → Type 0
+Did world Holds Sound fails before after io result (Found clerk) =
     Does world Holds Sound fails before after result (IsReady clerk.now io.had io.has)
     (IsUnready clerk.now)
-Did world Holds Sound fails before after io served placed result (Run clerk) =
+Did world Holds Sound fails before after io result (Run clerk) =
     let had = told_beside io.is_watched io.had in
     let has = told_beside io.is_watched io.has in
     MatchResult result
     (λ _. RunsAll world Holds Sound fails before after clerk.now io.unread io.left had has)
     (RunsUpTo world Holds Sound fails before after clerk.now io.unread io.left had has)
-Did world Holds Sound fails before after io served placed result (Serve port connections log) =
-    MatchResult result (λ _. served port connections) (λ why. after ≡ before)
-Did world Holds Sound fails before after io served placed result (Ask token command form) =
-    (moment : ℕ) × IsMoment io moment × Does world Holds Sound fails before after result
-    (λ old new. IsPrinted form io.had io.has (step_by old (option_copied token) moment command) new)
-    (λ old new. IsUnprinted (step_by old (option_copied token) moment command) old new)
-Did world Holds Sound fails before after io served placed result Tokens =
+Did world Holds Sound fails before after io result (Serve port connections log) = ⊤
+Did world Holds Sound fails before after io result (Ask token command form) =
+    (moment : ℕ) × IsMoment io moment × PrintsStep world Holds Sound fails before after
+    (λ old. step_by old (option_copied token) moment command) form io.had io.has result
+Did world Holds Sound fails before after io result Tokens =
     Does world Holds Sound fails before after result (IsListed io.had io.has)
     (λ old new why. new ≡ old)
-Did world Holds Sound fails before after io served placed result (Revoke choice) =
+Did world Holds Sound fails before after io result (Revoke choice) =
     (moment : ℕ) × IsMoment io moment × Does world Holds Sound fails before after result
     (Revokes moment choice io.had io.has) (IsUnrevoked moment choice)
-Did world Holds Sound fails before after io served placed result (Publish folder notes) =
-    OnOk result ((moment : ℕ) × IsMoment io moment × placed folder.now (option_copied notes) moment)
-Did world Holds Sound fails before after io served placed result (Due days) =
+Did world Holds Sound fails before after io result (Publish folder notes) = ⊤
+Did world Holds Sound fails before after io result (Due days) =
     OnOk result ((moment : ℕ) × IsMoment io moment
     × PrintsDue (λ k. published (world k)) Holds before after moment days io.had io.has)
+
+-- a task that serves an office on a port, for so many connections, does this
+abbrev pub IfServes : (ℕ → ℕ → Type 0) → Task → Type 0
+IfServes Served (Found clerk) = ⊤
+IfServes Served (Run clerk) = ⊤
+IfServes Served (Serve port connections log) = Served port connections
+IfServes Served (Ask token command form) = ⊤
+IfServes Served Tokens = ⊤
+IfServes Served (Revoke choice) = ⊤
+IfServes Served (Publish folder notes) = ⊤
+IfServes Served (Due days) = ⊤
+
+-- a task that publishes an office in a folder, with these notes, does this
+abbrev pub IfPublishes : (List ℕ → Option Notes → Type 0) → Task → Type 0
+IfPublishes Placed (Found clerk) = ⊤
+IfPublishes Placed (Run clerk) = ⊤
+IfPublishes Placed (Serve port connections log) = ⊤
+IfPublishes Placed (Ask token command form) = ⊤
+IfPublishes Placed Tokens = ⊤
+IfPublishes Placed (Revoke choice) = ⊤
+IfPublishes Placed (Publish folder notes) = Placed folder.now (option_copied notes)
+IfPublishes Placed (Due days) = ⊤
 
 -- the capabilities are listed, or a command that only looks is asked
 abbrev pub looks_on : Task → Bool

@@ -31,8 +31,8 @@ IsRecord row fields = (end : List ℕ) × IsEnd row.cap.until end
     × (fields ≡ row.cap.account ∷ kind_word row.cap.kind ∷ end ∷ take 12 row.digest ∷ [])
 
 -- a writer is given the record of a capability, and no more
-abbrev pub AddsRecord : {W : Type 0} → (W → Option (List ℕ)) → Writer W → Writer W → CapRow → Type 0
-AddsRecord contents old new row =
+abbrev pub AddsTokenRow : {W : Type 0} → (W → Option (List ℕ)) → Writer W → Writer W → CapRow → Type 0
+AddsTokenRow contents old new row =
     (fields : List (List ℕ)) × IsRecord row fields × Adds contents old new fields
 
 -- ---- All of them
@@ -48,7 +48,7 @@ abbrev pub place : CapRow → List ℕ × List ℕ
 place row = (row.cap.account, row.digest)
 
 -- all of them, by account and then by digest
-pub record IsTable (rows : List CapRow) (text : List ℕ) : Type 0 where
+pub record IsTokenTable (rows : List CapRow) (text : List ℕ) : Type 0 where
   pub ordered : List CapRow
   pub same : IsPermutation rows ordered
   pub in_order : IsSortedByKey place (pair_cmp text_cmp text_cmp) ordered
@@ -56,4 +56,4 @@ pub record IsTable (rows : List CapRow) (text : List ℕ) : Type 0 where
 
 -- all capabilities are printed, and nothing has changed
 abbrev pub IsListed : Option (List ℕ) → Option (List ℕ) → World → World → Type 0
-IsListed had has old new = (new ≡ old) × Prints had has (IsTable (cap_rows old.caps))
+IsListed had has old new = (new ≡ old) × Prints had has (IsTokenTable (cap_rows old.caps))

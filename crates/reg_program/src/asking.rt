@@ -11,8 +11,7 @@ ghost use Rattle.reg_core.specs.World.{World};
 ghost use Rattle.reg_office.specs.Caller.{step_by};
 ghost use Rattle.reg_parse.specs.Command.{asked};
 ghost use Rattle.reg_print.specs.declared.answer.Answer.TheVariants as answer;
-ghost use Rattle.reg_program.specs.Asking.{IsPrinted, IsUnprinted, Spells, after_body, definition_at, in_form, listing_at, printed};
-ghost use Rattle.reg_program.specs.Doing.{Does};
+ghost use Rattle.reg_program.specs.Asking.{PrintsStep, Spells, after_body, definition_at, in_form, listing_at, printed};
 ghost use Rattle.reg_program.specs.Looking.{only_looks};
 ghost use Rattle.reg_program.specs.Undone.{IsRefusedBy, answer_line as line_of, line_by, refusal_line as text_of_refusal};
 
@@ -118,9 +117,8 @@ pub fn ask_in<K: Keeper, W: Write>(
     output: &mut W,
 ) -> Result<(), Undone>
     ensures does { let step = λ (w : World). step_by w (option_copied token.entry) moment command.now in
-        Does K.world K.Holds K.Sound K.FAILS office.old office.new result
-        (λ old new. IsPrinted form (W.contents output.old) (W.contents output.new) (step old) new)
-        (λ old new. IsUnprinted (step old) old new) }
+        PrintsStep K.world K.Holds K.Sound K.FAILS office.old office.new step form
+        (W.contents output.old) (W.contents output.new) result }
     ensures looks { only_looks command.now ≡ true →
         K.Holds office.new → K.world office.new ≡ K.world office.old }
 {

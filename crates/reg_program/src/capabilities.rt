@@ -5,11 +5,10 @@
 //! a list of none, it is said that there is no such token.
 ghost use Rattle.std.specs.Prelude.{◌≡◌, true, IfErr, IfOk, OnOk};
 ghost use Rattle.std.specs.String.{string_bytes};
-ghost use Rattle.reg_program.specs.Capabilities.{IsIllFormed, IsSaidOfFile, IsUnrevokedOf, Lists, PrintsListed, PrintsListedOf, PrintsRevoked, PrintsRevokedOf, is_formed, revocation_at};
-ghost use Rattle.reg_program.specs.Performing.{Carries, IsTakenBy, TellsFrom, Tries};
+ghost use Rattle.reg_program.specs.Capabilities.{IsIllFormed, IsSaidOfFile, IsUnrevokedOf, ListsCapabilities, PrintsListed, PrintsListedOf, PrintsRevoked, PrintsRevokedOf, is_formed, revocation_at};
+ghost use Rattle.reg_program.specs.Performing.{IsTakenBy, TellsRevoked, TellsTokens, TriesIn, TriesTask};
 ghost use Rattle.reg_program.specs.Served.{IsUnprintedOf};
-ghost use Rattle.reg_program.specs.Tasks.{streams};
-ghost use Rattle.reg_program.specs.declared.tasks.Task.TheVariants.{Tokens};
+ghost use Rattle.reg_program.specs.Tasks.{streams_by};
 
 use crate::asking::refusal_line;
 use crate::carrying::carry_out;
@@ -42,13 +41,9 @@ pub fn list_tokens<D: Dates, O: Offices, R: Read, W: Write, E: Write>(
     token: &Option<String>,
     console: &mut Console<'_, R, W, E>,
 ) -> Result<(), Undone>
-    ensures { let io = streams console.old.is_watched
-        (R.remaining console.old.input.now) (R.remaining console.new.input.now)
-        (W.contents console.old.output.now) (W.contents console.new.output.now)
-        (D.readings dates.old) (D.readings dates.new) in
-        Tries (offices.new ≡ offices.old) (TellsFrom (offices.new ≡ offices.old) source.now
-        (PrintsListed io.had io.has) (Carries (O.Carried offices.old offices.new) source.now
-        (λ task. task ≡ Tokens) io)) result }
+    ensures { let io = streams_by R.remaining W.contents D.readings console.old console.new dates.old
+        dates.new in
+        TriesIn O.Carried offices.old offices.new (TellsTokens source.now) io result }
 {
     match port_of(source)? {
         Some(port) => list_served(rt, port, token, console.output),
@@ -66,13 +61,9 @@ pub fn revoke<D: Dates, O: Offices, R: Read, W: Write, E: Write>(
     which: &Which,
     console: &mut Console<'_, R, W, E>,
 ) -> Result<(), Undone>
-    ensures { let io = streams console.old.is_watched
-        (R.remaining console.old.input.now) (R.remaining console.new.input.now)
-        (W.contents console.old.output.now) (W.contents console.new.output.now)
-        (D.readings dates.old) (D.readings dates.new) in
-        Tries (offices.new ≡ offices.old) (TellsFrom (offices.new ≡ offices.old) source.now
-        (PrintsRevoked io.had io.has) (Carries (O.Carried offices.old offices.new) source.now
-        (IsTakenBy which.now) io)) result }
+    ensures { let io = streams_by R.remaining W.contents D.readings console.old console.new dates.old
+        dates.new in
+        TriesIn O.Carried offices.old offices.new (TellsRevoked source.now which.now) io result }
 {
     match port_of(source)? {
         Some(port) => revoke_served(rt, port, token, which, console.output),
@@ -88,12 +79,9 @@ fn revoke_in_file<D: Dates, O: Offices, R: Read, W: Write, E: Write>(
     which: &Which,
     console: &mut Console<'_, R, W, E>,
 ) -> Result<(), Undone>
-    ensures { let io = streams console.old.is_watched
-        (R.remaining console.old.input.now) (R.remaining console.new.input.now)
-        (W.contents console.old.output.now) (W.contents console.new.output.now)
-        (D.readings dates.old) (D.readings dates.new) in
-        Tries (offices.new ≡ offices.old) (Carries (O.Carried offices.old offices.new) file.now
-        (IsTakenBy which.now) io) result }
+    ensures { let io = streams_by R.remaining W.contents D.readings console.old console.new dates.old
+        dates.new in
+        TriesTask O.Carried offices.old offices.new file.now (IsTakenBy which.now) io result }
 {
     match which {
         Which::Digest(digits) => {
@@ -207,7 +195,7 @@ pub fn print_revoked<W: Write>(alloc: Global, answer: &[u8], output: &mut W) -> 
 
 // The capabilities that an answer says were taken away.
 fn revoked(alloc: Global, answer: &[u8]) -> Result<Vec<CapRow>, Undone>
-    ensures ok { IfOk result (λ rows. Lists answer.now rows.items) }
+    ensures ok { IfOk result (λ rows. ListsCapabilities answer.now rows.items) }
     ensures err { IfErr result (IsUnrevokedOf answer.now) }
 {
     match listed(alloc, answer) {
@@ -232,7 +220,7 @@ fn unrevoked(alloc: Global, line: Vec<u8>) -> Result<Undone, AllocError>
 
 // The capabilities that an answer lists.
 fn listed(alloc: Global, answer: &[u8]) -> Result<Vec<CapRow>, Undone>
-    ensures ok { IfOk result (λ rows. Lists answer.now rows.items) }
+    ensures ok { IfOk result (λ rows. ListsCapabilities answer.now rows.items) }
     ensures err { IfErr result (IsUnprintedOf answer.now) }
 {
     let Some(body) = body_of(Format::Json, answer) else {

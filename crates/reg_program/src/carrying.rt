@@ -1,5 +1,5 @@
 //! Carrying tasks out with the offices in files.
-ghost use Rattle.reg_program.specs.Tasks.{streams};
+ghost use Rattle.reg_program.specs.Tasks.{streams_by};
 
 use crate::console::Console;
 use crate::faults::Undone;
@@ -16,10 +16,8 @@ pub fn carry_out<D: Dates, O: Offices, R: Read, W: Write, E: Write>(
     task: Task<'_>,
     console: &mut Console<'_, R, W, E>,
 ) -> Result<(), Undone>
-    ensures { let io = streams console.old.is_watched
-        (R.remaining console.old.input.now) (R.remaining console.new.input.now)
-        (W.contents console.old.output.now) (W.contents console.new.output.now)
-        (D.readings dates.old) (D.readings dates.new) in
+    ensures { let io = streams_by R.remaining W.contents D.readings console.old console.new dates.old
+        dates.new in
         O.Carried offices.old offices.new path.now task.entry io result }
 {
     offices.carry_out(rt, dates, path, &task, console)

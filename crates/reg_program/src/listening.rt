@@ -1,8 +1,8 @@
 //! The job that serves an office over HTTP.
-ghost use Rattle.std.specs.Prelude.{◌≡◌, ℕ, IfOk, MatchResult};
+ghost use Rattle.std.specs.Prelude.{IfOk};
 ghost use Rattle.reg_http.specs.Meeting.{ServesInTurn};
 ghost use Rattle.reg_http.specs.Serving.{AnswersOver};
-ghost use Rattle.reg_program.specs.Serving.{IsLoopback, IsOpened, IsPatience, ServesOn};
+ghost use Rattle.reg_program.specs.Serving.{IsLoopback, IsListener, IsPatience, ServesOrStays};
 
 use crate::asking::print;
 use crate::console::Console;
@@ -33,11 +33,9 @@ pub fn serve_in<N: Ports, D: Dates, K: Keeper, R: Read, W: Write, E: Write>(
     log: bool,
     console: &mut Console<'_, R, W, E>,
 ) -> Result<(), Undone>
-    ensures { MatchResult result
-        (λ _. ServesOn (AnswersOver K.world K.Holds K.Sound K.FAILS) (N.Opened ports.now)
-        N.Given.blank N.Given.coming N.Given.written (D.readings dates.old) (D.readings dates.new) port
-        connections office.old office.new)
-        (λ why. office.new ≡ office.old) }
+    ensures { ServesOrStays (AnswersOver K.world K.Holds K.Sound K.FAILS) (N.Opened ports.now)
+        N.Given.blank N.Given.coming N.Given.written (D.readings dates.old) (D.readings dates.new)
+        office.old office.new result port connections }
 {
     let routes = Routes::new(alloc)?;
     let mut peers = listening(ports, port)?;
@@ -88,7 +86,7 @@ fn serve_on<D: Dates, K: Keeper, P: Peers, E: Write>(
 }
 
 fn listening<N: Ports>(ports: &N, port: u16) -> Result<N::Given, JobFailure>
-    ensures { IfOk result (IsOpened (N.Opened ports.now) port) }
+    ensures { IfOk result (IsListener (N.Opened ports.now) port) }
 {
     match ports.listen(loopback(port), patience()) {
         Ok(peers) => Ok(peers),

@@ -2,11 +2,10 @@
 ghost use Rattle.std.specs.Prelude.{◌≡◌, ◌⊎◌, OnOk, is_some, option_map};
 ghost use Rattle.std.specs.String.{string_bytes};
 ghost use Rattle.reg_program.specs.Copying.{PrintsCopied};
-ghost use Rattle.reg_program.specs.Founding.{RunsAll, told_beside};
+ghost use Rattle.reg_program.specs.Founding.{RunsAllOn};
 ghost use Rattle.reg_program.specs.Importing.{IsImported};
-ghost use Rattle.reg_program.specs.Performing.{Carries, DoesJob, EndsBy, IsFounding, IsPublishedTo};
-ghost use Rattle.reg_program.specs.Performing.{PublishesFrom, RunsIn, TellsDue, Tries, refused_status};
-ghost use Rattle.reg_program.specs.Tasks.{streams};
+ghost use Rattle.reg_program.specs.Performing.{Carries, EndsJob, IsFounding, IsPublishedTo, PublishesFrom, RunsIn, TellsDue, TriesIn, TriesJob, TriesTask, refused_status};
+ghost use Rattle.reg_program.specs.Tasks.{streams_by};
 ghost use Rattle.reg_program.specs.Verifying.{IsVerifiedBy};
 
 use crate::asking::print;
@@ -45,13 +44,9 @@ pub fn perform<D: Dates, O: Offices, C: Copies, R: Read, W: Write, E: Write>(
     console: &mut Console<'_, R, W, E>,
 ) -> u8
     ensures status { (result ≡ 0) ⊎ (result ≡ 1) }
-    ensures done { let io = streams console.old.is_watched
-        (R.remaining console.old.input.now) (R.remaining console.new.input.now)
-        (W.contents console.old.output.now) (W.contents console.new.output.now)
-        (D.readings dates.old) (D.readings dates.new) in
-        EndsBy (offices.new ≡ offices.old) (DoesJob (O.Carried offices.old offices.new)
-        (O.Checked offices.old offices.new) (C.Copied copies.now) (offices.new ≡ offices.old) io job)
-        result }
+    ensures done { let io = streams_by R.remaining W.contents D.readings console.old console.new dates.old
+        dates.new in
+        EndsJob O.Carried O.Checked (C.Copied copies.now) offices.old offices.new io job result }
 {
     match attempt(rt, dates, offices, copies, &job, console) {
         Ok(()) => 0,
@@ -105,36 +100,23 @@ fn attempt<D: Dates, O: Offices, C: Copies, R: Read, W: Write, E: Write>(
     job: &Job,
     console: &mut Console<'_, R, W, E>,
 ) -> Result<(), Undone>
-    ensures { let io = streams console.old.is_watched
-        (R.remaining console.old.input.now) (R.remaining console.new.input.now)
-        (W.contents console.old.output.now) (W.contents console.new.output.now)
-        (D.readings dates.old) (D.readings dates.new) in
-        Tries (offices.new ≡ offices.old) (DoesJob (O.Carried offices.old offices.new)
-        (O.Checked offices.old offices.new) (C.Copied copies.now) (offices.new ≡ offices.old) io
-        job.now) result }
+    ensures { let io = streams_by R.remaining W.contents D.readings console.old console.new dates.old
+        dates.new in
+        TriesJob O.Carried O.Checked (C.Copied copies.now) offices.old offices.new io job.now
+        result }
 {
     match job {
         Job::Script { clerk, file } => script(rt, dates, offices, clerk.as_str(), file, console),
         Job::Import(order) => import_now(rt, dates, order, console),
-        Job::Init { file, clerk } => init(
-            rt,
-            dates,
-            offices,
-            file.as_str(),
-            clerk.as_str(),
-            console,
-        ),
+        Job::Init { file, clerk } => {
+            init(rt, dates, offices, file.as_str(), clerk.as_str(), console)
+        }
         Job::Serve(order) => serve(rt, dates, offices, order, console),
         Job::Request(order) => request(rt, dates, offices, order, console),
         Job::Define(order) => define(rt, dates, offices, order, console),
-        Job::Listing { source, registry } => list(
-            rt,
-            dates,
-            offices,
-            source.as_str(),
-            registry,
-            console,
-        ),
+        Job::Listing { source, registry } => {
+            list(rt, dates, offices, source.as_str(), registry, console)
+        }
         Job::Publish(order) => publish_at(rt, dates, offices, order, console),
         Job::Verify { folder, digest } => verify_at(rt, folder.as_str(), digest, console),
         Job::Due { source, within } => {
@@ -165,13 +147,10 @@ fn script<D: Dates, O: Offices, R: Read, W: Write, E: Write>(
     file: &Option<String>,
     console: &mut Console<'_, R, W, E>,
 ) -> Result<(), Undone>
-    ensures { let io = streams console.old.is_watched
-        (R.remaining console.old.input.now) (R.remaining console.new.input.now)
-        (W.contents console.old.output.now) (W.contents console.new.output.now)
-        (D.readings dates.old) (D.readings dates.new) in
-        Tries (offices.new ≡ offices.old) (RunsIn (O.Carried offices.old offices.new)
-        (O.Checked offices.old offices.new) (offices.new ≡ offices.old)
-        (option_map string_bytes file.now) clerk.now io) result }
+    ensures { let io = streams_by R.remaining W.contents D.readings console.old console.new dates.old
+        dates.new in
+        TriesIn O.Carried offices.old offices.new
+        (RunsIn (option_map string_bytes file.now) clerk.now) io result }
 {
     let alloc = rt.alloc();
     let token = token_of(rt, alloc, clerk)?;
@@ -196,11 +175,8 @@ fn run_over<K: Keeper + Drop, R: Read, W: Write, E: Write>(
     clerk: &[u8],
     console: &mut Console<'_, R, W, E>,
 ) -> Result<(), Undone>
-    ensures { let known = λ (w : W). told_beside console.old.is_watched (W.contents w) in
-        OnOk result ((last : K)
-        × RunsAll K.world K.Holds K.Sound K.FAILS keeper last clerk.now
-        (R.remaining console.old.input.now) (R.remaining console.new.input.now)
-        (known console.old.output.now) (known console.new.output.now)) }
+    ensures { OnOk result ((last : K) × RunsAllOn K.world K.Holds K.Sound K.FAILS R.remaining W.contents
+        console.old console.new keeper last clerk.now) }
 {
     let mut office = Office::new(rt.alloc(), keeper);
     run_in(rt, &mut office, clerk, console)
@@ -213,10 +189,8 @@ fn import_now<D: Dates, R: Read, W: Write, E: Write>(
     order: &Importation,
     console: &mut Console<'_, R, W, E>,
 ) -> Result<(), Undone>
-    ensures { let io = streams console.old.is_watched
-        (R.remaining console.old.input.now) (R.remaining console.new.input.now)
-        (W.contents console.old.output.now) (W.contents console.new.output.now)
-        (D.readings dates.old) (D.readings dates.new) in
+    ensures { let io = streams_by R.remaining W.contents D.readings console.old console.new dates.old
+        dates.new in
         IsImported order.now io result }
 {
     let moment = moment_now(dates);
@@ -231,12 +205,9 @@ fn init<D: Dates, O: Offices, R: Read, W: Write, E: Write>(
     clerk: &str,
     console: &mut Console<'_, R, W, E>,
 ) -> Result<(), Undone>
-    ensures { let io = streams console.old.is_watched
-        (R.remaining console.old.input.now) (R.remaining console.new.input.now)
-        (W.contents console.old.output.now) (W.contents console.new.output.now)
-        (D.readings dates.old) (D.readings dates.new) in
-        Tries (offices.new ≡ offices.old) (Carries (O.Carried offices.old offices.new) file.now
-        (IsFounding clerk.now) io) result }
+    ensures { let io = streams_by R.remaining W.contents D.readings console.old console.new dates.old
+        dates.new in
+        TriesTask O.Carried offices.old offices.new file.now (IsFounding clerk.now) io result }
 {
     let token = token_of(rt, rt.alloc(), clerk)?;
     let clerk = token.as_slice();
@@ -250,10 +221,8 @@ fn serve<D: Dates, O: Offices, R: Read, W: Write, E: Write>(
     order: &Service,
     console: &mut Console<'_, R, W, E>,
 ) -> Result<(), Undone>
-    ensures { let io = streams console.old.is_watched
-        (R.remaining console.old.input.now) (R.remaining console.new.input.now)
-        (W.contents console.old.output.now) (W.contents console.new.output.now)
-        (D.readings dates.old) (D.readings dates.new) in
+    ensures { let io = streams_by R.remaining W.contents D.readings console.old console.new dates.old
+        dates.new in
         O.Carried offices.old offices.new (string_bytes order.now.file)
         (Task.Serve order.now.port order.now.connections order.now.log) io result }
 {
@@ -274,14 +243,9 @@ fn publish_at<D: Dates, O: Offices, R: Read, W: Write, E: Write>(
     order: &Publication,
     console: &mut Console<'_, R, W, E>,
 ) -> Result<(), Undone>
-    ensures { let io = streams console.old.is_watched
-        (R.remaining console.old.input.now) (R.remaining console.new.input.now)
-        (W.contents console.old.output.now) (W.contents console.new.output.now)
-        (D.readings dates.old) (D.readings dates.new) in
-        Tries (offices.new ≡ offices.old) (PublishesFrom (O.Carried offices.old offices.new)
-        (O.Checked offices.old offices.new) (offices.new ≡ offices.old)
-        (string_bytes order.now.source) (string_bytes order.now.folder) (is_some order.now.notes) io)
-        result }
+    ensures { let io = streams_by R.remaining W.contents D.readings console.old console.new dates.old
+        dates.new in
+        TriesIn O.Carried offices.old offices.new (PublishesFrom order.now) io result }
 {
     let source = order.source.as_str();
     let folder = order.folder.as_str();
@@ -312,13 +276,9 @@ fn due_at<D: Dates, O: Offices, R: Read, W: Write, E: Write>(
     days: u32,
     console: &mut Console<'_, R, W, E>,
 ) -> Result<(), Undone>
-    ensures { let io = streams console.old.is_watched
-        (R.remaining console.old.input.now) (R.remaining console.new.input.now)
-        (W.contents console.old.output.now) (W.contents console.new.output.now)
-        (D.readings dates.old) (D.readings dates.new) in
-        Tries (offices.new ≡ offices.old) (TellsDue (O.Carried offices.old offices.new)
-        (O.Checked offices.old offices.new) (offices.new ≡ offices.old) source.now days io)
-        result }
+    ensures { let io = streams_by R.remaining W.contents D.readings console.old console.new dates.old
+        dates.new in
+        TriesIn O.Carried offices.old offices.new (TellsDue source.now days) io result }
 {
     match port_of(source)? {
         Some(port) => print_due_served(rt, port, moment_now(dates), days, console.output),
@@ -349,10 +309,8 @@ fn publish_noted<'a, D: Dates, O: Offices, R: Read, W: Write, E: Write>(
     notes: Option<&'a Notes>,
     console: &mut Console<'_, R, W, E>,
 ) -> Result<(), Undone>
-    ensures { let io = streams console.old.is_watched
-        (R.remaining console.old.input.now) (R.remaining console.new.input.now)
-        (W.contents console.old.output.now) (W.contents console.new.output.now)
-        (D.readings dates.old) (D.readings dates.new) in
+    ensures { let io = streams_by R.remaining W.contents D.readings console.old console.new dates.old
+        dates.new in
         Carries (O.Carried offices.old offices.new) source.now
         (IsPublishedTo folder.now (is_some notes.entry)) io result }
 {

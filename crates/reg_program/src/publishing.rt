@@ -1,7 +1,7 @@
 //! The job that publishes an office.
 ghost use Rattle.std.specs.Prelude.{◌<◌, IfOk, OnOk, IfSome, MatchOption};
 ghost use Rattle.std.specs.Option.{option_copied};
-ghost use Rattle.reg_jobs.specs.Asking.{IsServed};
+ghost use Rattle.reg_jobs.specs.Asking.{IsAddress};
 ghost use Rattle.reg_program.specs.Publishing.{PublishesIn};
 
 use crate::asking::{print, refusal_line};
@@ -27,8 +27,8 @@ use std::io::Write;
 /// The port of the office that is served at this address, if it is such an address. `Read` where
 /// what comes after the colon is no port.
 pub fn port_of(source: &str) -> Result<Option<u16>, JobFailure>
-    ensures served { IfOk result (λ port. MatchOption port (IsServed source.now → ⊥)
-        (λ _. IsServed source.now)) }
+    ensures served { IfOk result (λ port. MatchOption port (IsAddress source.now → ⊥)
+        (λ _. IsAddress source.now)) }
     ensures least { IfOk result (λ port. IfSome port (λ p. 0 < p)) }
 {
     let Some(port) = source.strip_prefix(SERVED) else {

@@ -1,8 +1,8 @@
 //! The jobs that are one command of an office, in a file or where it is served.
-ghost use Rattle.std.specs.Prelude.{◌≡◌, option_map};
+ghost use Rattle.std.specs.Prelude.{option_map};
 ghost use Rattle.std.specs.String.{string_bytes};
-ghost use Rattle.reg_program.specs.Performing.{AnswersFrom, Carries, CarriesThen, IsDefinedBy, IsListedBy, IsRequestedBy, Tries};
-ghost use Rattle.reg_program.specs.Tasks.{streams};
+ghost use Rattle.reg_program.specs.Performing.{AnswersDefinition, AnswersListing, AnswersRequest, CarriesRequest, IsDefinedBy, IsListedBy, TriesIn, TriesTask};
+ghost use Rattle.reg_program.specs.Tasks.{streams_by};
 
 use crate::asking::{Form, definition, listing, requested};
 use crate::carrying::carry_out;
@@ -24,14 +24,9 @@ pub fn request<D: Dates, O: Offices, R: Read, W: Write, E: Write>(
     order: &Request,
     console: &mut Console<'_, R, W, E>,
 ) -> Result<(), Undone>
-    ensures { let io = streams console.old.is_watched
-        (R.remaining console.old.input.now) (R.remaining console.new.input.now)
-        (W.contents console.old.output.now) (W.contents console.new.output.now)
-        (D.readings dates.old) (D.readings dates.new) in
-        Tries (offices.new ≡ offices.old) (AnswersFrom (offices.new ≡ offices.old)
-        (string_bytes order.now.source) Form.Body io (CarriesThen
-        (O.Carried offices.old offices.new) (string_bytes order.now.source)
-        (IsRequestedBy order.now io.unread) io)) result }
+    ensures { let io = streams_by R.remaining W.contents D.readings console.old console.new dates.old
+        dates.new in
+        TriesIn O.Carried offices.old offices.new (AnswersRequest order.now) io result }
 {
     match port_of(order.source.as_str())? {
         Some(port) => request_served(rt, port, order, console.input, console.output),
@@ -46,12 +41,9 @@ fn request_in<D: Dates, O: Offices, R: Read, W: Write, E: Write>(
     order: &Request,
     console: &mut Console<'_, R, W, E>,
 ) -> Result<(), Undone>
-    ensures { let io = streams console.old.is_watched
-        (R.remaining console.old.input.now) (R.remaining console.new.input.now)
-        (W.contents console.old.output.now) (W.contents console.new.output.now)
-        (D.readings dates.old) (D.readings dates.new) in
-        Tries (offices.new ≡ offices.old) (CarriesThen (O.Carried offices.old offices.new)
-        (string_bytes order.now.source) (IsRequestedBy order.now io.unread) io) result }
+    ensures { let io = streams_by R.remaining W.contents D.readings console.old console.new dates.old
+        dates.new in
+        TriesIn O.Carried offices.old offices.new (CarriesRequest order.now) io result }
 {
     let alloc = rt.alloc();
     let token = optional_token(rt, alloc, &order.token)?;
@@ -74,14 +66,9 @@ pub fn define<D: Dates, O: Offices, R: Read, W: Write, E: Write>(
     order: &Definition,
     console: &mut Console<'_, R, W, E>,
 ) -> Result<(), Undone>
-    ensures { let io = streams console.old.is_watched
-        (R.remaining console.old.input.now) (R.remaining console.new.input.now)
-        (W.contents console.old.output.now) (W.contents console.new.output.now)
-        (D.readings dates.old) (D.readings dates.new) in
-        Tries (offices.new ≡ offices.old) (AnswersFrom (offices.new ≡ offices.old)
-        (string_bytes order.now.source) Form.Line io (Carries
-        (O.Carried offices.old offices.new) (string_bytes order.now.source)
-        (IsDefinedBy order.now) io)) result }
+    ensures { let io = streams_by R.remaining W.contents D.readings console.old console.new dates.old
+        dates.new in
+        TriesIn O.Carried offices.old offices.new (AnswersDefinition order.now) io result }
 {
     match port_of(order.source.as_str())? {
         Some(port) => define_served(rt, port, order, console.output),
@@ -96,12 +83,10 @@ fn define_in<D: Dates, O: Offices, R: Read, W: Write, E: Write>(
     order: &Definition,
     console: &mut Console<'_, R, W, E>,
 ) -> Result<(), Undone>
-    ensures { let io = streams console.old.is_watched
-        (R.remaining console.old.input.now) (R.remaining console.new.input.now)
-        (W.contents console.old.output.now) (W.contents console.new.output.now)
-        (D.readings dates.old) (D.readings dates.new) in
-        Tries (offices.new ≡ offices.old) (Carries (O.Carried offices.old offices.new)
-        (string_bytes order.now.source) (IsDefinedBy order.now) io) result }
+    ensures { let io = streams_by R.remaining W.contents D.readings console.old console.new dates.old
+        dates.new in
+        TriesTask O.Carried offices.old offices.new (string_bytes order.now.source)
+        (IsDefinedBy order.now) io result }
 {
     let alloc = rt.alloc();
     let token = token_of(rt, alloc, order.clerk.as_str())?;
@@ -124,13 +109,10 @@ pub fn list<D: Dates, O: Offices, R: Read, W: Write, E: Write>(
     registry: &Option<String>,
     console: &mut Console<'_, R, W, E>,
 ) -> Result<(), Undone>
-    ensures { let io = streams console.old.is_watched
-        (R.remaining console.old.input.now) (R.remaining console.new.input.now)
-        (W.contents console.old.output.now) (W.contents console.new.output.now)
-        (D.readings dates.old) (D.readings dates.new) in
-        Tries (offices.new ≡ offices.old) (AnswersFrom (offices.new ≡ offices.old) source.now
-        Form.Body io (Carries (O.Carried offices.old offices.new) source.now
-        (IsListedBy (option_map string_bytes registry.now)) io)) result }
+    ensures { let io = streams_by R.remaining W.contents D.readings console.old console.new dates.old
+        dates.new in
+        TriesIn O.Carried offices.old offices.new
+        (AnswersListing source.now (option_map string_bytes registry.now)) io result }
 {
     match port_of(source)? {
         Some(port) => list_served(rt, port, registry, console.output),
@@ -146,12 +128,10 @@ fn list_in<D: Dates, O: Offices, R: Read, W: Write, E: Write>(
     registry: &Option<String>,
     console: &mut Console<'_, R, W, E>,
 ) -> Result<(), Undone>
-    ensures { let io = streams console.old.is_watched
-        (R.remaining console.old.input.now) (R.remaining console.new.input.now)
-        (W.contents console.old.output.now) (W.contents console.new.output.now)
-        (D.readings dates.old) (D.readings dates.new) in
-        Tries (offices.new ≡ offices.old) (Carries (O.Carried offices.old offices.new) file.now
-        (IsListedBy (option_map string_bytes registry.now)) io) result }
+    ensures { let io = streams_by R.remaining W.contents D.readings console.old console.new dates.old
+        dates.new in
+        TriesTask O.Carried offices.old offices.new file.now
+        (IsListedBy (option_map string_bytes registry.now)) io result }
 {
     let task = Task::Ask {
         token: None,

@@ -1,6 +1,6 @@
 //! The job that has an office answer the lines of a script.
 ghost use Rattle.std.specs.Prelude.{OnOk, IfErr};
-ghost use Rattle.reg_program.specs.Founding.{RunsAll, RunsUpTo, told_beside};
+ghost use Rattle.reg_program.specs.Founding.{RunsAll, RunsAllOn, RunsUpTo, RunsUpToOn};
 
 use crate::console::Console;
 use crate::faults::Undone;
@@ -20,14 +20,10 @@ pub fn run_in<H: AllocGlobal + Clock, K: Keeper, R: Read, W: Write, E: Write>(
     clerk: &[u8],
     console: &mut Console<'_, R, W, E>,
 ) -> Result<(), Undone>
-    ensures ok { let known = λ (w : W). told_beside console.old.is_watched (W.contents w) in
-        OnOk result (RunsAll K.world K.Holds K.Sound K.FAILS office.old office.new clerk.now
-        (R.remaining console.old.input.now) (R.remaining console.new.input.now)
-        (known console.old.output.now) (known console.new.output.now)) }
-    ensures err { let known = λ (w : W). told_beside console.old.is_watched (W.contents w) in
-        IfErr result (RunsUpTo K.world K.Holds K.Sound K.FAILS office.old office.new clerk.now
-        (R.remaining console.old.input.now) (R.remaining console.new.input.now)
-        (known console.old.output.now) (known console.new.output.now)) }
+    ensures ok { OnOk result (RunsAllOn K.world K.Holds K.Sound K.FAILS R.remaining W.contents
+        console.old console.new office.old office.new clerk.now) }
+    ensures err { IfErr result (RunsUpToOn K.world K.Holds K.Sound K.FAILS R.remaining W.contents
+        console.old console.new office.old office.new clerk.now) }
 {
     let alloc = rt.alloc();
     if !console.is_watched {

@@ -1,13 +1,12 @@
 //! Offices in what keeps them at paths: one is opened, has a task carried out, and is closed.
-ghost use Rattle.std.specs.Prelude.{ℕ, List, MatchResult, Option};
-ghost use Rattle.reg_notes.specs.declared.notes.Notes.{Notes};
+ghost use Rattle.std.specs.Prelude.{MatchResult};
 ghost use Rattle.reg_core.specs.View.{published};
 ghost use Rattle.reg_http.specs.Serving.{AnswersOver};
 ghost use Rattle.reg_program.specs.Carrying.{CarriesOut, LooksInto};
 ghost use Rattle.reg_program.specs.Checking.{ChecksAt};
-ghost use Rattle.reg_program.specs.Publishing.{PublishesIn};
-ghost use Rattle.reg_program.specs.Serving.{ServesOn};
-ghost use Rattle.reg_program.specs.Tasks.{Did, begins};
+ghost use Rattle.reg_program.specs.Publishing.{PublishesNow};
+ghost use Rattle.reg_program.specs.Serving.{ServesOrStays};
+ghost use Rattle.reg_program.specs.Tasks.{Did, IfPublishes, IfServes, begins};
 
 use crate::checking::check_in;
 use crate::console::Console;
@@ -87,18 +86,15 @@ pub struct OfficesIn<T, N, F> {
 
 impl<T: Stores, N: Ports, F: Folders> Offices for OfficesIn<T, N, F> {
     ghost Carried = { λ old new path task io done.
-        let served : T.Kept → T.Kept → ℕ → ℕ → Type 0 = λ first last port count.
-        ServesOn (AnswersOver T.Kept.world T.Kept.Holds T.Kept.Sound T.Kept.FAILS)
-        (N.Opened old.ports) N.Given.blank N.Given.coming N.Given.written io.readings io.later port count first last
-        in
-        let placed : T.Kept → T.Kept → List ℕ → Option Notes → ℕ → Type 0
-        = λ first last folder notes moment.
-        PublishesIn (λ k. published (T.Kept.world k)) T.Kept.Holds F.Given.Tells F.Given.held F.Given.Puts
-        (F.Opened old.folders folder) first last notes moment in
         CarriesOut (λ during keeper. T.Opened old.stores during path (begins task) keeper)
         (λ why. T.Unopened old.stores new.stores path (begins task) why)
-        (λ result first last. Did T.Kept.world T.Kept.Holds T.Kept.Sound T.Kept.FAILS first last io
-        (served first last) (placed first last) result task)
+        (λ result first last.
+        Did T.Kept.world T.Kept.Holds T.Kept.Sound T.Kept.FAILS first last io result task
+        × IfServes (ServesOrStays (AnswersOver T.Kept.world T.Kept.Holds T.Kept.Sound T.Kept.FAILS)
+        (N.Opened old.ports) N.Given.blank N.Given.coming N.Given.written io.readings io.later first
+        last result) task
+        × IfPublishes (PublishesNow (λ k. published (T.Kept.world k)) T.Kept.Holds F.Given.Tells
+        F.Given.held F.Given.Puts (F.Opened old.folders) io.readings io.later first last result) task)
         (λ during keeper. T.Closed during new.stores keeper) done };
 
     ghost Checked = { λ old new path io done.

@@ -1,14 +1,13 @@
 //! What jobs do with the offices in files.
-ghost use Rattle.std.specs.Prelude.{◌≡◌, ℕ, List, Option, false, true, Err};
-ghost use Rattle.reg_notes.specs.declared.notes.Notes.{Notes as OfAuthority};
+ghost use Rattle.std.specs.Prelude.{◌≡◌, false, true, Err};
 ghost use Rattle.reg_core.specs.Names.{is_token};
 ghost use Rattle.reg_core.specs.View.{published};
 ghost use Rattle.reg_program.specs.Doing.{Does};
 ghost use Rattle.reg_program.specs.Founding.{IsReady, IsUnready};
-ghost use Rattle.reg_program.specs.Publishing.{PublishesIn};
-ghost use Rattle.reg_program.specs.Serving.{ServesOn};
+ghost use Rattle.reg_program.specs.Publishing.{PublishesNow};
+ghost use Rattle.reg_program.specs.Serving.{ServesOrStays};
 ghost use Rattle.reg_http.specs.Serving.{AnswersOver};
-ghost use Rattle.reg_program.specs.Tasks.{Did, begins, looks_on, streams};
+ghost use Rattle.reg_program.specs.Tasks.{Did, IfPublishes, IfServes, begins, looks_on, streams_by};
 ghost use Rattle.reg_program.specs.declared.faults.JobFailure.TheVariants as failure;
 
 use crate::asking::{Form, ask_in, print};
@@ -93,10 +92,8 @@ pub trait Offices {
         task: &Task<'_>,
         console: &mut Console<'_, R, W, E>,
     ) -> Result<(), Undone>
-        ensures { let io = streams console.old.is_watched
-            (R.remaining console.old.input.now) (R.remaining console.new.input.now)
-            (W.contents console.old.output.now) (W.contents console.new.output.now)
-            (D.readings dates.old) (D.readings dates.new) in
+        ensures { let io = streams_by R.remaining W.contents D.readings console.old console.new dates.old
+            dates.new in
             Carried self.old self.new path.now task.now io result };
 
     /// Looks at the office in the file at a path, as at the moment of the clock, and changes nothing:
@@ -109,10 +106,8 @@ pub trait Offices {
         path: &str,
         console: &mut Console<'_, R, W, E>,
     ) -> Result<(), Undone>
-        ensures { let io = streams console.old.is_watched
-            (R.remaining console.old.input.now) (R.remaining console.new.input.now)
-            (W.contents console.old.output.now) (W.contents console.new.output.now)
-            (D.readings dates.old) (D.readings dates.new) in
+        ensures { let io = streams_by R.remaining W.contents D.readings console.old console.new dates.old
+            dates.new in
             Checked self.old self.new path.now io result };
 }
 
@@ -140,19 +135,15 @@ impl Task<'_> {
         office: &mut Office<K>,
         console: &mut Console<'_, R, W, E>,
     ) -> Result<(), Undone>
-        ensures did { let io = streams console.old.is_watched
-            (R.remaining console.old.input.now) (R.remaining console.new.input.now)
-            (W.contents console.old.output.now) (W.contents console.new.output.now)
-            (D.readings dates.old) (D.readings dates.new) in
-            let served : ℕ → ℕ → Type 0 = λ port count.
-            ServesOn (AnswersOver K.world K.Holds K.Sound K.FAILS) (N.Opened ports.now)
-            N.Given.blank N.Given.coming N.Given.written (D.readings dates.old) (D.readings dates.new) port count
-            office.old office.new in
-            let placed : List ℕ → Option OfAuthority → ℕ → Type 0 = λ folder notes moment.
-            PublishesIn (λ k. published (K.world k)) K.Holds F.Given.Tells F.Given.held F.Given.Puts
-            (F.Opened folders.now folder) office.old office.new notes moment in
-            Did K.world K.Holds K.Sound K.FAILS office.old office.new io served placed result
-            self.now }
+        ensures did { let io = streams_by R.remaining W.contents D.readings console.old console.new dates.old
+            dates.new in
+            Did K.world K.Holds K.Sound K.FAILS office.old office.new io result self.now }
+        ensures serves { IfServes (ServesOrStays (AnswersOver K.world K.Holds K.Sound K.FAILS)
+            (N.Opened ports.now) N.Given.blank N.Given.coming N.Given.written (D.readings dates.old)
+            (D.readings dates.new) office.old office.new result) self.now }
+        ensures publishes { IfPublishes (PublishesNow (λ k. published (K.world k)) K.Holds F.Given.Tells
+            F.Given.held F.Given.Puts (F.Opened folders.now) (D.readings dates.old)
+            (D.readings dates.new) office.old office.new result) self.now }
         ensures looks { looks_on self.now ≡ true →
             K.Holds office.new → K.world office.new ≡ K.world office.old }
     {

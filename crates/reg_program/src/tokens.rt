@@ -5,7 +5,7 @@ ghost use Rattle.reg_print.specs.Records.{Adds};
 ghost use Rattle.reg_program.specs.Doing.{Does};
 ghost use Rattle.reg_program.specs.Printing.{Prints};
 ghost use Rattle.reg_program.specs.Revoking.{IsUnnamed, IsUnrevoked, IsUnrevokedBy, Revokes, no_token as line_of_none};
-ghost use Rattle.reg_program.specs.Tokens.{AddsRecord, HasRecords, IsEnd, IsListed, IsTable, header};
+ghost use Rattle.reg_program.specs.Tokens.{AddsTokenRow, HasRecords, IsEnd, IsListed, IsTokenTable, header};
 ghost use Rattle.reg_program.specs.Undone.{IsOfPrinting, IsOfStoreOrPrinting, IsSaidBy, refusal_line as text_of_refusal};
 
 use crate::asking::{print, refusal_line};
@@ -107,7 +107,7 @@ pub fn print_rows<W: Write>(
     output: &mut W,
 ) -> Result<(), Undone>
     ensures ok { OnOk result
-        (Prints (W.contents output.old) (W.contents output.new) (IsTable rows.items)) }
+        (Prints (W.contents output.old) (W.contents output.new) (IsTokenTable rows.items)) }
     ensures err { IfErr result IsOfPrinting }
 {
     rows.sort_by_key(|row| (row.cap.account, row.digest))?;
@@ -139,7 +139,7 @@ fn write_row<W: Write + Drop>(
     writer: &mut Writer<W>,
     row: &CapRow,
 ) -> Result<(), AllocError>
-    ensures { OnOk result (AddsRecord W.contents writer.old writer.new row.now) }
+    ensures { OnOk result (AddsTokenRow W.contents writer.old writer.new row.now) }
 {
     let end = end_text(alloc, row.cap.until)?;
     let account = row.cap.account.as_str().as_bytes();

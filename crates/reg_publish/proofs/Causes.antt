@@ -12,7 +12,7 @@ use Rattle.reg_history.specs.declared.history.Unreadable.TheVariants as unreadab
 use Rattle.reg_history.specs.declared.said.Unrecorded.{Unrecorded}
 use Rattle.reg_history.specs.declared.said.Unrecorded.TheVariants as unrecorded
 use Rattle.reg_publish.specs.Earlier.{IsEarlier, IsTied, text_there}
-use Rattle.reg_publish.specs.Faults.{IsLostBy, IsUnread, IsWrongThere, TellsWhy, unreadable_as, unrecorded_as}
+use Rattle.reg_publish.specs.Faults.{IsLostBy, HistoryIsUnread, IsWrongThere, TellsWhyUnpublished, unreadable_as, unrecorded_as}
 use Rattle.reg_publish.specs.declared.faults.HistoryFault.TheVariants as fault
 use Rattle.reg_publish.specs.declared.faults.PublishFault.{PublishFault}
 use Rattle.reg_publish.specs.declared.faults.PublishFault.TheVariants.{Unpublished, History}
@@ -37,7 +37,7 @@ is_there (Some v) items held e some = subst (λ (o : Option (List ℕ)). is_some
 
 -- the bytes of the history are wrong
 pub unread_by : (changes index : Option (List ℕ)) (text : List ℕ) (why : Unreadable)
-    → changes ≡ Some text → TellsWrong text why → IsUnread changes index (unreadable_as why)
+    → changes ≡ Some text → TellsWrong text why → HistoryIsUnread changes index (unreadable_as why)
 unread_by changes index text unreadable.Memory is told = tt
 unread_by changes index text unreadable.Header is told = (text, is, told)
 unread_by changes index text (unreadable.Wrong number) is told = (text, is, told)
@@ -46,10 +46,10 @@ unread_by changes index text (unreadable.Wrong number) is told = (text, is, told
 pub unread_from : {V : Type 0} {T : Type 0} (found : Option V) (items : V → List ℕ) (v : V)
     (text : List ℕ) (why : Unreadable) (r : Result T PublishFault) → found ≡ Some v
     → text ≡ items v → TellsWrong text why → IsErrAnd r (λ y. y ≡ unreadable_as why)
-    → IfErr r (λ given. (index : Option (List ℕ)) → IsUnread (option_map items found) index given)
+    → IfErr r (λ given. (index : Option (List ℕ)) → HistoryIsUnread (option_map items found) index given)
 unread_from found items v text why r is whole told h =
     handed_on
-    (λ (given : PublishFault). (index : Option (List ℕ)) → IsUnread (option_map items found) index given)
+    (λ (given : PublishFault). (index : Option (List ℕ)) → HistoryIsUnread (option_map items found) index given)
     r (unreadable_as why) h
     (λ index. unread_by (option_map items found) index (items v) why (ap (option_map items) is)
     (subst (λ (t : List ℕ). TellsWrong t why) whole told))
@@ -73,8 +73,8 @@ lost_by said facts (unrecorded.Lost subject) told = told
 
 module _ (changes index : Option (List ℕ)) (Known : Type 0) (facts : List Fact) where
   -- why the history is not taken is why nothing was published
-  pub unread_tells : (why : PublishFault) → IsUnread changes index why
-      → TellsWhy changes index Known facts why
+  pub unread_tells : (why : PublishFault) → HistoryIsUnread changes index why
+      → TellsWhyUnpublished changes index Known facts why
   unread_tells (Unpublished why) h = tt
   unread_tells (History fault.Missing) h = h
   unread_tells (History fault.Header) h = h
@@ -85,7 +85,7 @@ module _ (changes index : Option (List ℕ)) (Known : Type 0) (facts : List Fact
   -- and so is why it does not go on
   pub lost_tells : (records : List Record) (told : List Fact) (why : PublishFault)
       → IsEarlier changes index records → (Known → told ≡ facts)
-      → IsLostBy (says records) told why → TellsWhy changes index Known facts why
+      → IsLostBy (says records) told why → TellsWhyUnpublished changes index Known facts why
   lost_tells records told (Unpublished why) is same h = tt
   lost_tells records told (History fault.Missing) is same h = absurd h
   lost_tells records told (History fault.Header) is same h = absurd h

@@ -3,7 +3,7 @@ use Rattle.std.proofs.Common.{◌≡◌, Bool, ℕ, ◌+◌, ◌<◌, List, [], 
 use Rattle.std.proofs.Math.Seq.{take-append_seam}
 use Rattle.std.specs.Io.KnownBytes.{Consumes, IsAtEnd}
 use Rattle.std.proofs.KnownBytes.{Consumes-nil, Consumes-trans}
-use Rattle.reg_site.specs.Portions.{Gives}
+use Rattle.reg_site.specs.Portions.{GivesIfMore}
 use Rattle.reg_publish.specs.Copied.{IsCompared, IsCopied}
 
 -- ---- Compared so far
@@ -94,7 +94,7 @@ going_all read read' bytes rest so none =
 
 -- the next bytes, all of them
 pub gathers_all : (items rest rest' : List ℕ) → items ++ rest' ≡ rest → rest' ≡ []
-    → 0 < length items → Gives true [] items rest rest'
+    → 0 < length items → GivesIfMore true [] items rest rest'
 gathers_all items rest rest' whole none some = record {
   whole = whole;
   less =
@@ -104,7 +104,7 @@ gathers_all items rest rest' whole none some = record {
 }
 
 pub gathers_none : (items rest rest' : List ℕ) → items ++ rest' ≡ rest → rest' ≡ []
-    → items ≡ [] → Gives false [] items rest rest'
+    → items ≡ [] → GivesIfMore false [] items rest rest'
 gathers_none items rest rest' whole none empty = record {
   none = sym whole ∙ ap (λ l. l ++ rest') empty ∙ none;
   still = none;
@@ -113,7 +113,7 @@ gathers_none items rest rest' whole none empty = record {
 
 -- what was gathered comes first of what was to be given
 pub gathered_rest : (more : Bool) (items rest rest' : List ℕ) → more ≡ true
-    → Gives more [] items rest rest' → rest ≡ items ++ rest'
+    → GivesIfMore more [] items rest rest' → rest ≡ items ++ rest'
 gathered_rest true items rest rest' is gives = sym gives.whole
 gathered_rest false items rest rest' is gives = absurd (let no : ⊥ = cc in no)
 

@@ -2,7 +2,7 @@
 use Rattle.std.proofs.Common.{◌≡◌, ℕ, List, [], ◌∷◌, ◌++◌, Result, Ok, Err, refl, ap, ◌∙◌, subst}
 use Rattle.std.specs.Prelude.{OnOk}
 use Rattle.reg_core.specs.View.{Published}
-use Rattle.reg_site.specs.Sums.{Entries, Files, entries_of, with_sums}
+use Rattle.reg_site.specs.Sums.{SumLines, Files, entries_of, with_sums}
 use Rattle.reg_site.specs.declared.sums.Sums.{Sums}
 use Rattle.reg_publish.specs.Folder.{Places, PlacesSummed, PutsSummed}
 use Rattle.reg_publish.specs.Publishing.{Asks, Publishes}
@@ -44,11 +44,11 @@ module _ {F : Type 0} (Puts : F → F → List ℕ → List ℕ → Type 0) wher
   places_then (Err e) a b c xs ys zs is first second = tt
 
   -- files whose sums were added are files, and these are their sums
-  pub places_summed : (a b : F × Entries) (xs : Files) → Places (PutsSummed Puts) a b xs
+  pub places_summed : (a b : F × SumLines) (xs : Files) → Places (PutsSummed Puts) a b xs
       → Places Puts a.0 b.0 xs × (b.1 ≡ with_sums a.1 xs)
-  places_summed a b [] same = (ap (λ (s : F × Entries). s.0) same, ap (λ (s : F × Entries). s.1) same)
+  places_summed a b [] same = (ap (λ (s : F × SumLines). s.0) same, ap (λ (s : F × SumLines). s.1) same)
   places_summed a b (x ∷ xs) h =
-      let next : F × Entries = h.0 in
+      let next : F × SumLines = h.0 in
       let rest = places_summed next b xs h.2 in
       ((next.0, h.1.0, rest.0), rest.1 ∙ ap (λ sums. with_sums sums xs) h.1.1)
 

@@ -19,9 +19,9 @@ pub data DiskStep : Type 0 where
   NamesKept : List ℕ → DiskStep
 
 -- after the steps so far came one more; where it failed, none
-abbrev pub Does : {T E : Type 0} → Result T E → List DiskStep → List DiskStep → DiskStep → Type 0
-Does (Ok x) old new step = new ≡ old ++ step ∷ []
-Does (Err e) old new step = new ≡ old
+abbrev pub DoesOneStep : {T E : Type 0} → Result T E → List DiskStep → List DiskStep → DiskStep → Type 0
+DoesOneStep (Ok x) old new step = new ≡ old ++ step ∷ []
+DoesOneStep (Err e) old new step = new ≡ old
 
 -- ---- A file that takes a place
 

@@ -51,9 +51,9 @@ IsWrongThere changes index fault.Index =
 IsWrongThere changes index (fault.Lost subject) = ⊥
 
 -- why the history that is there is not taken: the files are wrong, or could not be read
-abbrev pub IsUnread : Option (List ℕ) → Option (List ℕ) → PublishFault → Type 0
-IsUnread changes index (Unpublished why) = ⊤
-IsUnread changes index (History wrong) = IsWrongThere changes index wrong
+abbrev pub HistoryIsUnread : Option (List ℕ) → Option (List ℕ) → PublishFault → Type 0
+HistoryIsUnread changes index (Unpublished why) = ⊤
+HistoryIsUnread changes index (History wrong) = IsWrongThere changes index wrong
 
 -- why a history that says this does not go on by facts: it has a subject that is lost by them, or they
 -- were not taken
@@ -68,13 +68,13 @@ IsLostBy said facts (History (fault.Lost subject)) = IsLost said facts subject
 -- Why nothing, or no more, was published, by what was there of the history and of the index: the files of
 -- the history are wrong; or the history has this subject, and it is lost by the facts, where these are
 -- known to be what is published.
-abbrev pub TellsWhy : Option (List ℕ) → Option (List ℕ) → Type 0 → List Fact → PublishFault → Type 0
-TellsWhy changes index Known facts (Unpublished why) = ⊤
-TellsWhy changes index Known facts (History fault.Missing) = IsWrongThere changes index fault.Missing
-TellsWhy changes index Known facts (History fault.Header) = IsWrongThere changes index fault.Header
-TellsWhy changes index Known facts (History (fault.Record number)) =
+abbrev pub TellsWhyUnpublished : Option (List ℕ) → Option (List ℕ) → Type 0 → List Fact → PublishFault → Type 0
+TellsWhyUnpublished changes index Known facts (Unpublished why) = ⊤
+TellsWhyUnpublished changes index Known facts (History fault.Missing) = IsWrongThere changes index fault.Missing
+TellsWhyUnpublished changes index Known facts (History fault.Header) = IsWrongThere changes index fault.Header
+TellsWhyUnpublished changes index Known facts (History (fault.Record number)) =
     IsWrongThere changes index (fault.Record number)
-TellsWhy changes index Known facts (History fault.Index) = IsWrongThere changes index fault.Index
-TellsWhy changes index Known facts (History (fault.Lost subject)) =
+TellsWhyUnpublished changes index Known facts (History fault.Index) = IsWrongThere changes index fault.Index
+TellsWhyUnpublished changes index Known facts (History (fault.Lost subject)) =
     (records : List Record) × IsEarlier changes index records
     × (Known → IsLost (says records) facts subject)

@@ -1,6 +1,6 @@
 -- What is published in a folder.
 use Rattle.std.specs.Prelude.{◌≡◌, ℕ, List, [], ◌∷◌}
-use Rattle.reg_site.specs.Sums.{Entries, Files, entries_of, with_sum}
+use Rattle.reg_site.specs.Sums.{SumLines, Files, entries_of, with_sum}
 use Rattle.reg_site.specs.declared.sums.Sums.{Sums}
 
 -- files are published in a folder, one after the other, and nothing else is done there
@@ -10,7 +10,7 @@ Places {F} Puts folder folder' (file ∷ files) =
     (next : F) × Puts folder next file.0 file.1 × Places Puts next folder' files
 
 -- a file is published, and its sum is added
-abbrev pub PutsSummed : {F : Type 0} → (F → F → List ℕ → List ℕ → Type 0) → F × Entries → F × Entries
+abbrev pub PutsSummed : {F : Type 0} → (F → F → List ℕ → List ℕ → Type 0) → F × SumLines → F × SumLines
     → List ℕ → List ℕ → Type 0
 PutsSummed Puts before after path bytes =
     Puts before.0 after.0 path bytes × (after.1 ≡ with_sum before.1 path bytes)

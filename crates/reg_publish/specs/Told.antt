@@ -1,5 +1,5 @@
 -- All that anybody is told by an office.
-use Rattle.std.specs.Prelude.{◌≡◌, ℕ, List, [], map, filter_map, unwrap_or}
+use Rattle.std.specs.Prelude.{◌≡◌, ℕ, List, [], map, filter_map, unwrap_or, Option}
 use Rattle.reg_core.specs.View.{Published}
 use Rattle.reg_core.specs.declared.command.PublicCommand.TheVariants.{Registries, Registry, PoolList, BlockListing}
 use Rattle.reg_core.specs.declared.holding.Listed.{Listed}
@@ -7,10 +7,17 @@ use Rattle.reg_core.specs.declared.page.Page.{Page}
 use Rattle.reg_core.specs.declared.reply.Reply.TheVariants.{Accepted}
 use Rattle.reg_core.specs.declared.told.Told.{Told}
 use Rattle.reg_core.specs.declared.told.Told.TheVariants as tells
+use Rattle.reg_history.specs.Chain.{chained}
 use Rattle.reg_history.specs.Published.{published_facts}
 use Rattle.reg_history.specs.declared.change.Fact.{Fact}
+use Rattle.reg_history.specs.declared.change.Record.{Record}
+use Rattle.reg_notes.specs.declared.note.Note.{Note}
+use Rattle.reg_notes.specs.declared.notes.Notes.{Notes}
 use Rattle.reg_publish.specs.declared.told.AllTold.{AllTold}
-use Rattle.reg_site.specs.Site.{blocks_at, blocks_in, page_in, pages_at, pool_in, prefixes_at, told_to_all}
+use Rattle.reg_site.specs.IndexTree.{IndexRow}
+use Rattle.reg_site.specs.Noted.{noted_in}
+use Rattle.reg_site.specs.Site.{blocks_at, blocks_in, index_files, page_in, pages_at, pool_in, prefixes_at, rows_by, shown_files, told_to_all}
+use Rattle.reg_site.specs.Sums.{Files}
 
 -- the registries among what is told
 abbrev pub pages_of : List Told → List Page
@@ -31,6 +38,27 @@ facts_told all =
 -- what is published, as the facts of a history
 abbrev pub facts_at : Published → ℕ → List Fact
 facts_at p moment = published_facts (pages_at p moment) (prefixes_at p moment) (blocks_at p moment)
+
+-- ---- Files of what is told
+
+-- the indexes of these registries by the records of a history, as of a moment
+abbrev pub indexes_by : Option Note → List Record → List IndexRow → List ℕ → List Listed → ℕ → Files
+indexes_by authority records registers prefixes rows moment =
+    index_files authority (chained records).digests registers prefixes rows moment
+
+-- the same of all that is told, with notes
+abbrev pub indexes_of : Option Notes → List Record → AllTold → ℕ → Files
+indexes_of notes records all moment =
+    indexes_by (noted_in notes []) records (rows_by records (pages_of all.pages.items))
+    (prefixes_of all.pool) (blocks_of all.blocks) moment
+
+-- the files that show all that is told, with notes, and the last records
+abbrev pub shown_of : Option Notes → List Record → AllTold → Files
+shown_of notes records all =
+    shown_files notes records (chained records).digests (pages_of all.pages.items)
+    (prefixes_of all.pool) (blocks_of all.blocks)
+
+-- ---- What is told
 
 -- these are told of registries by these names
 abbrev pub AreTold : Published → ℕ → List (List ℕ) → List Told → Type 0

@@ -1,6 +1,6 @@
 //! What keeps files.
 ghost use Rattle.std.specs.Prelude.{◌≡◌, [], ◌∷◌, ◌++◌, Some, IfOk, IfSome, OnOk, option_map};
-ghost use Rattle.reg_publish.specs.Disk.{Created, Does, Kept, NamesKept, Removed, Renamed};
+ghost use Rattle.reg_publish.specs.Disk.{Created, DoesOneStep, Kept, NamesKept, Removed, Renamed};
 
 use crate::unpublished::{Unpublished, unread, unwritten};
 use std::fs;
@@ -49,7 +49,7 @@ pub trait Disk {
 
     /// A new file, where none has this name.
     fn create(&mut self, name: &str) -> Result<Self::Draft, Unpublished>
-        ensures done { Tells → Does result (done self.old) (done self.new) (Created name.now) }
+        ensures done { Tells → DoesOneStep result (done self.old) (done self.new) (Created name.now) }
         ensures named { Tells → IfOk result (λ draft. named draft ≡ name.now) }
         ensures empty { Tells → IfOk result (λ draft. written draft ≡ []) };
 
@@ -60,16 +60,16 @@ pub trait Disk {
 
     /// Has a new file keep its bytes, also where the machine stops.
     fn keep(&mut self, draft: Self::Draft) -> Result<(), Unpublished>
-        ensures { Tells → Does result (done self.old) (done self.new)
+        ensures { Tells → DoesOneStep result (done self.old) (done self.new)
             (Kept (named draft) (written draft)) };
 
     /// Gives a file another name, in place of the file that had it.
     fn rename(&mut self, from: &str, to: &str) -> Result<(), Unpublished>
-        ensures { Tells → Does result (done self.old) (done self.new) (Renamed from.now to.now) };
+        ensures { Tells → DoesOneStep result (done self.old) (done self.new) (Renamed from.now to.now) };
 
     /// Has a folder keep the names in it, also where the machine stops.
     fn keep_names(&mut self, folder: &str) -> Result<(), Unpublished>
-        ensures { Tells → Does result (done self.old) (done self.new) (NamesKept folder.now) };
+        ensures { Tells → DoesOneStep result (done self.old) (done self.new) (NamesKept folder.now) };
 
     /// Takes a name away, if a file has it.
     fn remove(&mut self, name: &str)

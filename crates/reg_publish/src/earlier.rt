@@ -4,7 +4,7 @@ ghost use Rattle.std.specs.Option.{option_copied};
 ghost use Rattle.reg_history.specs.Chain.{header_line};
 ghost use Rattle.reg_history.specs.History.{IsHistoryOf};
 ghost use Rattle.reg_publish.specs.Earlier.{HasRecord, IsTied, behind, behind_first, digest_in, named_record, text_there, until};
-ghost use Rattle.reg_publish.specs.Faults.{IsUnread};
+ghost use Rattle.reg_publish.specs.Faults.{HistoryIsUnread};
 ghost use Rattle.reg_site.specs.Files.{path_of};
 ghost use Rattle.reg_site.specs.declared.files.File.TheVariants as file;
 
@@ -32,7 +32,7 @@ pub fn read_earlier<F: Folder>(alloc: Global, folder: &F) -> Result<Earlier, Pub
         ≡ text_there (F.held folder.now (path_of file.Changes))) }
     ensures tied { F.Tells → IfOk result (λ earlier.
         IsTied (F.held folder.now (path_of file.IndexTree)) earlier.history.chain.digests.items) }
-    ensures why { F.Tells → IfErr result (IsUnread (F.held folder.now (path_of file.Changes))
+    ensures why { F.Tells → IfErr result (HistoryIsUnread (F.held folder.now (path_of file.Changes))
         (F.held folder.now (path_of file.IndexTree))) }
 {
     let changes = folder.read(alloc, File::Changes)?;
@@ -53,7 +53,7 @@ fn earlier_of(alloc: Global, changes: Option<Vec<u8>>) -> Result<Earlier, Publis
     ensures there { IfOk result (λ earlier. earlier.text.items
         ≡ text_there (option_map (λ v. v.items) changes)) }
     ensures why { IfErr result (λ why. (index : Option (List ℕ))
-        → IsUnread (option_map (λ v. v.items) changes) index why) }
+        → HistoryIsUnread (option_map (λ v. v.items) changes) index why) }
 {
     match changes {
         Some(text) => {

@@ -2,11 +2,11 @@
 ghost use Rattle.std.specs.Prelude.{◌≡◌, List, map, IfOk, OnOk};
 ghost use Rattle.std.specs.Option.{option_copied};
 ghost use Rattle.reg_publish.specs.Folder.{PlacesSummed};
-ghost use Rattle.reg_publish.specs.Told.{pages_of};
+ghost use Rattle.reg_publish.specs.Told.{indexes_by, pages_of};
 ghost use Rattle.reg_history.specs.Chain.{chained};
 ghost use Rattle.reg_history.specs.Overview.{IsOverview, moment_by};
 ghost use Rattle.reg_site.specs.IndexTree.{row_of};
-ghost use Rattle.reg_site.specs.Site.{change_files, index_files, site_title as title_by};
+ghost use Rattle.reg_site.specs.Site.{change_files, site_title as title_by};
 ghost use Rattle.reg_site.specs.Summary.{summary};
 
 use crate::folder::Folder;
@@ -72,8 +72,8 @@ pub(crate) fn publish_indexes<F: Folder>(
 ) -> Result<(), Unpublished>
     ensures { OnOk result ((records : List Record) → IsOverview overview.now records
         → PlacesSummed F.Puts folder.old folder.new sums.old sums.new
-        (index_files (option_copied authority.entry) (chained records).digests (map row_of registers.now)
-        pool.now blocks.now moment)) }
+        (indexes_by (option_copied authority.entry) records (map row_of registers.now) pool.now
+        blocks.now moment)) }
 {
     let html = index_page(alloc, authority, registers, pool, blocks, moment)?;
     put(alloc, folder, sums, File::Index, &html)?;

@@ -1,17 +1,16 @@
 //! Publishes all files of a site.
-ghost use Rattle.std.specs.Prelude.{◌≡◌, [], List, IfErr, IfOk, OnOk};
+ghost use Rattle.std.specs.Prelude.{◌≡◌, List, IfErr, IfOk, OnOk};
 ghost use Rattle.std.specs.Option.{option_copied};
 ghost use Rattle.reg_history.specs.Chain.{chained, says};
 ghost use Rattle.reg_history.specs.History.{IsHistory};
 ghost use Rattle.reg_history.specs.Overview.{IsOverview};
 ghost use Rattle.reg_history.specs.Recording.{Ends, IsRecorded};
-ghost use Rattle.reg_publish.specs.Faults.{IsLostBy, IsOfHistory, TellsWhy};
+ghost use Rattle.reg_publish.specs.Faults.{IsLostBy, IsOfHistory, TellsWhyUnpublished};
 ghost use Rattle.reg_publish.specs.Folder.{Places, PlacesSummed};
 ghost use Rattle.reg_publish.specs.Publishing.{PublishesSite};
-ghost use Rattle.reg_publish.specs.Told.{blocks_of, facts_at, facts_told, pages_of, prefixes_of};
+ghost use Rattle.reg_publish.specs.Told.{blocks_of, facts_at, facts_told, indexes_of, pages_of, prefixes_of, shown_of};
 ghost use Rattle.reg_site.specs.Files.{path_of};
-ghost use Rattle.reg_site.specs.Noted.{noted_in};
-ghost use Rattle.reg_site.specs.Site.{index_files, rows_by, shown_files, site_files};
+ghost use Rattle.reg_site.specs.Site.{site_files};
 ghost use Rattle.reg_site.specs.declared.files.File.TheVariants as file;
 
 use crate::earlier::{Earlier, read_earlier};
@@ -63,7 +62,7 @@ pub fn publish<S: Source, F: Folder>(
     ensures done { OnOk result (PublishesSite S.published S.Holds F.Tells F.held F.Puts source.old source.new
         folder.old folder.new (option_copied notes.entry) moment) }
     ensures history { IfErr result (λ why. IsOfHistory why → folder.new ≡ folder.old) }
-    ensures why { F.Tells → IfErr result (TellsWhy (F.held folder.old (path_of file.Changes))
+    ensures why { F.Tells → IfErr result (TellsWhyUnpublished (F.held folder.old (path_of file.Changes))
         (F.held folder.old (path_of file.IndexTree)) (S.Holds source.new)
         (facts_at (S.published source.old) moment)) }
 {
@@ -131,8 +130,7 @@ fn publish_shown<F: Folder>(
 ) -> Result<(), Unpublished>
     ensures { OnOk result ((records : List Record) → IsOverview overview.now records
         → PlacesSummed F.Puts folder.old folder.new sums.old sums.new
-        (shown_files (option_copied notes.entry) records (chained records).digests
-        (pages_of told.now.pages.items) (prefixes_of told.now.pool) (blocks_of told.now.blocks))) }
+        (shown_of (option_copied notes.entry) records told.now)) }
 {
     let authority = of_authority(notes);
     publish_registries(alloc, folder, sums, notes, overview, told.pages.as_slice())?;
@@ -154,9 +152,7 @@ fn publish_last<F: Folder>(
 ) -> Result<(), Unpublished>
     ensures { OnOk result ((records : List Record) → IsOverview overview.now records
         → PlacesSummed F.Puts folder.old folder.new sums.old sums.new
-        (index_files (noted_in (option_copied notes.entry) []) (chained records).digests
-        (rows_by records (pages_of told.now.pages.items)) (prefixes_of told.now.pool)
-        (blocks_of told.now.blocks) moment)) }
+        (indexes_of (option_copied notes.entry) records told.now moment)) }
 {
     let summaries = summaries(alloc, told.pages.as_slice())?;
     let registers = registers(alloc, &summaries, overview)?;

@@ -1,7 +1,7 @@
 //! A file that takes the place of another.
 ghost use Rattle.std.specs.Prelude.{◌≡◌, ◌≤◌, ◌++◌, [], length, take, IsTrue, IfOk, OnOk, OnErr};
 ghost use Rattle.std.specs.Io.KnownBytes.{Consumes, IsAtEnd};
-ghost use Rattle.reg_site.specs.Portions.{Gives};
+ghost use Rattle.reg_site.specs.Portions.{GivesIfMore};
 ghost use Rattle.reg_publish.specs.Copied.{IsCompared, IsCopied};
 ghost use Rattle.reg_publish.specs.Disk.{IsLeft, IsPut, IsStopped, StaysBeside, begins, names_of, names_within, replaces};
 ghost use Rattle.reg_publish.specs.Names.{names_by};
@@ -138,7 +138,7 @@ fn compared<R: Read, P: Portions>(
 // Gathers the next bytes, and tells whether there are any.
 fn gather<P: Portions>(bytes: &mut P, gathered: &mut Vec<u8>) -> Result<bool, AllocError>
     ensures { IfOk result
-        (λ more. Gives more [] gathered.new.items (P.rest bytes.old) (P.rest bytes.new)) }
+        (λ more. GivesIfMore more [] gathered.new.items (P.rest bytes.old) (P.rest bytes.new)) }
 {
     gathered.clear();
     while bytes.push_next(gathered)? {

@@ -10,7 +10,7 @@ use Rattle.reg_ranges.specs.declared.range.Range.{Range}
 use Rattle.reg_ranges.specs.declared.policy.Policy.{Policy}
 use Rattle.reg_ranges.specs.declared.policy.Treatment.TheVariants as treatment
 use Rattle.reg_ranges.specs.Tables.{Table, IsPartition, lies_in, treatment_of}
-use Rattle.reg_ranges.specs.FreeValues.{IsUnder, IsLeastFree, IsLeastFreeWhere, IsLeastIn, is_under, is_free, least_value}
+use Rattle.reg_ranges.specs.FreeValues.{TreatsByPolicy, IsLeastFree, IsLeastFreeWhere, IsLeastIn, is_under, is_free, least_value}
 use Rattle.reg_ranges.specs.Sameness.{same_treatment}
 use Rattle.reg_ranges.proofs.SamenessDecides.{option_decided, treatment_decided}
 use Rattle.reg_ranges.proofs.Partitions.{Chain, chain_from_partition}
@@ -24,7 +24,7 @@ pub record Searched (table : Table) (p : Policy) (Taken : ℕ → Type 0) (left 
   where
     pub next : ℕ
     pub chain : Chain next table.max left
-    pub all_taken : (u : ℕ) → u < next → IsUnder table p u → Taken u
+    pub all_taken : (u : ℕ) → u < next → TreatsByPolicy table p u → Taken u
 
 pub search_starts : (table : Table) (p : Policy) (Taken : ℕ → Type 0) → IsPartition table
     → Searched table p Taken table.ranges
@@ -39,7 +39,7 @@ lies range u low high = rw (le-leb range.lo u low, le-leb u range.hi high) refl
 
 under_as_range : (table : Table) (p : Policy) (range : Range) (u : ℕ) → IsPartition table
     → Contains table.ranges range → range.lo ≤ u → u ≤ range.hi
-    → IsUnder table p u → range.treatment ≡ treatment.Under p
+    → TreatsByPolicy table p u → range.treatment ≡ treatment.Under p
 under_as_range table p range u partition has low high under =
     let of = treatment_in table partition range u has (lies range u low high) in cc
 
@@ -68,7 +68,7 @@ search_finds : (table : Table) (p : Policy) (Taken : ℕ → Type 0) (range : Ra
     → IsLeastFreeWhere table p Taken (Some v)
 search_finds table p Taken range rest v partition has s least =
     let gap = least.1 in
-    let under : IsUnder table p v =
+    let under : TreatsByPolicy table p v =
     treatment_in table partition range v has (lies range v gap.0 gap.1) ∙ ap Some least.0 in (
       under,
       gap.2,
@@ -78,7 +78,7 @@ search_finds table p Taken range rest v partition has s least =
       ],
     )
 
-under_max : (table : Table) (p : Policy) (u : ℕ) → IsPartition table → IsUnder table p u
+under_max : (table : Table) (p : Policy) (u : ℕ) → IsPartition table → TreatsByPolicy table p u
     → u ≤ table.max
 under_max table p u partition under = elim (cases_lt table.max u) [
   | inl past ↦
@@ -150,7 +150,7 @@ one_least table p taken (Some v) (Some w) first second = elim (cases_order v w) 
 -- ---- the search finds it
 
 under_decided : (table : Table) (p : Policy) (v : ℕ)
-    → Decides (is_under table p v) (IsUnder table p v)
+    → Decides (is_under table p v) (TreatsByPolicy table p v)
 under_decided table p v =
     option_decided same_treatment treatment_decided (treatment_of table v)
     (Some (treatment.Under p))
@@ -173,7 +173,7 @@ any_not u (x ∷ xs) h has =
     ]
 
 free_true : (table : Table) (p : Policy) (taken : List ℕ) (v : ℕ) → is_free table p taken v ≡ true
-    → IsUnder table p v × ¬ (Contains taken v)
+    → TreatsByPolicy table p v × ¬ (Contains taken v)
 free_true table p taken v h =
     let parts = and_parts (is_under table p v) (not (list_any (nat_eq v) taken)) h in (
       (under_decided table p v).0 parts.0,
@@ -182,7 +182,7 @@ free_true table p taken v h =
 
 free_false : (table : Table) (p : Policy) (taken : List ℕ) (v : ℕ)
     → is_free table p taken v ≡ false
-    → IsUnder table p v → Contains taken v
+    → TreatsByPolicy table p v → Contains taken v
 free_false table p taken v h under =
     elim (and_cases (is_under table p v) (not (list_any (nat_eq v) taken)) h) [
       | inl none ↦ absurd (let some = (under_decided table p v).1 under in cc)

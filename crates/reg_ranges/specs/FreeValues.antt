@@ -9,14 +9,14 @@ use Rattle.reg_ranges.specs.Sameness.{same_treatment}
 use Rattle.reg_ranges.specs.Tables.{Table, treatment_of}
 
 -- the value lies in a range under the policy
-abbrev pub IsUnder : Table → Policy → ℕ → Type 0
-IsUnder table p v = treatment_of table v ≡ Some (treatment.Under p)
+abbrev pub TreatsByPolicy : Table → Policy → ℕ → Type 0
+TreatsByPolicy table p v = treatment_of table v ≡ Some (treatment.Under p)
 
 -- the least value under the policy that is not taken, or none where each value under it is taken
 abbrev pub IsLeastFreeWhere : Table → Policy → (ℕ → Type 0) → Option ℕ → Type 0
 IsLeastFreeWhere table p Taken (Some v) =
-    IsUnder table p v × (¬ (Taken v)) × ((u : ℕ) → u < v → IsUnder table p u → Taken u)
-IsLeastFreeWhere table p Taken None = (u : ℕ) → IsUnder table p u → Taken u
+    TreatsByPolicy table p v × (¬ (Taken v)) × ((u : ℕ) → u < v → TreatsByPolicy table p u → Taken u)
+IsLeastFreeWhere table p Taken None = (u : ℕ) → TreatsByPolicy table p u → Taken u
 
 -- the same where a list has the values that are taken
 abbrev pub IsLeastFree : Table → Policy → List ℕ → Option ℕ → Type 0

@@ -6,9 +6,11 @@ use Rattle.std.proofs.lemmas.Option.{none-some, same_Some}
 use Rattle.std.proofs.lemmas.Bool.Decides.{nat_tests}
 use Rattle.sqlite.specs.declared.types.Value.{Value}
 use Rattle.sqlite.specs.declared.types.Value.TheVariants.{Null, Int, Real, Text, Blob}
+use Rattle.sqlite.specs.Order.{Row}
 use Rattle.sqlite.specs.Values.{or_null}
 use Rattle.reg_ranges.specs.Forms.{is_none_or}
 use Rattle.reg_ranges.specs.Words.{ReadsWords}
+use Rattle.reg_records.specs.Laws.{KeepsRows}
 use Rattle.reg_records.specs.Columns.{int_in, natural_of, whole_in, number_of, number_in, flag_of, flag_in, text_in, read_in, formed_in, is_null, or_null_in, given, whole_value, flag_value}
 
 -- a column that holds values of a form: what is written for one reads as it, and what reads is what
@@ -18,6 +20,17 @@ pub record IsColumn {T : Type 0} (read : Value → Option T) (value : T → Valu
   pub back : (x : T) → form x ≡ true → read (value x) ≡ Some x
   pub exact : (v : Value) (x : T) → read v ≡ Some x → v ≡ value x
   pub formed : (v : Value) (x : T) → read v ≡ Some x → form x ≡ true
+
+-- a table whose rows read as what is written, and which reads only such rows
+pub keeps_rows : {T : Type 0} {columns : Row → Row} {read : Row → Option T} {write : T → Row}
+    {form : T → Bool} → ((x : T) → form x ≡ true → read (write x) ≡ Some x)
+    → ((row : Row) (x : T) → read row ≡ Some x → (columns row ≡ write x) × (form x ≡ true))
+    → KeepsRows columns read write form
+keeps_rows back kept = record {
+  back = back;
+  exact = λ row x h. (kept row x h).0;
+  formed = λ row x h. (kept row x h).1;
+}
 
 -- a value of any form
 abbrev pub any : {T : Type 0} → T → Bool
@@ -58,11 +71,8 @@ column-at column x form f y then = given-at (column.back x form) f y then
 -- ---- Kinds of columns
 
 int_exact : (v : Value) (n : ℤ) → int_in v ≡ Some n → v ≡ Int n
-int_exact Null n h = absurd (none-some n h)
 int_exact (Int m) n h = ap Int (same_Some m n h)
-int_exact (Real x) n h = absurd (none-some n h)
-int_exact (Text t) n h = absurd (none-some n h)
-int_exact (Blob b) n h = absurd (none-some n h)
+int_exact _ n h = absurd (none-some n h)
 
 pub ints : IsColumn int_in Int any
 ints = record { back = λ n h. refl; exact = int_exact; formed = λ v n h. refl }
@@ -110,11 +120,8 @@ flags = record {
 }
 
 text_exact : (v : Value) (t : List ℕ) → text_in v ≡ Some t → v ≡ Text t
-text_exact Null t h = absurd (none-some t h)
-text_exact (Int n) t h = absurd (none-some t h)
-text_exact (Real x) t h = absurd (none-some t h)
 text_exact (Text s) t h = ap Text (same_Some s t h)
-text_exact (Blob b) t h = absurd (none-some t h)
+text_exact _ t h = absurd (none-some t h)
 
 -- a reader of texts that reads exactly what is written for values of the form
 pub record ReadsTexts {T : Type 0} (read : List ℕ → Option T) (text : T → List ℕ) (form : T → Bool)
@@ -172,10 +179,7 @@ or_null_read : {T : Type 0} {read : Value → Option T} {value : T → Value} {f
     → IsColumn read value form → (v : Value) (o : Option T) → or_null_in read v ≡ Some o
     → (v ≡ or_null value o) × (is_none_or form o ≡ true)
 or_null_read {value = value} {form = form} column Null o h = null_read value form o h
-or_null_read column (Int n) o h = value_read column (Int n) o h
-or_null_read column (Real x) o h = value_read column (Real x) o h
-or_null_read column (Text t) o h = value_read column (Text t) o h
-or_null_read column (Blob b) o h = value_read column (Blob b) o h
+or_null_read column v o h = value_read column v o h
 
 or_null_back : {T : Type 0} {read : Value → Option T} {value : T → Value} {form : T → Bool}
     → IsColumn read value form → ((x : T) → is_null (value x) ≡ false) → (o : Option T)

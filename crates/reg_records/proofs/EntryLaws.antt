@@ -14,7 +14,7 @@ use Rattle.reg_core.specs.declared.entry.Entry.{Entry}
 use Rattle.reg_records.specs.Columns.{is_number, number_in, or_null_in, whole_value}
 use Rattle.reg_records.specs.Entries.{EntriesReadUnheld, entry_columns, entry_in, entry_values, is_entry, unheld}
 use Rattle.reg_records.specs.Laws.{KeepsRows}
-use Rattle.reg_records.proofs.ColumnLaws.{IsColumn, both, column_some, column-at, flags, formed_texts, numbers, or_nulls}
+use Rattle.reg_records.proofs.ColumnLaws.{IsColumn, both, column-at, column_some, flags, formed_texts, keeps_rows, numbers, or_nulls}
 
 -- the days of expiry
 expiries : IsColumn (or_null_in (number_in is_day)) (or_null whole_value) (is_none_or is_day)
@@ -32,13 +32,6 @@ entry_unheld entry form =
     column-at expiries entry.term.expires expires _ _ (
     column-at flags entry.term.renewed refl _ _ refl)))))))))))
 
-pub entry_back : (entry : Entry) → is_entry entry ≡ true
-    → entry_in (entry_values entry) ≡ Some entry
-entry_back entry form = both _ _ form (λ form bare.
-    entry_unheld entry form
-    ∙ ap (λ held. Some (record entry { term = record entry.term { held = held } }))
-    (sym (not-true entry.term.held bare)))
-
 -- without its mark it has the form of one that a row holds
 pub unheld_form : (entry : Entry)
     → has_entry_form (entry.registry, entry.value) (registration_in entry) ≡ true
@@ -46,9 +39,14 @@ pub unheld_form : (entry : Entry)
 unheld_form entry form =
     and_from (has_entry_form (entry.registry, entry.value) (registration_in entry)) true form refl
 
-entry_read : (row : Row) (entry : Entry) → entry_in row ≡ Some entry
-    → (entry_columns row ≡ entry_values entry) × (is_entry entry ≡ true)
-entry_read row entry h =
+pub entries_kept : KeepsRows entry_columns entry_in entry_values is_entry
+entries_kept =
+    keeps_rows (λ entry form.
+    both _ _ form (λ form bare.
+    entry_unheld entry form
+    ∙ ap (λ held. Some (record entry { term = record entry.term { held = held } }))
+    (sym (not-true entry.term.held bare))))
+    (λ row entry h.
     column_some (formed_texts is_name) (column row 0) _ entry h (λ registry is0 form0 h.
     column_some (numbers is_number) (column row 1) _ entry h (λ value is1 form1 h.
     column_some (formed_texts is_text) (column row 2) _ entry h (λ label is2 form2 h.
@@ -59,15 +57,4 @@ entry_read row entry h =
     subst (λ e. (entry_columns row ≡ entry_values e) × (is_entry e ≡ true)) (same_Some _ _ h) (
       rw (is0, is1, is2, is3, is4, is5, is6) refl,
       rw (form0, form1, form2, form3, form4, form5) refl,
-    ))))))))
-
-pub entry_exact : (row : Row) (entry : Entry) → entry_in row ≡ Some entry
-    → entry_columns row ≡ entry_values entry
-entry_exact row entry h = (entry_read row entry h).0
-
-pub entry_formed : (row : Row) (entry : Entry) → entry_in row ≡ Some entry
-    → is_entry entry ≡ true
-entry_formed row entry h = (entry_read row entry h).1
-
-pub entries_kept : KeepsRows entry_columns entry_in entry_values is_entry
-entries_kept = record { back = entry_back; exact = entry_exact; formed = entry_formed }
+    )))))))))

@@ -15,7 +15,7 @@ use Rattle.reg_core.specs.declared.holding.Holding.{Holding}
 use Rattle.reg_records.specs.Blocks.{block_at, block_in, holding_columns, holding_in, holding_values, is_holding}
 use Rattle.reg_records.specs.Columns.{whole_value}
 use Rattle.reg_records.specs.Laws.{KeepsRows}
-use Rattle.reg_records.proofs.ColumnLaws.{both, column_some, column-at, flags, formed_texts, given_some, given-at, let_through, wholes, words}
+use Rattle.reg_records.proofs.ColumnLaws.{both, column-at, column_some, flags, formed_texts, given-at, given_some, keeps_rows, let_through, wholes, words}
 use Rattle.reg_records.proofs.WordsReadBack.{sizes_read}
 
 -- ---- Blocks
@@ -24,20 +24,17 @@ use Rattle.reg_records.proofs.WordsReadBack.{sizes_read}
 first-divides : (size : Size) (prefix : ℕ)
     → ((prefix * address_count size) % address_count size == 0) ≡ true
 first-divides MaL prefix = grind (arith, nat_tests)
-first-divides MaM prefix = grind (arith, nat_tests)
-first-divides MaS prefix = grind (arith, nat_tests)
+first-divides _ prefix = grind (arith, nat_tests)
 
 first-over : (size : Size) (prefix : ℕ)
     → (prefix * address_count size) / address_count size ≡ prefix
 first-over MaL prefix = omega arith
-first-over MaM prefix = omega arith
-first-over MaS prefix = omega arith
+first-over _ prefix = omega arith
 
 multiple : (size : Size) (first : ℕ) → (first % address_count size == 0) ≡ true
     → first ≡ (first / address_count size) * address_count size
 multiple MaL first h = grind (arith, nat_tests)
-multiple MaM first h = grind (arith, nat_tests)
-multiple MaS first h = grind (arith, nat_tests)
+multiple _ first h = grind (arith, nat_tests)
 
 block_at-back : (block : SizedPrefix) → is_block block ≡ true
     → block_at block.size (first_address block) ≡ Some block
@@ -79,20 +76,17 @@ block_read row block h =
 
 -- ---- Holdings
 
-pub holding_back : (holding : Holding) → is_holding holding ≡ true
-    → holding_in (holding_values holding) ≡ Some holding
-holding_back holding form =
+pub holdings_kept : KeepsRows holding_columns holding_in holding_values is_holding
+holdings_kept =
+    keeps_rows (λ holding form.
     both _ _ form (λ block form. both _ _ form (λ form address.
     both _ _ form (λ holder organization.
     given-at (block_back holding block) _ _ (
     column-at (formed_texts is_name) holding.holder holder _ _ (
     column-at (formed_texts is_text) holding.organization organization _ _ (
     column-at (formed_texts is_text) holding.address address _ _ (
-    column-at flags holding.private refl _ _ refl)))))))
-
-holding_read : (row : Row) (holding : Holding) → holding_in row ≡ Some holding
-    → (holding_columns row ≡ holding_values holding) × (is_holding holding ≡ true)
-holding_read row holding h =
+    column-at flags holding.private refl _ _ refl))))))))
+    (λ row holding h.
     given_some (block_in row) _ holding h (λ block is h.
     let block_is = block_read row block is in
     let is0 = block_is.first in
@@ -104,15 +98,4 @@ holding_read row holding h =
     column_some flags (column row 5) _ holding h (λ private is5 form5 h.
     subst (λ o. (holding_columns row ≡ holding_values o) × (is_holding o ≡ true))
     (same_Some _ _ h)
-    (rw (is0, is1, is2, is3, is4, is5) refl, rw (form0, form2, form3, form4) refl))))))
-
-pub holding_exact : (row : Row) (holding : Holding) → holding_in row ≡ Some holding
-    → holding_columns row ≡ holding_values holding
-holding_exact row holding h = (holding_read row holding h).0
-
-pub holding_formed : (row : Row) (holding : Holding) → holding_in row ≡ Some holding
-    → is_holding holding ≡ true
-holding_formed row holding h = (holding_read row holding h).1
-
-pub holdings_kept : KeepsRows holding_columns holding_in holding_values is_holding
-holdings_kept = record { back = holding_back; exact = holding_exact; formed = holding_formed }
+    (rw (is0, is1, is2, is3, is4, is5) refl, rw (form0, form2, form3, form4) refl)))))))

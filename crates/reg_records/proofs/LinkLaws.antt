@@ -1,33 +1,21 @@
--- The rows of `agents` keep links: what is written reads back, and only that reads.
+-- Rows keep links: what is written reads back, and only that reads.
 use Rattle.std.proofs.Common.{◌≡◌, true, Some, refl, subst}
 use Rattle.std.proofs.lemmas.Option.{same_Some}
 use Rattle.sqlite.specs.Order.{Row, column}
 use Rattle.reg_core.specs.Names.{is_name}
-use Rattle.reg_records.specs.Agents.{is_link, link_columns, link_in, link_values}
+use Rattle.reg_records.specs.Links.{is_link, link_columns, link_in, link_values}
 use Rattle.reg_records.specs.Laws.{KeepsRows}
-use Rattle.reg_records.specs.declared.agents.Link.{Link}
-use Rattle.reg_records.proofs.ColumnLaws.{both, column_some, column-at, formed_texts}
+use Rattle.reg_records.specs.declared.links.Link.{Link}
+use Rattle.reg_records.proofs.ColumnLaws.{both, column-at, column_some, formed_texts, keeps_rows}
 
-pub link_back : (link : Link) → is_link link ≡ true → link_in (link_values link) ≡ Some link
-link_back link form =
+pub links_kept : KeepsRows link_columns link_in link_values is_link
+links_kept =
+    keeps_rows (λ link form.
     both _ _ form (λ principal agent.
     column-at (formed_texts is_name) link.principal principal _ _ (
-    column-at (formed_texts is_name) link.agent agent _ _ refl))
-
-link_read : (row : Row) (link : Link) → link_in row ≡ Some link
-    → (link_columns row ≡ link_values link) × (is_link link ≡ true)
-link_read row link h =
+    column-at (formed_texts is_name) link.agent agent _ _ refl)))
+    (λ row link h.
     column_some (formed_texts is_name) (column row 0) _ link h (λ principal is0 form0 h.
     column_some (formed_texts is_name) (column row 1) _ link h (λ agent is1 form1 h.
     subst (λ l. (link_columns row ≡ link_values l) × (is_link l ≡ true)) (same_Some _ _ h)
-    (rw (is0, is1) refl, rw (form0, form1) refl)))
-
-pub link_exact : (row : Row) (link : Link) → link_in row ≡ Some link
-    → link_columns row ≡ link_values link
-link_exact row link h = (link_read row link h).0
-
-pub link_formed : (row : Row) (link : Link) → link_in row ≡ Some link → is_link link ≡ true
-link_formed row link h = (link_read row link h).1
-
-pub links_kept : KeepsRows link_columns link_in link_values is_link
-links_kept = record { back = link_back; exact = link_exact; formed = link_formed }
+    (rw (is0, is1) refl, rw (form0, form1) refl))))

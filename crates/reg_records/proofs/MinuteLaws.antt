@@ -7,32 +7,18 @@ use Rattle.reg_core.specs.Names.{is_name}
 use Rattle.reg_records.specs.Laws.{KeepsRows}
 use Rattle.reg_records.specs.Minutes.{is_minute, minute_columns, minute_in, minute_values}
 use Rattle.reg_records.specs.declared.minutes.Minute.{Minute}
-use Rattle.reg_records.proofs.ColumnLaws.{both, column_some, column-at, formed_texts}
+use Rattle.reg_records.proofs.ColumnLaws.{both, column-at, column_some, formed_texts, keeps_rows}
 
-pub minute_back : (minute : Minute) → is_minute minute ≡ true
-    → minute_in (minute_values minute) ≡ Some minute
-minute_back minute form =
+pub minutes_kept : KeepsRows minute_columns minute_in minute_values is_minute
+minutes_kept =
+    keeps_rows (λ minute form.
     both _ _ form (λ form text. both _ _ form (λ account reference.
     column-at (formed_texts is_name) minute.account account _ _ (
     column-at (formed_texts is_name) minute.reference reference _ _ (
-    column-at (formed_texts is_text) minute.minute text _ _ refl))))
-
-minute_read : (row : Row) (minute : Minute) → minute_in row ≡ Some minute
-    → (minute_columns row ≡ minute_values minute) × (is_minute minute ≡ true)
-minute_read row minute h =
+    column-at (formed_texts is_text) minute.minute text _ _ refl)))))
+    (λ row minute h.
     column_some (formed_texts is_name) (column row 0) _ minute h (λ account is0 form0 h.
     column_some (formed_texts is_name) (column row 1) _ minute h (λ reference is1 form1 h.
     column_some (formed_texts is_text) (column row 2) _ minute h (λ text is2 form2 h.
     subst (λ m. (minute_columns row ≡ minute_values m) × (is_minute m ≡ true)) (same_Some _ _ h)
-    (rw (is0, is1, is2) refl, rw (form0, form1, form2) refl))))
-
-pub minute_exact : (row : Row) (minute : Minute) → minute_in row ≡ Some minute
-    → minute_columns row ≡ minute_values minute
-minute_exact row minute h = (minute_read row minute h).0
-
-pub minute_formed : (row : Row) (minute : Minute) → minute_in row ≡ Some minute
-    → is_minute minute ≡ true
-minute_formed row minute h = (minute_read row minute h).1
-
-pub minutes_kept : KeepsRows minute_columns minute_in minute_values is_minute
-minutes_kept = record { back = minute_back; exact = minute_exact; formed = minute_formed }
+    (rw (is0, is1, is2) refl, rw (form0, form1, form2) refl)))))

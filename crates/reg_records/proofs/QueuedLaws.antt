@@ -9,12 +9,12 @@ use Rattle.reg_records.specs.Requests.Reading.{request_columns, request_in}
 use Rattle.reg_records.specs.declared.advice.ExpertAdvice.{ExpertAdvice}
 use Rattle.reg_records.proofs.AdviceLaws.{own_advice_back}
 use Rattle.reg_records.proofs.ColumnLaws.{given-at}
-use Rattle.reg_records.proofs.RequestLaws.Selected.{request_in-columns}
+use Rattle.reg_records.proofs.RequestLaws.Selected.{request_in_columns}
 
 -- what stands after the columns of a request does not count for it
 request_before : (row more : Row) → request_in (request_columns row ++ more) ≡ request_in row
 request_before row more =
-    sym (request_in-columns (request_columns row ++ more)) ∙ request_in-columns row
+    sym (request_in_columns (request_columns row ++ more)) ∙ request_in_columns row
 
 -- a request without an advice
 pub queued_alone : (row : Row) (request : Request) → request_in row ≡ Some request

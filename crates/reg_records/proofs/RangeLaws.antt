@@ -10,7 +10,7 @@ use Rattle.reg_records.specs.Columns.{is_number}
 use Rattle.reg_records.specs.Laws.{KeepsRows}
 use Rattle.reg_records.specs.Ranges.{is_registry_range, note_text, range_columns, range_in, range_values, read_note}
 use Rattle.reg_records.specs.declared.ranges.RegistryRange.{RegistryRange}
-use Rattle.reg_records.proofs.ColumnLaws.{ReadsTexts, both, column_some, column-at, formed_texts, let_through, map_some, numbers, texts, words}
+use Rattle.reg_records.proofs.ColumnLaws.{ReadsTexts, both, column-at, column_some, formed_texts, keeps_rows, let_through, map_some, numbers, texts, words}
 
 -- ---- Notes
 
@@ -40,19 +40,16 @@ notes = record {
 
 -- ---- Ranges
 
-pub range_back : (range : RegistryRange) → is_registry_range range ≡ true
-    → range_in (range_values range) ≡ Some range
-range_back row form =
+pub ranges_kept : KeepsRows range_columns range_in range_values is_registry_range
+ranges_kept =
+    keeps_rows (λ row form.
     both _ _ form (λ form note. both _ _ form (λ form hi. both _ _ form (λ registry lo.
     column-at (formed_texts is_name) row.registry registry _ _ (
     column-at (numbers is_number) row.range.lo lo _ _ (
     column-at (numbers is_number) row.range.hi hi _ _ (
     column-at (words treatments_read) row.range.treatment refl _ _ (
-    column-at (texts notes) row.range.note note _ _ refl)))))))
-
-range_read : (row : Row) (range : RegistryRange) → range_in row ≡ Some range
-    → (range_columns row ≡ range_values range) × (is_registry_range range ≡ true)
-range_read row range h =
+    column-at (texts notes) row.range.note note _ _ refl))))))))
+    (λ row range h.
     column_some (formed_texts is_name) (column row 0) _ range h (λ registry is0 form0 h.
     column_some (numbers is_number) (column row 1) _ range h (λ lo is1 form1 h.
     column_some (numbers is_number) (column row 2) _ range h (λ hi is2 form2 h.
@@ -60,15 +57,4 @@ range_read row range h =
     column_some (texts notes) (column row 4) _ range h (λ note is4 form4 h.
     subst (λ r. (range_columns row ≡ range_values r) × (is_registry_range r ≡ true))
     (same_Some _ _ h)
-    (rw (is0, is1, is2, is3, is4) refl, rw (form0, form1, form2, form4) refl))))))
-
-pub range_exact : (row : Row) (range : RegistryRange) → range_in row ≡ Some range
-    → range_columns row ≡ range_values range
-range_exact row range h = (range_read row range h).0
-
-pub range_formed : (row : Row) (range : RegistryRange) → range_in row ≡ Some range
-    → is_registry_range range ≡ true
-range_formed row range h = (range_read row range h).1
-
-pub ranges_kept : KeepsRows range_columns range_in range_values is_registry_range
-ranges_kept = record { back = range_back; exact = range_exact; formed = range_formed }
+    (rw (is0, is1, is2, is3, is4) refl, rw (form0, form1, form2, form4) refl)))))))

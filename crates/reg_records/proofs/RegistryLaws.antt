@@ -7,32 +7,17 @@ use Rattle.reg_records.specs.Columns.{is_number}
 use Rattle.reg_records.specs.Laws.{KeepsRows}
 use Rattle.reg_records.specs.Registries.{registry_columns, registry_in, registry_values, is_registry}
 use Rattle.reg_records.specs.declared.registries.Registry.{Registry}
-use Rattle.reg_records.proofs.ColumnLaws.{both, column_some, column-at, formed_texts, numbers}
+use Rattle.reg_records.proofs.ColumnLaws.{both, column-at, column_some, formed_texts, keeps_rows, numbers}
 
-pub registry_back : (registry : Registry) → is_registry registry ≡ true
-    → registry_in (registry_values registry) ≡ Some registry
-registry_back registry form =
+pub registries_kept : KeepsRows registry_columns registry_in registry_values is_registry
+registries_kept =
+    keeps_rows (λ registry form.
     both _ _ form (λ name max.
     column-at (formed_texts is_name) registry.name name _ _ (
-    column-at (numbers is_number) registry.max max _ _ refl))
-
-registry_read : (row : Row) (registry : Registry) → registry_in row ≡ Some registry
-    → (registry_columns row ≡ registry_values registry) × (is_registry registry ≡ true)
-registry_read row registry h =
+    column-at (numbers is_number) registry.max max _ _ refl)))
+    (λ row registry h.
     column_some (formed_texts is_name) (column row 0) _ registry h (λ name is0 form0 h.
     column_some (numbers is_number) (column row 1) _ registry h (λ max is1 form1 h.
     subst (λ r. (registry_columns row ≡ registry_values r) × (is_registry r ≡ true))
     (same_Some _ _ h)
-    (rw (is0, is1) refl, rw (form0, form1) refl)))
-
-pub registry_exact : (row : Row) (registry : Registry) → registry_in row ≡ Some registry
-    → registry_columns row ≡ registry_values registry
-registry_exact row registry h = (registry_read row registry h).0
-
-pub registry_formed : (row : Row) (registry : Registry) → registry_in row ≡ Some registry
-    → is_registry registry ≡ true
-registry_formed row registry h = (registry_read row registry h).1
-
-pub registries_kept : KeepsRows registry_columns registry_in registry_values is_registry
-registries_kept =
-    record { back = registry_back; exact = registry_exact; formed = registry_formed }
+    (rw (is0, is1) refl, rw (form0, form1) refl))))

@@ -1,5 +1,5 @@
 //! The laws of rows and records. Each function is its contract.
-ghost use Rattle.reg_records.specs.Agents.{is_link, link_columns, link_in, link_values};
+ghost use Rattle.reg_records.specs.Links.{is_link, link_columns, link_in, link_values};
 ghost use Rattle.reg_records.specs.Advice.{advice_columns, advice_in, advice_values, is_expert_advice};
 ghost use Rattle.reg_records.specs.Blocks.{holding_columns, holding_in, holding_values, is_holding};
 ghost use Rattle.reg_records.specs.Caps.{grant_columns, grant_in, grant_values, is_grant};

@@ -3,13 +3,13 @@
 
 pub mod advice;
 pub mod advised;
-pub mod agents;
 pub mod blocks;
 pub mod caps;
 pub mod column;
 pub mod entries;
 pub mod holds;
 pub mod laws;
+pub mod links;
 pub mod minutes;
 pub mod office;
 pub mod pool;

@@ -1,10 +1,11 @@
 -- Parts of the picture of a registry, merged as they are appended.
-use Rattle.std.proofs.Common.{◌≡◌, ℕ, ◌+◌, ◌<◌, ◌≤◌, true, false, List, ◌∷◌, ◌++◌, length, get_or, drop, map, if◌then◌else◌, sym, ap, ◌∙◌, add-one, drop-cons}
+use Rattle.std.proofs.Common.{◌≡◌, ℕ, ◌+◌, ◌<◌, ◌≤◌, true, false, List, ◌∷◌, ◌++◌, length, get_or, drop, map, if◌then◌else◌, sym, ap, ◌∙◌}
 use Rattle.std.proofs.lemmas.List.{drop_all}
 use Rattle.reg_core.specs.declared.entry.PageEntry.{PageEntry}
 use Rattle.reg_html.specs.Appended.{Shown}
 use Rattle.reg_html.specs.Markup.{all_of, markup_then}
 use Rattle.reg_html.proofs.Pieces.{Leads, shown}
+use Rattle.reg_site.proofs.Portioned.{at_place}
 use Rattle.reg_site.specs.Bar.{entry_part, joined, joins, merged, part}
 use Rattle.reg_site.specs.declared.bar.Part.{Part}
 
@@ -12,14 +13,6 @@ use Rattle.reg_site.specs.declared.bar.Part.{Part}
 abbrev pub parts_left : ℕ → Part → List PageEntry → ℕ → List ℕ → List ℕ
 parts_left most last entries i rest =
     markup_then (all_of (map part (merged last (map (entry_part most) (drop i entries))))) rest
-
--- the entry at a place is the first from there
-at_entry : (entries : List PageEntry) (i : ℕ) (e : PageEntry) → i < length entries
-    → e ≡ get_or entries i e → drop i entries ≡ e ∷ drop (i + 1) entries
-at_entry entries i e h is =
-    let here : drop i entries ≡ get_or entries i e ∷ drop (i + 1) entries =
-    rw add-one (drop-cons entries i e h) in
-    here ∙ ap (λ head. head ∷ drop (i + 1) entries) (sym is)
 
 -- the entry joins the last part
 pub merges : (most : ℕ) (last : Part) (entries : List PageEntry) (i : ℕ) (e : PageEntry)
@@ -30,7 +23,7 @@ pub merges : (most : ℕ) (last : Part) (entries : List PageEntry) (i : ℕ) (e 
 merges most last entries i e h is together {y = y} leads =
     let list : merged last (map (entry_part most) (drop i entries))
     ≡ merged (joined last (entry_part most e)) (map (entry_part most) (drop (i + 1) entries)) =
-    ap (λ left. merged last (map (entry_part most) left)) (at_entry entries i e h is)
+    ap (λ left. merged last (map (entry_part most) left)) (at_place entries i e h is)
     ∙ ap (λ b. if b then merged (joined last (entry_part most e))
     (map (entry_part most) (drop (i + 1) entries))
     else last ∷ merged (entry_part most e) (map (entry_part most) (drop (i + 1) entries))) together in
@@ -48,7 +41,7 @@ pub stands_apart : (most : ℕ) (last : Part) (entries : List PageEntry) (i : �
 stands_apart most last entries i e h is apart {y = y} leads piece =
     let list : merged last (map (entry_part most) (drop i entries))
     ≡ last ∷ merged (entry_part most e) (map (entry_part most) (drop (i + 1) entries)) =
-    ap (λ left. merged last (map (entry_part most) left)) (at_entry entries i e h is)
+    ap (λ left. merged last (map (entry_part most) left)) (at_place entries i e h is)
     ∙ ap (λ b. if b then merged (joined last (entry_part most e))
     (map (entry_part most) (drop (i + 1) entries))
     else last ∷ merged (entry_part most e) (map (entry_part most) (drop (i + 1) entries))) apart in

@@ -20,6 +20,7 @@ use Rattle.reg_site.specs.Files.{path_of}
 use Rattle.reg_site.specs.Recent.{day_part}
 use Rattle.reg_site.specs.Site.{block_files, blocks_at, change_files, index_files, one_file, page_files, pages_at, pool_files, prefixes_at, rows_by as registers_by, told_text, with_sums_file}
 use Rattle.reg_site.specs.declared.files.File.TheVariants as file
+use Rattle.reg_site.proofs.SiteLaws.{all-append}
 
 -- the notes say the same about the entry of a row
 abbrev SaysSame : Option Notes → Option Notes → List ℕ → ListedRow → Type 0
@@ -27,11 +28,6 @@ SaysSame a b name listed = note_of_row a name listed ≡ note_of_row b name list
 
 abbrev SaysSameOf : Option Notes → Option Notes → List ℕ → PageEntry → Type 0
 SaysSameOf a b name e = noted_in a (entry_thing name e.value) ≡ noted_in b (entry_thing name e.value)
-
-all-append : {X : Type 0} (P : X → Type 0) (xs ys : List X) → AllByRecursion P xs
-    → AllByRecursion P ys → AllByRecursion P (xs ++ ys)
-all-append P [] ys hx hy = hy
-all-append P (x ∷ xs) ys hx hy = (hx.0, all-append P xs ys hx.1 hy)
 
 kept_or_not : {X : Type 0} (P : X → Type 0) (x : X) (xs : List X) → P x → AllByRecursion P xs
     → (b : Bool) → AllByRecursion P (if b then x ∷ xs else xs)

@@ -1,6 +1,7 @@
 -- Records with their numbers and their digests.
 use Rattle.std.proofs.Common.{◌≡◌, ℕ, ◌+◌, ◌-◌, ◌<◌, List, [], ◌∷◌, ◌++◌, drop, length, map, reverse, take, get_or, refl, sym, ap, ◌∙◌, arith, length-drop}
-use Rattle.std.proofs.lemmas.List.{length-map, take_more}
+use Rattle.std.proofs.lemmas.List.{length-map}
+use Rattle.reg_print.proofs.PrintedTokens.{one_more}
 use Rattle.reg_history.specs.Chain.{chained}
 use Rattle.reg_history.specs.Overview.{IsOverview}
 use Rattle.reg_history.specs.declared.change.Record.{Record}
@@ -23,10 +24,6 @@ numbered_last n i (x ∷ rs) (e ∷ ds) r d h k =
     ap (λ m. changed n x e ∷ (numbered (n + 1) rs ds ++ changed m r d ∷ [])) same
     ∙ ap (λ t. changed n x e ∷ t) (numbered_last (n + 1) j rs ds r d refl also)
 
-one_more : {X : Type 0} (xs : List X) (i : ℕ) (x : X) → i < length xs → x ≡ get_or xs i x
-    → take i xs ++ x ∷ [] ≡ take (i + 1) xs
-one_more xs i x h is = ap (λ y. take i xs ++ y ∷ []) is ∙ sym (take_more xs i x h)
-
 -- one record more
 pub numbered_more : (n i : ℕ) (rs : List Record) (ds : List (List ℕ)) (r : Record) (d : List ℕ)
     → i < length rs → i < length ds → r ≡ get_or rs i r → d ≡ get_or ds i d
@@ -35,8 +32,8 @@ pub numbered_more : (n i : ℕ) (rs : List Record) (ds : List (List ℕ)) (r : R
     ≡ numbered n (take (i + 1) rs) (take (i + 1) ds)
 numbered_more n i rs ds r d h k is also first second =
     numbered_last n i (take i rs) (take i ds) r d first second
-    ∙ ap (λ xs. numbered n xs (take i ds ++ d ∷ [])) (one_more rs i r h is)
-    ∙ ap (λ ys. numbered n (take (i + 1) rs) ys) (one_more ds i d k also)
+    ∙ ap (λ xs. numbered n xs (take i ds ++ d ∷ [])) (sym (one_more rs i r h is))
+    ∙ ap (λ ys. numbered n (take (i + 1) rs) ys) (sym (one_more ds i d k also))
 
 -- the recent records of a history are its last changes
 pub recent_numbered : (o : Overview) (records : List Record) (before : ℕ) → IsOverview o records

@@ -19,8 +19,8 @@ use Rattle.reg_history.specs.declared.change.Record.{Record}
 use Rattle.reg_notes.specs.declared.note.Note.{Note}
 use Rattle.reg_notes.specs.declared.notes.Notes.{Notes}
 use Rattle.reg_ranges.specs.Tables.{Table}
-use Rattle.reg_site.specs.Laws.{FilesStayInside, ListingsAreOfPages, MomentsStandOnTheIndex, PrivateHoldersAreHidden, SameRegistersSameSite, SitesAreOfAnswers, StaysInside}
-use Rattle.reg_site.specs.IndexTree.{Row}
+use Rattle.reg_site.specs.Laws.{FilesStayInside, ListingsAreOfPages, MomentsStandOnTheIndex, PrivateHoldersAreUnpublished, SameRegistersSameSite, SitesAreOfAnswers, PathStaysInside}
+use Rattle.reg_site.specs.IndexTree.{IndexRow}
 use Rattle.reg_site.specs.Noted.{noted_in}
 use Rattle.reg_site.specs.Site.{block_files, change_files, index_files, one_file, page_files, pool_files, rows_by, site, steady_files, summed_files}
 use Rattle.reg_site.specs.Sums.{sums_text}
@@ -68,18 +68,18 @@ moments_stand_on_the_index notes records p m n e = rw e refl
 -- ---- Places
 
 abbrev Inside : List ℕ × List ℕ → Type 0
-Inside file = StaysInside file.0
+Inside file = PathStaysInside file.0
 
 abbrev IsFolder : List ℕ → Type 0
 IsFolder folder = (folder ≡ []) ⊎ (folder ≡ codes "registries/")
 
-all-append : {X : Type 0} (P : X → Type 0) (xs ys : List X) → AllByRecursion P xs
+pub all-append : {X : Type 0} (P : X → Type 0) (xs ys : List X) → AllByRecursion P xs
     → AllByRecursion P ys → AllByRecursion P (xs ++ ys)
 all-append P [] ys hx hy = hy
 all-append P (x ∷ xs) ys hx hy = (hx.0, all-append P xs ys hx.1 hy)
 
 named_inside : (folder stem extension : List ℕ) → IsFolder folder → is_name stem ≡ true
-    → is_name extension ≡ true → StaysInside (folder ++ (stem ++ (codes "." ++ extension)))
+    → is_name extension ≡ true → PathStaysInside (folder ++ (stem ++ (codes "." ++ extension)))
 named_inside folder stem extension here h typed = inl (record {
   folder = folder;
   stem = stem;
@@ -91,12 +91,12 @@ named_inside folder stem extension here h typed = inl (record {
 })
 
 in_registries : (name extension : List ℕ) → is_name name ≡ true → is_name extension ≡ true
-    → StaysInside (codes "registries/" ++ (name ++ (codes "." ++ extension)))
+    → PathStaysInside (codes "registries/" ++ (name ++ (codes "." ++ extension)))
 in_registries name extension h typed =
     named_inside (codes "registries/") name extension (inr refl) h typed
 
 on_top : (stem extension : List ℕ) → is_name stem ≡ true → is_name extension ≡ true
-    → StaysInside (stem ++ (codes "." ++ extension))
+    → PathStaysInside (stem ++ (codes "." ++ extension))
 on_top stem extension h typed = named_inside [] stem extension (inl refl) h typed
 
 pages_inside : (notes : Option Notes) (records : List Record) (pages : List Page)
@@ -144,7 +144,7 @@ changes_inside authority records digests = (
   (on_top (codes "changes") (codes "atom") refl refl, tt),
 )
 
-index_inside : (authority : Option Note) (digests : List (List ℕ)) (registers : List Row)
+index_inside : (authority : Option Note) (digests : List (List ℕ)) (registers : List IndexRow)
     (prefixes : List ℕ) (rows : List Listed) (moment : ℕ)
     → AllByRecursion Inside (index_files authority digests registers prefixes rows moment)
 index_inside authority digests registers prefixes rows moment = (
@@ -176,5 +176,5 @@ files_stay_inside notes records pages prefixes rows moment h =
     (index_inside authority digests (rows_by records pages) prefixes rows moment))
     (inr refl, tt)
 
-pub private_holders_are_hidden : PrivateHoldersAreHidden
+pub private_holders_are_hidden : PrivateHoldersAreUnpublished
 private_holders_are_hidden block h private = rw private refl

@@ -16,7 +16,7 @@ use Rattle.reg_html.specs.Table.{head_of, row_of, table}
 use Rattle.reg_notes.specs.declared.note.Note.{Note}
 use Rattle.reg_site.specs.Noted.{apply_line}
 use Rattle.reg_site.specs.Records.{title_of}
-use Rattle.reg_site.specs.IndexTree.{Row}
+use Rattle.reg_site.specs.IndexTree.{IndexRow}
 use Rattle.reg_site.specs.declared.summary.Share.{Share}
 use Rattle.reg_site.specs.declared.summary.Summary.{Summary}
 
@@ -62,7 +62,7 @@ registry_row changed s =
     ∷ number_cell s.assigned ∷ number_cell s.temporary ∷ number_cell s.expired
     ∷ number_cell s.free ∷ []))
 
-abbrev pub register_row : Row → Markup
+abbrev pub register_row : IndexRow → Markup
 register_row r = registry_row r.1 r.0
 
 abbrev pub registry_columns : List (List ℕ)
@@ -160,6 +160,6 @@ index_by_rows authority rows prefixes blocks moment =
     document (index_markup authority rows prefixes blocks moment)
 
 -- the bytes of the first page, with what is noted about the authority, and the last changes
-abbrev pub index_page : Option Note → List Row → List ℕ → List Listed → ℕ → List ℕ
+abbrev pub index_page : Option Note → List IndexRow → List ℕ → List Listed → ℕ → List ℕ
 index_page authority rows prefixes blocks moment =
     index_by_rows authority (map register_row rows) prefixes blocks moment

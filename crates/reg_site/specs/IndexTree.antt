@@ -32,11 +32,11 @@ counts_text s =
     ++ decimal s.reserved))))))))))
 
 -- a register beside others: its counts, and the moment of its last change
-abbrev pub Row : Type 0
-Row = Summary × List ℕ
+abbrev pub IndexRow : Type 0
+IndexRow = Summary × List ℕ
 
 -- the same as the code has it, without where it lies in memory
-abbrev pub row_of : Register → Row
+abbrev pub row_of : Register → IndexRow
 row_of r = (r.summary.now, r.changed.now)
 
 -- a register: its name, its files, its counts, and the moment of its last change
@@ -45,19 +45,19 @@ register_text name files counts changed =
     codes "{\"name\":\"" ++ (name ++ (codes "\",\"files\":[" ++ (files ++ (codes "]," ++ (counts
     ++ (codes ",\"changed\":\"" ++ (changed ++ codes "\"}")))))))
 
-abbrev pub register : Row → List ℕ
+abbrev pub register : IndexRow → List ℕ
 register r = register_text r.0.name (files_text r.0.name) (counts_text r.0) r.1
 
 -- each of these registers after a comma and a line feed, and then the rest
-abbrev pub next_then : Row → List ℕ → List ℕ
+abbrev pub next_then : IndexRow → List ℕ → List ℕ
 next_then r rest = codes ",\n" ++ (register r ++ rest)
 
-abbrev pub more_then : List Row → List ℕ → List ℕ
+abbrev pub more_then : List IndexRow → List ℕ → List ℕ
 more_then [] rest = rest
 more_then (r ∷ more) rest = next_then r (more_then more rest)
 
 -- registers with a comma and a line feed between them, and then the rest
-abbrev pub registers_then : List Row → List ℕ → List ℕ
+abbrev pub registers_then : List IndexRow → List ℕ → List ℕ
 registers_then [] rest = rest
 registers_then (r ∷ more) rest = register r ++ more_then more rest
 
@@ -71,7 +71,7 @@ front_rest moment changes digest =
 
 -- the bytes of the index for programs: the title, the moment, how many changes there are, the digest of the
 -- last one, and the registers
-unfoldable pub index_tree : List ℕ → List ℕ → ℕ → List ℕ → List Row → List ℕ
+unfoldable pub index_tree : List ℕ → List ℕ → ℕ → List ℕ → List IndexRow → List ℕ
 index_tree title moment changes digest rows =
     codes "{\"title\":\""
     ++ (json_text title

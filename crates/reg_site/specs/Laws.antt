@@ -73,22 +73,22 @@ pub record IsNamedInside (path : List ℕ) : Type 0 where
   pub typed : is_name extension ≡ true
 
 -- that, or the one name without a dot
-abbrev pub StaysInside : List ℕ → Type 0
-StaysInside path = IsNamedInside path ⊎ (path ≡ codes "SHA256SUMS")
+abbrev pub PathStaysInside : List ℕ → Type 0
+PathStaysInside path = IsNamedInside path ⊎ (path ≡ codes "SHA256SUMS")
 
 -- no file leaves the folder of the site, where the registries have names of their form
 abbrev pub FilesStayInside : Type 0
 FilesStayInside =
     (notes : Option Notes) (records : List Record) (pages : List Page) (prefixes : List ℕ)
     (rows : List Listed) (moment : ℕ) → AllByRecursion (λ page. is_name page.name ≡ true) pages
-    → AllByRecursion (λ file. StaysInside file.0)
+    → AllByRecursion (λ file. PathStaysInside file.0)
     (site_files notes records pages prefixes rows moment)
 
 -- ---- Private holders
 
 -- of a private holder a page says the word that it is private, and nothing else
-abbrev pub PrivateHoldersAreHidden : Type 0
-PrivateHoldersAreHidden =
+abbrev pub PrivateHoldersAreUnpublished : Type 0
+PrivateHoldersAreUnpublished =
     (block : SizedPrefix) (h : Holder) → h.private ≡ true
     → block_row (listed_row block (masked h))
     ≡ row_by (codes "b" ++ block_text block) (word_of block.size) (block_text block)

@@ -15,9 +15,9 @@ pub record GivesNothing (old new rest rest' : List ℕ) : Type 0 where
   pub same : new ≡ old
 
 -- whether a portion was given
-abbrev pub Gives : Bool → List ℕ → List ℕ → List ℕ → List ℕ → Type 0
-Gives true old new rest rest' = GivesPortion old new rest rest'
-Gives false old new rest rest' = GivesNothing old new rest rest'
+abbrev pub GivesIfMore : Bool → List ℕ → List ℕ → List ℕ → List ℕ → Type 0
+GivesIfMore true old new rest rest' = GivesPortion old new rest rest'
+GivesIfMore false old new rest rest' = GivesNothing old new rest rest'
 
 -- what is given after this, where there are so many rows
 abbrev pub after : Next → ℕ → Next

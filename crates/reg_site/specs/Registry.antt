@@ -46,17 +46,20 @@ name_of listed = option_map (λ entry. codes "v" ++ run_text listed.values) list
 abbrev pub description_cell : List ℕ → Option Note → Markup
 description_cell words note = plain (codes "td") (beside (text words) (noted note))
 
+-- a row by what it is found, its values, what they are for, what is noted about it, and its other cells
+abbrev pub described_row : Option (List ℕ) → List ℕ → List ℕ → Option Note → List (List ℕ) → Markup
+described_row name values description note others =
+    row_of name
+    (beside (head_cell name values)
+    (beside (description_cell description note) (all_of (map cell others))))
+
 -- the fields of a row of the listing; a policy by its name, of an entry that is held that it is, and what
 -- is noted about it
 abbrev pub entry_row : Option Note → ListedRow → Markup
 entry_row note listed =
-    row_of (name_of listed)
-    (beside (head_cell (name_of listed) (run_text listed.values))
-    (beside (description_cell listed.description note)
-    (all_of
-    (map cell
+    described_row (name_of listed) (run_text listed.values) listed.description note
     (shown_status listed ∷ named_policy listed.policy ∷ first_text listed.entry
-    ∷ expiry_text listed.entry ∷ assignee_text listed.entry ∷ [])))))
+    ∷ expiry_text listed.entry ∷ assignee_text listed.entry ∷ [])
 
 -- the same of a registry whose notes these are
 abbrev pub noted_row : Option Notes → List ℕ → ListedRow → Markup

@@ -25,7 +25,7 @@ use Rattle.reg_site.specs.Blocks.{assignments_text, blocks_page}
 use Rattle.reg_site.specs.Changes.{changes_feed, changes_page}
 use Rattle.reg_site.specs.Files.{path_of}
 use Rattle.reg_site.specs.Index.{index_page}
-use Rattle.reg_site.specs.IndexTree.{Row, index_tree}
+use Rattle.reg_site.specs.IndexTree.{IndexRow, index_tree}
 use Rattle.reg_site.specs.Noted.{noted_in}
 use Rattle.reg_site.specs.Recent.{day_part, feed_id, first_digest, last_changes, text_of}
 use Rattle.reg_site.specs.Records.{records_text, title_of}
@@ -131,11 +131,11 @@ change_files authority records digests =
     ∷ []
 
 -- registries beside others, each with the moment of its last change
-abbrev pub rows_by : List Record → List Page → List Row
+abbrev pub rows_by : List Record → List Page → List IndexRow
 rows_by records pages = map (λ page. (summary page, last_changed records page.name)) pages
 
 -- the first page, and the index for programs
-abbrev pub index_files : Option Note → List (List ℕ) → List Row → List ℕ → List Listed → ℕ → Files
+abbrev pub index_files : Option Note → List (List ℕ) → List IndexRow → List ℕ → List Listed → ℕ → Files
 index_files authority digests registers prefixes rows moment =
     (path_of file.Index, index_page authority registers prefixes rows moment)
     ∷ (

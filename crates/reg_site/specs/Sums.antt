@@ -16,26 +16,26 @@ abbrev pub digest : List ℕ → List ℕ
 digest bytes = encode_lower (sha256 bytes)
 
 -- the places of files by name, each with the digest of its bytes
-abbrev pub Entries : Type 0
-Entries = List (List ℕ × List ℕ)
+abbrev pub SumLines : Type 0
+SumLines = List (List ℕ × List ℕ)
 
 -- one file more
-abbrev pub with_sum : Entries → List ℕ → List ℕ → Entries
+abbrev pub with_sum : SumLines → List ℕ → List ℕ → SumLines
 with_sum entries path bytes = insert_entry text_cmp entries path (digest bytes)
 
-abbrev pub with_sums : Entries → Files → Entries
+abbrev pub with_sums : SumLines → Files → SumLines
 with_sums entries [] = entries
 with_sums entries (file ∷ files) = with_sums (with_sum entries file.0 file.1) files
 
 -- the same as the code has them
-abbrev pub entries_of : Sums → Entries
+abbrev pub entries_of : Sums → SumLines
 entries_of sums = sums.digests.entries
 
 -- a line of a file: its digest, two spaces and its place
 abbrev pub sum_line : List ℕ → List ℕ → List ℕ
 sum_line path sum = sum ++ (codes "  " ++ (path ++ codes "\n"))
 
-abbrev pub lines_of : Entries → List ℕ
+abbrev pub lines_of : SumLines → List ℕ
 lines_of entries = flat_map (λ e. sum_line e.0 e.1) entries
 
 -- the lines of these files by name

@@ -40,6 +40,7 @@ pub fn index_tree(
 }
 
 // Appends what stands for a text that has no control characters.
+#[tactic(auto, using(reg_html::proofs::Pieces::bytes))]
 fn push_json(out: &mut Vec<u8>, text: &str) -> Result<(), AllocError>
     ensures { OnOk result (Appended out.old.items out.new.items (λ rest. json_text text.now ++ rest)) }
 {
@@ -77,6 +78,7 @@ fn push_registers(out: &mut Vec<u8>, rows: &[Register<'_>]) -> Result<(), AllocE
     }
 }
 
+#[tactic(auto, using(reg_html::proofs::Pieces::joined))]
 fn push_all<'a>(
     out: &mut Vec<u8>,
     first: &Register<'a>,
@@ -90,6 +92,7 @@ fn push_all<'a>(
     Ok(())
 }
 
+#[tactic(auto, using(reg_html::proofs::Pieces::appended_each))]
 fn push_more(out: &mut Vec<u8>, rows: &[Register<'_>]) -> Result<(), AllocError>
     ensures { OnOk result (Appended out.old.items out.new.items (more_then (map row_of rows.now))) }
 {
@@ -99,6 +102,7 @@ fn push_more(out: &mut Vec<u8>, rows: &[Register<'_>]) -> Result<(), AllocError>
     Ok(())
 }
 
+#[tactic(auto, using(reg_html::proofs::Pieces::joined))]
 fn push_next(out: &mut Vec<u8>, row: &Register<'_>) -> Result<(), AllocError>
     ensures { OnOk result (Appended out.old.items out.new.items (next_then (row_of row.now))) }
 {

@@ -1,6 +1,6 @@
 //! Laws of the published site, as the contracts of functions that do nothing.
 ghost use Rattle.reg_site.specs.Bar.{PicturesAreShort};
-ghost use Rattle.reg_site.specs.Laws.{FilesStayInside, ListingsAreOfPages, MomentsStandOnTheIndex, NotesOnNothingAreHidden, PrivateHoldersAreHidden, SameRegistersSameSite, SitesAreOfAnswers};
+ghost use Rattle.reg_site.specs.Laws.{FilesStayInside, ListingsAreOfPages, MomentsStandOnTheIndex, NotesOnNothingAreHidden, PrivateHoldersAreUnpublished, SameRegistersSameSite, SitesAreOfAnswers};
 
 /// Two offices that publish the same registers publish the same bytes, with the same notes and the same
 /// history, whatever else they hold.
@@ -31,7 +31,7 @@ pub fn files_stay_inside()
 
 /// A private holder is shown as `Private`, with no organization and no address.
 pub fn private_holders_are_hidden()
-    ensures { PrivateHoldersAreHidden }
+    ensures { PrivateHoldersAreUnpublished }
 {}
 
 /// The picture of a registry shows its entries in at most 400 parts.

@@ -1,6 +1,6 @@
 //! The bytes of a file in portions.
 ghost use Rattle.std.specs.Prelude.{◌≡◌, ℕ, List, IfOk};
-ghost use Rattle.reg_site.specs.Portions.{Gives, after};
+ghost use Rattle.reg_site.specs.Portions.{GivesIfMore, after};
 
 use std::alloc::AllocError;
 
@@ -16,7 +16,7 @@ pub trait Portions {
     /// of memory is an error.
     fn push_next(&mut self, out: &mut Vec<u8>) -> Result<bool, AllocError>
         ensures { IfOk result
-            (λ more. Gives more out.old.items out.new.items (rest self.old) (rest self.new)) };
+            (λ more. GivesIfMore more out.old.items out.new.items (rest self.old) (rest self.new)) };
 }
 
 /// Bytes that stand whole.

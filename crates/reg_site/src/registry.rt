@@ -3,9 +3,9 @@ ghost use Rattle.std.specs.Prelude.{◌≡◌, ◌∷◌, [], codes, map, option
 ghost use Rattle.std.specs.Option.{option_copied};
 ghost use Rattle.reg_print.specs.Listing.{row_view};
 ghost use Rattle.reg_html.specs.Appended.{Appended, Shown};
-ghost use Rattle.reg_html.specs.Markup.{all_of, beside};
-ghost use Rattle.reg_html.specs.Table.{cell, head_cell, row, row_of, table_start};
-ghost use Rattle.reg_site.specs.Registry.{above_rows, description_cell, entry_columns, forms, intro, last_changed, links, name_of, registry_page, noted_row, page_left, range_row, ranges_table};
+ghost use Rattle.reg_html.specs.Markup.{all_of};
+ghost use Rattle.reg_html.specs.Table.{row, table_start};
+ghost use Rattle.reg_site.specs.Registry.{above_rows, described_row, description_cell, entry_columns, forms, intro, last_changed, links, name_of, registry_page, noted_row, page_left, range_row, ranges_table};
 ghost use Rattle.reg_site.specs.Summary.{summary};
 
 use crate::bar::push_bar;
@@ -195,6 +195,7 @@ fn push_forms<'a>(
     )
 }
 
+#[tactic(auto, using(reg_html::proofs::Pieces::joined))]
 fn push_ranges(out: &mut Vec<u8>, alloc: Global, ranges: &[Range]) -> Result<(), AllocError>
     ensures { OnOk result
         (Shown out.old.items out.new.items (ranges_table ranges.now)) }
@@ -209,6 +210,7 @@ fn push_ranges(out: &mut Vec<u8>, alloc: Global, ranges: &[Range]) -> Result<(),
     Ok(())
 }
 
+#[tactic(auto, using(reg_html::proofs::Pieces::appended_each))]
 fn push_range_rows(out: &mut Vec<u8>, alloc: Global, ranges: &[Range]) -> Result<(), AllocError>
     ensures { OnOk result
         (Shown out.old.items out.new.items (all_of (map range_row ranges.now))) }
@@ -309,6 +311,7 @@ fn name_of(alloc: Global, row: &ListingRow<'_>) -> Result<Option<String>, AllocE
     }
 }
 
+#[tactic(auto, using(reg_html::proofs::Pieces::joined))]
 fn push_entry_texts<'a>(
     out: &mut Vec<u8>,
     name: Option<&'a str>,
@@ -323,12 +326,9 @@ fn push_entry_texts<'a>(
 ) -> Result<(), AllocError>
     ensures { OnOk result
         (Shown out.old.items out.new.items
-        (row_of (option_map (λ n. n.now) name.entry)
-        (beside (head_cell (option_map (λ n. n.now) name.entry) values.now)
-        (beside (description_cell description.now (option_copied note.entry))
-        (all_of
-        (map cell
-        (status.now ∷ policy.now ∷ first.now ∷ expiry.now ∷ assignee.now ∷ []))))))) }
+        (described_row (option_map (λ n. n.now) name.entry) values.now description.now
+        (option_copied note.entry)
+        (status.now ∷ policy.now ∷ first.now ∷ expiry.now ∷ assignee.now ∷ []))) }
 {
     table::push_row_start(out, name)?;
     table::push_head(out, name, values)?;
@@ -339,6 +339,7 @@ fn push_entry_texts<'a>(
 }
 
 // What a value is for, and what is noted about it.
+#[tactic(auto, using(reg_html::proofs::Pieces::joined))]
 fn push_description(out: &mut Vec<u8>, words: &str, note: Option<&Note>) -> Result<(), AllocError>
     ensures { OnOk result
         (Shown out.old.items out.new.items (description_cell words.now (option_copied note.entry))) }

@@ -11,7 +11,7 @@ use Rattle.reg_tables.specs.Connection.{Stays, Works}
 use Rattle.reg_tables.specs.Faulting.{IsGivenUp}
 use Rattle.reg_statements.specs.Reading.{fault_of}
 use Rattle.reg_opening.proofs.Causes.{cause_later}
-use Rattle.reg_sql.specs.Failing.{IsCaused, IsFailed, IsMade}
+use Rattle.reg_sql.specs.Failing.{IsCaused, IsFailed, HadToWrite}
 use Rattle.reg_sql.specs.Troubles.{fault_trouble, refused_trouble}
 use Rattle.reg_sql.specs.declared.open.OpenFault.{OpenFault}
 use Rattle.reg_sql.specs.declared.open.OpenFault.TheVariants as refusals
@@ -22,7 +22,7 @@ module _ {S : Type 0} (g : Ghosts S) (Reported : Error → Type 0) (Refused : Ty
   -- what was to be made was given up
   pub given_up : (fresh : Bool) (old new : State) (Done : Database → Type 0) (error : Error) (fault : Given)
       → fault ≡ fault_of error
-      → (Works new → (seen : Database) → Done seen → IsMade fresh old.now seen)
+      → (Works new → (seen : Database) → Done seen → HadToWrite fresh old.now seen)
       → IsGivenUp Reported Done new error
       → IsFailed Reported Refused g fresh old new (refusals.Fault fault)
   given_up fresh old new Done error fault told made (inl reported) =
@@ -35,7 +35,7 @@ module _ {S : Type 0} (g : Ghosts S) (Reported : Error → Type 0) (Refused : Ty
       )
 
   -- what is made where no new office is wanted
-  unwanted : (fresh : Bool) (old seen : Database) → IsMade false old seen → IsMade fresh old seen
+  unwanted : (fresh : Bool) (old seen : Database) → HadToWrite false old seen → HadToWrite fresh old seen
   unwanted fresh old seen (inl founded) = absurd (true≢false (sym founded.wanted))
   unwanted fresh old seen (inr brought) = inr brought
 
@@ -44,9 +44,7 @@ module _ {S : Type 0} (g : Ghosts S) (Reported : Error → Type 0) (Refused : Ty
       → (Works new → Works mid) → (Works new → new.now ≡ mid.now)
       → IsFailed Reported Refused g false mid new refusal
       → IsFailed Reported Refused g fresh old new refusal
-  later fresh old mid new (refusals.Version n) first worked same failed = tt
   later fresh old mid new refusals.Busy first worked same failed = absurd failed
-  later fresh old mid new refusals.NotOurs first worked same failed = tt
   later fresh old mid new (refusals.Fault fault) first worked same (inl stopped) =
       inl (cause_later old mid new fault first (record { worked = worked; unchanged = same }) stopped)
   later fresh old mid new (refusals.Fault fault) first worked same (inr unkept) =
@@ -57,9 +55,10 @@ module _ {S : Type 0} (g : Ghosts S) (Reported : Error → Type 0) (Refused : Ty
             let seen = unkept.2 works in (
               seen.0,
               unwanted fresh old.now seen.0
-                  (subst (λ db. IsMade false db seen.0) (first.unchanged (worked works)) seen.1),
+                  (subst (λ db. HadToWrite false db seen.0) (first.unchanged (worked works)) seen.1),
             ),
       )
+  later fresh old mid new _ first worked same failed = tt
 
   pub failed_later : {A : Type 0} (fresh : Bool) (old mid new : State) (result : Result A OpenFault)
       → Stays old mid → (Works new → Works mid)
@@ -81,10 +80,8 @@ module _ {S : Type 0} (g : Ghosts S) (Reported : Error → Type 0) (Refused : Ty
   pub caused_by_refusal : (old new : State) (refusal : OpenFault)
       → IsFailed Reported Refused g false old new refusal
       → IsCaused Reported Refused g old new (refused_trouble refusal)
-  caused_by_refusal old new (refusals.Version n) failed = tt
-  caused_by_refusal old new refusals.Busy failed = tt
-  caused_by_refusal old new refusals.NotOurs failed = tt
   caused_by_refusal old new (refusals.Fault fault) failed = caused_by_fault old new fault failed
+  caused_by_refusal old new _ failed = tt
 
   pub caused_later : (old mid new : State) (trouble : Trouble) → Stays old mid
       → (Works new → Works mid) → (Works new → new.now ≡ mid.now)
@@ -93,13 +90,4 @@ module _ {S : Type 0} (g : Ghosts S) (Reported : Error → Type 0) (Refused : Ty
       later false old mid new (refusals.Fault faults.Memory) first worked same caused
   caused_later old mid new troubles.Store first worked same caused =
       later false old mid new (refusals.Fault faults.Store) first worked same caused
-  caused_later old mid new troubles.NoFile first worked same caused = tt
-  caused_later old mid new troubles.Unreadable first worked same caused = tt
-  caused_later old mid new troubles.Special first worked same caused = tt
-  caused_later old mid new troubles.Busy first worked same caused = tt
-  caused_later old mid new troubles.Unsteady first worked same caused = tt
-  caused_later old mid new troubles.Journal first worked same caused = tt
-  caused_later old mid new troubles.NoDatabase first worked same caused = tt
-  caused_later old mid new troubles.InTransaction first worked same caused = tt
-  caused_later old mid new (troubles.Version n) first worked same caused = tt
-  caused_later old mid new (troubles.NotOurs flaw) first worked same caused = tt
+  caused_later old mid new _ first worked same caused = tt

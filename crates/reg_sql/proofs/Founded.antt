@@ -24,28 +24,14 @@ use Rattle.reg_tables.specs.Making.{IsBlank, IsFounded, no_schema}
 use Rattle.reg_tables.specs.Schema.{office_schema}
 use Rattle.reg_tables.specs.Version.{newest, number_of}
 use Rattle.reg_tables.proofs.GrowLemmas.{none_before}
-use Rattle.reg_statements.specs.Content.{AreKept, HasVersion, IsStored, content, content_of, registry_table}
+use Rattle.reg_statements.specs.Content.{AreKept, HasVersionRow, IsStored, content, content_of, registry_table}
 use Rattle.reg_statements.specs.Tables.{Tables, tables_in}
 use Rattle.reg_sql.specs.Keeping.{KeepsOffice}
 use Rattle.reg_sql.specs.Opening.{HasNoTables}
 
 -- tables that are empty but for the version
 abbrev bare : List Row → Tables
-bare rows = record {
-  office = rows;
-  caps = [];
-  registries = [];
-  ranges = [];
-  entries = [];
-  requests = [];
-  queue = [];
-  advice = [];
-  pool = [];
-  blocks = [];
-  holds = [];
-  minutes = [];
-  agents = [];
-}
+bare rows = record (tables_in (λ t. [])) { office = rows }
 
 are_bare : (db : Database) → IsFounded db → tables_in db.trees ≡ bare (tables_in db.trees).office
 are_bare db it =
@@ -79,7 +65,7 @@ absent o none some = let gone = ap is_some none in absurd (cc)
 none : {K X : Type 0} {R : K → K → Ordering} {of : Row → Option (K × X)} → IsTable R of []
 none {R = R} {of = of} = (empty_table R of).0
 
-bare_kept : (rows : List Row) → HasVersion (number_of newest) rows → AreKept newest (bare rows)
+bare_kept : (rows : List Row) → HasVersionRow (number_of newest) rows → AreKept newest (bare rows)
 bare_kept rows version = record {
   whole = (version, search none);
   tied = record {
@@ -99,7 +85,7 @@ bare_content rows = λ i. record empty_world {
 }
 
 first_version : (db : Database) → IsFounded db
-    → HasVersion (number_of newest) (tables_in db.trees).office
+    → HasVersionRow (number_of newest) (tables_in db.trees).office
 first_version db it = (it.version.row, it.version.only, rw it.version.says refl)
 
 pub founded_stored : (db : Database) → IsFounded db → IsStored db

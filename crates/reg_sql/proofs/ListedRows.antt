@@ -9,7 +9,7 @@ use Rattle.std.proofs.lemmas.List.Elements.{All-map}
 use Rattle.reg_maps.proofs.MapLaws.{All-entries, Contains-keys, IsKeyOrder, get-select, number_keys, same_at}
 use Rattle.reg_blocks.specs.Block.{SizedPrefix, block_cmp, leading_24}
 use Rattle.reg_core.specs.Entry.{entry_row}
-use Rattle.reg_core.specs.Holding.{Shown, listed_row, listed_rows, masked, masked_blocks}
+use Rattle.reg_core.specs.Holding.{ShownHolding, listed_row, listed_rows, masked, masked_blocks}
 use Rattle.reg_core.specs.Page.{entry_rows}
 use Rattle.reg_core.specs.World.{Place, place_cmp}
 use Rattle.reg_core.specs.declared.entry.Registration.{Registration}
@@ -48,16 +48,16 @@ prefixes_listed m = ap from_entries (prefixes_again (entries m)) ∙ from_listed
 -- ---- Blocks
 
 -- blocks without their holders
-abbrev anyhow : SizedPrefix × Shown → SizedPrefix × Holder
+abbrev anyhow : SizedPrefix × ShownHolding → SizedPrefix × Holder
 anyhow e = (e.0, nobody)
 
-blocks_again : (es : List (SizedPrefix × Shown))
-    → map (λ (row : Listed). (row.block, nobody)) (map (λ (e : SizedPrefix × Shown). listed_row e.0 e.1) es)
+blocks_again : (es : List (SizedPrefix × ShownHolding))
+    → map (λ (row : Listed). (row.block, nobody)) (map (λ (e : SizedPrefix × ShownHolding). listed_row e.0 e.1) es)
     ≡ map anyhow es
 blocks_again [] = refl
 blocks_again (e ∷ es) = ap (λ more. anyhow e ∷ more) (blocks_again es)
 
-find-anyhow : (q : SizedPrefix) (es : List (SizedPrefix × Shown))
+find-anyhow : (q : SizedPrefix) (es : List (SizedPrefix × ShownHolding))
     → is_some (find block_cmp q (map anyhow es)) ≡ is_some (find block_cmp q es)
 find-anyhow q [] = refl
 find-anyhow q (e ∷ es) =
@@ -105,9 +105,9 @@ pub each_in_pool : (m : FinMap block_cmp Holder) (pool : FinSet nat_cmp)
     (listed_rows (masked_blocks m))
 each_in_pool m pool lies =
     All-map (λ (row : Listed). Contains (keys pool) (leading_24 row.block))
-    (λ (e : SizedPrefix × Shown). listed_row e.0 e.1) (entries (masked_blocks m))
+    (λ (e : SizedPrefix × ShownHolding). listed_row e.0 e.1) (entries (masked_blocks m))
     (All-entries block_keys.total
-    (λ (e : SizedPrefix × Shown). Contains (keys pool) (leading_24 e.0)) (masked_blocks m)
+    (λ (e : SizedPrefix × ShownHolding). Contains (keys pool) (leading_24 e.0)) (masked_blocks m)
     (λ block s is. at block (sym (contains-masked m block) ∙ ap is_some is)))
   where
     at : (block : SizedPrefix) → contains_key m block ≡ true

@@ -9,6 +9,7 @@ use Rattle.sqlite.specs.Table.{Table}
 use Rattle.sqlite.specs.Tree.{Trees}
 use Rattle.sqlite.specs.State.{State, HasCleanDisk}
 use Rattle.sqlite_schema.specs.Names.{same_name}
+use Rattle.sqlite_trees.proofs.ListLemmas.{all-append}
 use Rattle.reg_core.specs.WellKept.{WellKept}
 use Rattle.reg_core.specs.World.{empty_world}
 use Rattle.reg_keeper.specs.declared.keeper.Fault.{Fault as KeeperFault}
@@ -22,15 +23,15 @@ use Rattle.reg_tables.specs.Selecting.{BeginsWith}
 use Rattle.reg_tables.specs.Version.{later_than, newest, number_of, schema_of, table_count, tables_of}
 use Rattle.reg_tables.specs.declared.version.Version.{Version}
 use Rattle.reg_tables.specs.declared.version.Version.TheVariants.{First, Second, Third}
-use Rattle.reg_tables.proofs.HavingLemmas.{all_has}
+use Rattle.reg_tables.proofs.HavingLemmas.{all_has, version_found}
 use Rattle.reg_tables.proofs.Library.GrowingSchemas.{still_has}
 use Rattle.reg_tables.proofs.PartLemmas.{part_before}
 use Rattle.reg_tables.proofs.RestLemmas.{stays_held, stays_same}
 use Rattle.reg_migration.specs.Beside.{IsSole, UpgradesBeside}
 use Rattle.reg_statements.specs.Content.{IsStoredAs, content_at, content_of, world_in}
 use Rattle.reg_statements.proofs.Migrated.{migrated_same, version_is}
-use Rattle.reg_opening.specs.Opening.{FindsKind, HasVersionTables, ComesFirst, IsFoundAs, IsFree, IsOfVersion, IsOurs, kind_of}
-use Rattle.reg_opening.proofs.Versions.{both_all, first_begins, schema_first}
+use Rattle.reg_opening.specs.Opening.{FindsKind, HasVersionTables, ComesFirst, IsFoundAs, LeavesRoom, IsOfVersion, IsOurs, kind_of}
+use Rattle.reg_opening.proofs.Versions.{first_begins, schema_first}
 use Rattle.reg_opening.specs.declared.flaw.Flaw.{Flaw}
 use Rattle.reg_opening.specs.declared.kind.Found.{Found}
 use Rattle.reg_opening.specs.declared.kind.Found.TheVariants as finding
@@ -72,16 +73,13 @@ module _ (fresh : Bool) (old new : State) (idle : IsIdle old) (rest : IsIdle new
 not_free : (v : Version) (schema : Schema) → schema ≡ schema_of v → ¬ AreFree schema
 unfolding same_name
 not_free First schema is free = let taken = (subst AreFree is free).0 in absurd (cc)
-not_free Second schema is free = let taken = (subst AreFree is free).0 in absurd (cc)
-not_free Third schema is free = let taken = (subst AreFree is free).0 in absurd (cc)
+not_free _ schema is free = let taken = (subst AreFree is free).0 in absurd (cc)
 
 -- so are they where they are found
 finds_used : (v : Version) (schema : Schema) → FindsTablesOf v schema → ¬ AreFree schema
 finds_used First schema finds is =
     let named = finds.0.has.named in let free = rw named at is.0 in absurd (cc)
-finds_used Second schema finds is =
-    let named = finds.0.has.named in let free = rw named at is.0 in absurd (cc)
-finds_used Third schema finds is =
+finds_used _ schema finds is =
     let named = finds.0.has.named in let free = rw named at is.0 in absurd (cc)
 
 module _ (old new : State) (idle : IsIdle old) (free : AreFree old.now.schema) where
@@ -129,49 +127,27 @@ module _ (old new : State) (idle : IsIdle old) (free : AreFree old.now.schema) w
 
 -- ---- An office that is there
 
--- no schema has the tables of one version, and is that of another
-only_version : (v u : Version) (schema : Schema) → schema ≡ schema_of u
-    → FindsTablesOf v schema × AreFreeLater v schema → u ≡ v
-unfolding same_name
-only_version First First schema is tables = refl
-only_version First Second schema is tables =
-    let free = (subst (AreFreeLater First) is tables.1).0 in absurd (cc)
-only_version First Third schema is tables =
-    let free = (subst (AreFreeLater First) is tables.1).0 in absurd (cc)
-only_version Second First schema is tables =
-    let named = (subst (FindsTablesOf Second) is tables.0).1.1.1.1.1.1.1.1.1.1.0.has.named in
-    absurd (cc)
-only_version Second Second schema is tables = refl
-only_version Second Third schema is tables =
-    let free = (subst (AreFreeLater Second) is tables.1).0 in absurd (cc)
-only_version Third First schema is tables =
-    let named = (subst (FindsTablesOf Third) is tables.0).1.1.1.1.1.1.1.1.1.1.0.has.named in
-    absurd (cc)
-only_version Third Second schema is tables =
-    let named = (subst (FindsTablesOf Third) is tables.0).1.1.1.1.1.1.1.1.1.1.1.1.0.has.named in
-    absurd (cc)
-only_version Third Third schema is tables = refl
-
--- nor is it said to have the tables of two versions
+-- no schema is said to have the tables of two versions
 one_version : (v u : Version) (schema : Schema) → FindsTablesOf v schema × AreFreeLater v schema
     → FindsTablesOf u schema × AreFreeLater u schema → u ≡ v
 one_version First First schema a b = refl
-one_version First Second schema a b =
+one_version First _ schema a b =
     let named = b.0.1.1.1.1.1.1.1.1.1.1.0.has.named in let free = rw named at a.1.0 in absurd (cc)
-one_version First Third schema a b =
-    let named = b.0.1.1.1.1.1.1.1.1.1.1.0.has.named in let free = rw named at a.1.0 in absurd (cc)
-one_version Second First schema a b =
+one_version _ First schema a b =
     let named = a.0.1.1.1.1.1.1.1.1.1.1.0.has.named in let free = rw named at b.1.0 in absurd (cc)
 one_version Second Second schema a b = refl
 one_version Second Third schema a b =
     let named = b.0.1.1.1.1.1.1.1.1.1.1.1.1.0.has.named in
     let free = rw named at a.1.0 in absurd (cc)
-one_version Third First schema a b =
-    let named = a.0.1.1.1.1.1.1.1.1.1.1.0.has.named in let free = rw named at b.1.0 in absurd (cc)
 one_version Third Second schema a b =
     let named = a.0.1.1.1.1.1.1.1.1.1.1.1.1.0.has.named in
     let free = rw named at b.1.0 in absurd (cc)
 one_version Third Third schema a b = refl
+
+-- nor to have those of one, where it is that of another
+only_version : (v u : Version) (schema : Schema) → schema ≡ schema_of u
+    → FindsTablesOf v schema × AreFreeLater v schema → u ≡ v
+only_version v u schema is tables = one_version v u schema tables (version_found u schema is)
 
 -- tables that were there are there where others came
 all_still : {n m : ℕ} {old new : Schema} (all : List Table) → Extends n m old new
@@ -184,16 +160,14 @@ brought : (v : Version) (old new : Schema) → FindsTablesOf v old
     → GainsTables (later_than v) old new → HasTables new
 brought v old new finds gained =
     subst (AllByRecursion (HasTable new)) (take-append-drop (table_count v) office_schema.tables)
-    (both_all (HasTable new) (tables_of v) (later_than v)
+    (all-append (HasTable new) (tables_of v) (later_than v)
     (all_still (tables_of v) gained.extends (all_has old (tables_of v) finds)) gained.has)
 
 none_there : (v : Version) (schema : Schema) → schema ≡ no_schema → ¬ FindsTablesOf v schema
 none_there First schema is finds =
     let named = (subst (FindsTablesOf First) is finds).0.has.named in absurd (cc)
-none_there Second schema is finds =
-    let named = (subst (FindsTablesOf Second) is finds).0.has.named in absurd (cc)
-none_there Third schema is finds =
-    let named = (subst (FindsTablesOf Third) is finds).0.has.named in absurd (cc)
+none_there v schema is finds =
+    let named = (subst (FindsTablesOf v) is finds).0.has.named in absurd (cc)
 
 -- ---- Where the tables of a version come first
 
@@ -222,8 +196,7 @@ first_tree schema (t ∷ tables) is front has =
 first_keyed : (v : Version) (trees : Trees)
     → AllByRecursion (λ (t : Table). AreKeyed (trees t.tree)) (tables_of v) → AreKeyed (trees 0)
 first_keyed First trees all = all.0
-first_keyed Second trees all = all.0
-first_keyed Third trees all = all.0
+first_keyed _ trees all = all.0
 
 office_keyed : (v : Version) (db : Database) (has : HasTable db.schema office_table)
     → BeginsWith (table_count v) db.schema → ComesFirst v db → AreKeyed (db.trees has.table.tree)
@@ -267,7 +240,7 @@ module _ (fresh : Bool) (old new : State) (idle : IsIdle old) {E : Type 0} (f : 
     ours_was w alone = (told (finding.Ours v free) is w).1 alone
 
     free_was : Works new → old.now.schema ≡ schema_of v → AreVacanciesOf (content_at v old.now) free
-    free_was w alone = (subst (IsFree old.now) is (finds.free w)) (schema_first v alone)
+    free_was w alone = (subst (LeavesRoom old.now) is (finds.free w)) (schema_first v alone)
 
     -- its rows are an office's where its tables come first
     first_was : Works new → (u : Version) → HasVersionTables u old.now

@@ -1,8 +1,8 @@
 -- What one try to copy files reads.
 use Rattle.std.proofs.Common.{◌≡◌, Bool, IsTrue, false, true≢false, sym, List, ℕ, [], ◌∷◌, ◌++◌, ap, append_assoc, refl, subst, ◌∙◌}
-use Rattle.reg_sql.specs.Steady.{File, Header, IsReadAgain, IsSteadyTry, IsUnsteadyTry, Log, Reading, Try, readings_of}
+use Rattle.reg_sql.specs.Steady.{File, Header, IsReadAgain, IsSteadyTry, IsUnsteadyTry, Log, CopyReading, Try, readings_of}
 
-module _ (header file log : List ℕ) (same : Bool) (old first second third new : List Reading)
+module _ (header file log : List ℕ) (same : Bool) (old first second third new : List CopyReading)
     (of_header : first ≡ old ++ Header header ∷ []) (of_file : second ≡ first ++ File file ∷ [])
     (of_log : third ≡ second ++ Log log ∷ []) (again : IsReadAgain header file same third new) where
   abbrev tried : Try
@@ -16,7 +16,7 @@ module _ (header file log : List ℕ) (same : Bool) (old first second third new 
 
   in_turn : new ≡ old ++ readings_of tried
   in_turn =
-      let rest : List Reading = File again.later_file ∷ Header again.later_header ∷ [] in
+      let rest : List CopyReading = File again.later_file ∷ Header again.later_header ∷ [] in
       again.read
       ∙ ap (λ l. l ++ rest)
       (of_log ∙ ap (λ l. l ++ Log log ∷ []) (of_file ∙ ap (λ l. l ++ File file ∷ []) of_header))
@@ -31,7 +31,7 @@ module _ (header file log : List ℕ) (same : Bool) (old first second third new 
   unsteady isnt = (tried, in_turn, λ is. true≢false (sym (again.told.1 is) ∙ isnt))
 
 -- the same, of bytes that are these
-pub of_these : (h header f file : List ℕ) (same : Bool) (old new : List Reading) → h ≡ header → f ≡ file
+pub of_these : (h header f file : List ℕ) (same : Bool) (old new : List CopyReading) → h ≡ header → f ≡ file
     → IsReadAgain h f same old new → IsReadAgain header file same old new
 of_these h header f file same old new is_header is_file again =
     subst (λ (x : List ℕ). IsReadAgain header x same old new) is_file

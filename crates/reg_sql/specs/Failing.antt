@@ -13,7 +13,7 @@ use Rattle.reg_tables.specs.Making.{Founds}
 use Rattle.reg_tables.specs.Version.{later_than, newest}
 use Rattle.reg_tables.specs.declared.version.Version.{Version}
 use Rattle.reg_statements.specs.Reading.{fault_of}
-use Rattle.reg_opening.specs.Opening.{IsFoundAs, IsStopped}
+use Rattle.reg_opening.specs.Opening.{IsFoundAs, OpeningIsStopped}
 use Rattle.reg_opening.specs.declared.kind.StoreKind.TheVariants as kinds
 use Rattle.reg_sql.specs.declared.open.OpenFault.{OpenFault}
 use Rattle.reg_sql.specs.declared.open.OpenFault.TheVariants as refusals
@@ -34,21 +34,21 @@ pub record BringsOlder (old seen : Database) : Type 0 where
   pub gained : GainsTables (later_than version) old.schema seen.schema
 
 -- the store was one that an opening writes, and this was written
-abbrev pub IsMade : Bool → Database → Database → Type 0
-IsMade fresh old seen = FoundsWanted fresh old seen ⊎ BringsOlder old seen
+abbrev pub HadToWrite : Bool → Database → Database → Type 0
+HadToWrite fresh old seen = FoundsWanted fresh old seen ⊎ BringsOlder old seen
 
 -- the fault tells an error that came when all was made, and then not committed
 abbrev pub IsUnkept : Bool → State → State → Given → Type 0
 IsUnkept fresh old new fault =
     (error : Error) × (fault ≡ fault_of error)
-    × (Works new → (seen : Database) × IsMade fresh old.now seen)
+    × (Works new → (seen : Database) × HadToWrite fresh old.now seen)
 
 -- A fault has a cause: that of a call that finds what a store is, or what was made was not committed.
 -- So a store that an opening only reads has the first alone. No other has a store open that was opened.
 abbrev pub IsFailed : {S : Type 0} → (Error → Type 0) → Type 0 → Ghosts S → Bool → State → State
     → OpenFault → Type 0
 IsFailed Reported Refused g fresh old new (refusals.Fault fault) =
-    IsStopped Reported Refused g old new fault ⊎ IsUnkept fresh old new fault
+    OpeningIsStopped Reported Refused g old new fault ⊎ IsUnkept fresh old new fault
 IsFailed Reported Refused g fresh old new refusals.Busy = ⊥
 IsFailed Reported Refused g fresh old new (refusals.Version n) = Unit {0}
 IsFailed Reported Refused g fresh old new refusals.NotOurs = Unit {0}

@@ -154,7 +154,7 @@ refusal_of _ = refusals.Fault Store
 
 module _ {D : Type 0} {g : disk.Ghosts D} where
   -- files that held this were opened and read, and the library says why they are no store
-  pub record IsUnread (image : Image) (left : Leftover D g) (error : Error) : Type 0 where
+  pub record OpeningIsUnread (image : Image) (left : Leftover D g) (error : Error) : Type 0 where
     pub files : Files D
     pub held : image_of g files ≡ image
     pub cause : FailsToOpenFiles files left error
@@ -165,7 +165,7 @@ module _ {D : Type 0} {g : disk.Ghosts D} where
       (error ≡ SqliteFailure CannotOpen)
       ⊎ ((error ≡ SqliteFailure OutOfMemory) ⊎ (error ≡ SqliteFailure DatabaseBusy))
   IsUnopened image (Some left) error =
-      IsTrue (is_open_error error) × (IsCleanLeft left → IsUnread image left error)
+      IsTrue (is_open_error error) × (IsCleanLeft left → OpeningIsUnread image left error)
 
 -- what was found first in files that held this, where the disk returned it: it is open, and no
 -- transaction is
@@ -203,7 +203,7 @@ module _ {C L : Type 0} (state : C → State) (Opens : Result C (Error × L) →
 
   -- why there is none: the store that was opened is refused; or none was, and the refusal is what the
   -- error is to an office
-  abbrev pub IsRefusedBy : Bool → OpenFault → Result C (Error × L) → Type 0
-  IsRefusedBy fresh refusal (Ok left) =
+  abbrev pub RefusesOpening : Bool → OpenFault → Result C (Error × L) → Type 0
+  RefusesOpening fresh refusal (Ok left) =
       (opened : C) × Opens (Ok opened) × IsRefusedOf fresh refusal (state opened) (state left)
-  IsRefusedBy fresh refusal (Err failed) = Opens (Err failed) × (refusal ≡ refusal_of failed.0)
+  RefusesOpening fresh refusal (Err failed) = Opens (Err failed) × (refusal ≡ refusal_of failed.0)

@@ -9,7 +9,7 @@ use Rattle.sqlite_store.specs.declared.store.FileStore.{FileStore}
 use Rattle.sqlite_wal.specs.Recovery.{Image}
 use Rattle.reg_sql.specs.Looking.{IsOfCopies}
 use Rattle.reg_sql.specs.Opening.{IsFoundFirst}
-use Rattle.reg_sql.specs.Steady.{IsCopied, Reading}
+use Rattle.reg_sql.specs.Steady.{IsCopiedWhole, CopyReading}
 use Rattle.reg_sql.specs.declared.trouble.Trouble.{Trouble}
 
 -- a log and a database file with these bytes
@@ -41,8 +41,8 @@ pub record IsWorkedIn (image : Image) (bytes : List ℕ) : Type 0 where
 
 -- A database file with these bytes holds, with no log, what was found in a file and its log, as a steady
 -- try read them; fewer than so many tries before it were not steady.
-pub record IsTakenFrom (most : ℕ) (old new : List Reading) (bytes : List ℕ) : Type 0 where
+pub record IsTakenFrom (most : ℕ) (old new : List CopyReading) (bytes : List ℕ) : Type 0 where
   pub log : List ℕ
   pub file : List ℕ
-  pub copied : IsCopied most log file old new
+  pub copied : IsCopiedWhole most log file old new
   pub worked_in : IsWorkedIn (image_with log file) bytes

@@ -41,7 +41,7 @@ opening_fault Memory = refusals.Fault faults.Memory
 opening_fault Store = refusals.Fault faults.Store
 
 -- a store is given up as it is refused, and left as it was
-pub record IsGivenUp (old new : State) (trouble : Trouble) : Type 0 where
+pub record OpeningIsGivenUp (old new : State) (trouble : Trouble) : Type 0 where
   pub refusal : OpenFault
   pub told : trouble ≡ refused_trouble refusal
   pub refused : IsRefusedOf false refusal old new

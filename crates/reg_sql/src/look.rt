@@ -9,7 +9,7 @@ ghost use Rattle.reg_opening.specs.Opening.{IsOfVersion, IsOurs};
 ghost use Rattle.reg_sql.specs.Failing.{IsCaused, IsCausedIn};
 ghost use Rattle.reg_sql.specs.Looking.{CopiesFiles, IsSeenIn, IsUnseenIn};
 ghost use Rattle.reg_sql.specs.Opening.{IsOpened};
-ghost use Rattle.reg_sql.specs.Troubles.{IsGivenUp, IsTrouble};
+ghost use Rattle.reg_sql.specs.Troubles.{OpeningIsGivenUp, IsTrouble};
 
 use crate::copier::{Copier, SystemCopies};
 use crate::keeper::SqlKeeper;
@@ -127,7 +127,7 @@ fn adopted<S: Opens + Drop>(
     ensures worked { IfOk result (λ look. Works (state S.Store look.keeper.tables)
         → Works (state S.Store conn)) }
     ensures refused { IfErr result (λ refusal.
-        IsGivenUp (state S.Store conn) (state S.Store refusal.1) refusal.0) }
+        OpeningIsGivenUp (state S.Store conn) (state S.Store refusal.1) refusal.0) }
     ensures cause { IfErr result (λ refusal. IsCaused S.Reported (S.Unloaded ⊎ S.Ungrown) S.Store
         (state S.Store conn) (state S.Store refusal.1) refusal.0) }
 {

@@ -17,7 +17,7 @@ ghost use Rattle.reg_opening.specs.declared.kind.StoreKind.TheVariants as kinds;
 ghost use Rattle.reg_sql.specs.Failing.{IsFailed, IsFailedBy};
 ghost use Rattle.reg_sql.specs.Keeping.{IsHonest, KeepsOffice};
 ghost use Rattle.reg_sql.specs.Opening.{Brings, HasNoTables, IsAsItWas, IsOpened, IsOpenedBy, IsRefused};
-ghost use Rattle.reg_sql.specs.Opening.{IsRefusedBy, IsTakenOver, StandsAlone, TakesOver};
+ghost use Rattle.reg_sql.specs.Opening.{RefusesOpening, IsTakenOver, StandsAlone, TakesOver};
 ghost use Rattle.reg_sql.specs.Opening.{refusal_of};
 ghost use Rattle.reg_sql.specs.declared.open.OpenFault.TheVariants as refusals;
 
@@ -218,7 +218,7 @@ pub fn open_by<O: Opener>(
     ensures office { IfOk result (λ keeper.
         IsOpenedBy (state O.Base.Store) (O.Opens path.now) fresh keeper.tables) }
     ensures refused { IfErr result (λ refusal.
-        IsRefusedBy (state O.Base.Store) (O.Opens path.now) fresh refusal.0 refusal.1) }
+        RefusesOpening (state O.Base.Store) (O.Opens path.now) fresh refusal.0 refusal.1) }
     ensures cause { IfErr result (λ refusal. IsFailedBy O.Base.Reported
         (O.Base.Unloaded ⊎ O.Base.Ungrown) O.Base.Store (O.Opens path.now) fresh refusal.0 refusal.1) }
 {

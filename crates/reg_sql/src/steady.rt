@@ -3,7 +3,7 @@ ghost use Rattle.std.specs.Prelude.{◌≡◌, ◌∷◌, ◌++◌, [], IsTrue, 
 ghost use Rattle.std.specs.Bool.{Decides};
 ghost use Rattle.sqlite_disk.specs.Memory.{memory_bytes, memory_is_usable};
 ghost use Rattle.reg_sql.specs.Looking.{IsOfCopies, IsOfReading};
-ghost use Rattle.reg_sql.specs.Steady.{AreUnsteady, File, Header, IsCopied, IsReadAgain, IsSteadyTry, IsUnsteadyTry, Log};
+ghost use Rattle.reg_sql.specs.Steady.{AreUnsteady, File, Header, IsCopiedWhole, IsReadAgain, IsSteadyTry, IsUnsteadyTry, Log};
 ghost use Rattle.reg_sql.specs.declared.trouble.Trouble.TheVariants.{Unsteady};
 
 use crate::trouble::Trouble;
@@ -17,13 +17,13 @@ pub const TRIES: u32 = 10;
 /// An office's file and its log, which are read, and which another may be writing meanwhile.
 pub trait Original {
     ghost use Rattle.std.specs.Prelude.{ℕ, List, [] as nothing};
-    ghost use Rattle.reg_sql.specs.Steady.{Reading};
+    ghost use Rattle.reg_sql.specs.Steady.{CopyReading};
 
     /// Whether what follows is known.
     ghost Tells: { Type 0 } = { ⊥ };
 
     /// What was read so far, in turn.
-    ghost readings: { Self → List Reading } = { λ _. nothing };
+    ghost readings: { Self → List CopyReading } = { λ _. nothing };
 
     /// The header of the log, as it is now: its first 32 bytes, or fewer if it has no more. Empty
     /// where there is no log.
@@ -52,7 +52,7 @@ pub trait Original {
 pub fn steady_copy<O: Original>(alloc: Global, original: &mut O) -> Result<Files<Memory>, Trouble>
     ensures usable { IfOk result (λ files. IsTrue (memory_is_usable files.log)
         × IsTrue (memory_is_usable files.db)) }
-    ensures copied { O.Tells → IfOk result (λ files. IsCopied TRIES (memory_bytes files.log)
+    ensures copied { O.Tells → IfOk result (λ files. IsCopiedWhole TRIES (memory_bytes files.log)
         (memory_bytes files.db) (O.readings original.old) (O.readings original.new)) }
     ensures unsteady { O.Tells → IfErr result (λ why. why ≡ Unsteady
         → AreUnsteady TRIES (O.readings original.old) (O.readings original.new)) }

@@ -23,8 +23,8 @@ use Rattle.reg_records.specs.Requests.Forms.{gives_its_kind}
 use Rattle.reg_core.specs.Minutes.{is_bare}
 use Rattle.reg_core.proofs.KeyOrders.{name_keys, place_keys}
 use Rattle.reg_records.specs.Requests.Reading.{request_in}
-use Rattle.reg_records.proofs.EntryLaws.{entry_formed}
-use Rattle.reg_records.proofs.RequestLaws.Rows.{request_formed}
+use Rattle.reg_records.proofs.EntryLaws.{entries_kept}
+use Rattle.reg_records.proofs.RequestLaws.Rows.{requests_kept}
 use Rattle.reg_tables.specs.Selecting.{stored}
 use Rattle.reg_statements.specs.Content.{AreBare, AreUnheld, case_at, registration_at}
 
@@ -62,7 +62,7 @@ row_unheld row place a = go (entry_in (stored 7 row)) refl
     go None was is = absurd (cc)
     go (Some e) was is =
         let form = and_parts (has_entry_form (e.registry, e.value) (registration_in e))
-        (not e.term.held) (entry_formed (stored 7 row) e was) in
+        (not e.term.held) (entries_kept.formed (stored 7 row) e was) in
         let same : registration_in e ≡ a =
         ap (λ (p : Place × Registration). p.1) (same_Some _ _ is) in
         subst (λ (a : Registration). a.term.held ≡ false) same (not-true e.term.held form.1)
@@ -83,7 +83,7 @@ row_bare row name case = go (request_in (stored 25 row)) refl
     go None was is = absurd (cc)
     go (Some r) was is =
         let form = and_parts (has_request_form (r.account, r.reference) (case_of r)
-        && gives_its_kind r.ask r.state) (is_bare r.ask) (request_formed (stored 25 row) r was) in
+        && gives_its_kind r.ask r.state) (is_bare r.ask) (requests_kept.formed (stored 25 row) r was) in
         let same : case_of r ≡ case =
         ap (λ (p : RequestName × Case). p.1) (same_Some _ _ is) in
         subst (λ (case : Case). is_bare case.ask ≡ true) same form.1

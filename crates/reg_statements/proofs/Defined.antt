@@ -27,14 +27,14 @@ use Rattle.reg_maps.proofs.RowMaps.Tables as tables
 use Rattle.reg_tables.specs.Editing.{AltersRows, IsOffice, LosesRows, has_all}
 use Rattle.reg_tables.specs.Inserting.{AddedRow}
 use Rattle.reg_tables.specs.Putting.{PutRow}
-use Rattle.reg_tables.specs.Selecting.{BeginsWith, Selects, columns_of, equals, passes, shows, stored}
+use Rattle.reg_tables.specs.Selecting.{BeginsWith, SelectsFrom, columns_of, equals, passes, shows, stored}
 use Rattle.reg_tables.specs.Values.{same_value}
 use Rattle.reg_tables.specs.Version.{newest}
 use Rattle.reg_tables.proofs.EditLemmas.Tables.{office_after_change, office_after_loss}
 use Rattle.reg_tables.proofs.SelectLemmas.{office_begins, selected, shows_columns}
 use Rattle.reg_tables.proofs.ValueLemmas.{passes_equals}
 use Rattle.reg_statements.specs.Content.{AreTied, AreWhole, IsStored, parts_in, parts_of}
-use Rattle.reg_statements.specs.Defined.{Chooses, Finds, ShowsAll, IsDefined, IsFound, IsFree, KeepsTies, rows_where, with_changed, with_row, without_row}
+use Rattle.reg_statements.specs.Defined.{Chooses, ChoosesRowOf, ShowsAll, IsDefined, IsFound, HasFreeKey, KeepsTies, rows_where, with_changed, with_row, without_row}
 use Rattle.reg_statements.specs.Loading.{IsAscending, ReadAs}
 use Rattle.reg_statements.specs.Parts.{Parts, TableDef, cells_of, pairs, same_cells}
 use Rattle.reg_statements.specs.Tables.{OthersStay}
@@ -85,8 +85,8 @@ module _ {T K X : Type 0} (d : TableDef T K X) (l : IsDefined d) where
   -- ---- What a query chooses
 
   pub by_key : (sql : List ℕ) (up : List (Term × Key)) (k : K)
-      → Selects (d.slot + 1) sql d.table.tree (equals (pairs d.key.width)) (columns_of d.width) up
-      → Finds d sql (d.key.cells k) k
+      → SelectsFrom (d.slot + 1) sql d.table.tree (equals (pairs d.key.width)) (columns_of d.width) up
+      → ChoosesRowOf d sql (d.key.cells k) k
   by_key sql up k selects = record {
     tests = equals (pairs d.key.width);
     order = up;
@@ -101,7 +101,7 @@ module _ {T K X : Type 0} (d : TableDef T K X) (l : IsDefined d) where
       → ((row : Row) → has_all (cells_of n params) row
       ≡ same_cells (take n (stored d.width row)) params)
       → ((t : T) → same_cells (take n (d.values t)) params ≡ p (d.pair t).0 (d.pair t).1)
-      → Selects (d.slot + 1) sql d.table.tree (equals (pairs n)) (columns_of d.width) up
+      → SelectsFrom (d.slot + 1) sql d.table.tree (equals (pairs n)) (columns_of d.width) up
       → Chooses d sql params p
   by_first sql up n params p tests same selects = record {
     tests = equals (pairs n);
@@ -113,7 +113,7 @@ module _ {T K X : Type 0} (d : TableDef T K X) (l : IsDefined d) where
   }
 
   pub by_all : (sql : List ℕ) (up : List (Term × Key))
-      → Selects (d.slot + 1) sql d.table.tree [] (columns_of d.width) up
+      → SelectsFrom (d.slot + 1) sql d.table.tree [] (columns_of d.width) up
       → Chooses d sql [] (λ k x. true)
   by_all sql up selects =
       record { tests = []; order = up; selects = selects; agree = λ row t is. refl }
@@ -245,7 +245,7 @@ module _ {T K X : Type 0} (d : TableDef T K X) (l : IsDefined d) where
   -- one row more
   pub row_added : (t : T) (old new : Database) → d.form t ≡ true
       → AddedRow d.table.tree (d.values t) old new × IsOffice new → IsStored old
-      → IsFree d t (parts_of old) → KeepsTies (with_row d t) (parts_of old)
+      → HasFreeKey d t (parts_of old) → KeepsTies (with_row d t) (parts_of old)
       → IsStored new × (parts_of new ≡ with_row d t (parts_of old))
   row_added t old new form row was none ties =
       let is = l.part old.trees in

@@ -1,7 +1,7 @@
 -- An older office holds the same when its tables are the newest's.
 use Rattle.std.proofs.Common.{◌≡◌, ℤ, List, drop, Some, sym, ap, subst}
 use Rattle.std.specs.List.{AllByRecursion}
-use Rattle.sqlite.specs.declared.types.Value.TheVariants.{Blob, Int, Null, Real, Text}
+use Rattle.sqlite.specs.declared.types.Value.TheVariants.{Int}
 use Rattle.sqlite.specs.Effect.{Database}
 use Rattle.sqlite.specs.Order.{Row}
 use Rattle.sqlite.specs.Tree.{Trees}
@@ -12,9 +12,9 @@ use Rattle.reg_tables.specs.Making.{IsMigrated}
 use Rattle.reg_tables.specs.Schema.{office_schema, office_table}
 use Rattle.reg_tables.specs.Version.{newest, number_of, rows_of}
 use Rattle.reg_tables.specs.declared.version.Version.{Version}
-use Rattle.reg_tables.specs.declared.version.Version.TheVariants.{First, Second, Third}
+use Rattle.reg_tables.specs.declared.version.Version.TheVariants.{First}
 use Rattle.reg_tables.proofs.MigrateLemmas.{rows_migrated}
-use Rattle.reg_statements.specs.Content.{AreKept, HasVersion, IsStored, IsStoredAs}
+use Rattle.reg_statements.specs.Content.{AreKept, HasVersionRow, IsStored, IsStoredAs}
 use Rattle.reg_statements.specs.Content.{content, content_at}
 use Rattle.reg_statements.specs.Tables.{Tables, tables_in}
 
@@ -39,20 +39,17 @@ tables_same held new rows = λ i. record {
 }
 
 kept_with : (v w : Version) (t : Tables) (rows : List Row) → AreKept v t
-    → HasVersion (number_of w) rows → AreKept w (record t { office = rows })
+    → HasVersionRow (number_of w) rows → AreKept w (record t { office = rows })
 kept_with v w t rows kept version =
     record { whole = (version, kept.whole.1); tied = kept.tied }
 
 -- ---- What is asked of a migration
 
 int_is : (value : Value) (n : ℤ) → int_in value ≡ Some n → value ≡ Int n
-int_is Null n e = absurd (cc)
 int_is (Int m) n e = let same : m ≡ n = cc in ap Int same
-int_is (Real x) n e = absurd (cc)
-int_is (Text t) n e = absurd (cc)
-int_is (Blob b) n e = absurd (cc)
+int_is _ n e = absurd (cc)
 
-pub version_is : (n : ℤ) (rows : List Row) → HasVersion n rows → making.HasVersion n rows
+pub version_is : (n : ℤ) (rows : List Row) → HasVersionRow n rows → making.HasVersion n rows
 version_is n rows version = record {
   row = version.0;
   only = version.1;
@@ -62,8 +59,7 @@ version_is n rows version = record {
 pub stored_version : (v : Version) (db : Database) → IsStoredAs v db
     → making.HasVersion (number_of v) (db.trees office_table.tree)
 stored_version First db stored = version_is _ _ stored.kept.whole.0
-stored_version Second db stored = version_is _ _ stored.kept.whole.0
-stored_version Third db stored = version_is _ _ stored.kept.whole.0
+stored_version _ db stored = version_is _ _ stored.kept.whole.0
 
 -- ---- What it leaves
 

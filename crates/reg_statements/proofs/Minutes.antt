@@ -6,7 +6,7 @@ use Rattle.reg_maps.proofs.MapLaws.{get-at_insert, get-inserted}
 use Rattle.reg_maps.proofs.Mapped.{get-mapped, mapped-but, mapped-insert, mapped-same, mapped-update}
 use Rattle.reg_core.specs.World.{RequestName, in_state, name_cmp}
 use Rattle.reg_core.specs.declared.ask.Ask.{Ask}
-use Rattle.reg_core.specs.declared.ask.Ask.TheVariants.{Code, Early, Renew, Permanent, Block}
+use Rattle.reg_core.specs.declared.ask.Ask.TheVariants.{Code, Renew}
 use Rattle.reg_core.specs.declared.request.Case.{Case}
 use Rattle.reg_core.specs.declared.request.State.{State}
 use Rattle.reg_core.specs.Minutes.{ask_with, is_bare, with_minute}
@@ -18,19 +18,13 @@ use Rattle.reg_statements.specs.Content.{AreBare, minuted}
 ask_with-again : (minute other : Option (List ℕ)) (a : Ask)
     → ask_with minute a ≡ ask_with minute (ask_with other a)
 ask_with-again minute other (Code a) = refl
-ask_with-again minute other (Early a) = refl
-ask_with-again minute other (Renew a) = refl
-ask_with-again minute other (Permanent a) = refl
-ask_with-again minute other (Block a) = refl
+ask_with-again minute other _ = refl
 
 -- an ask without a minute is itself without one
 ask_with-bare : (a : Ask) → is_bare a ≡ true → ask_with None a ≡ a
-ask_with-bare (Code a) e = refl
-ask_with-bare (Early a) e = refl
 ask_with-bare (Renew a) e =
     ap (λ minute. Renew (record a { iesg = minute })) (sym (no_minute a.iesg e))
-ask_with-bare (Permanent a) e = refl
-ask_with-bare (Block a) e = refl
+ask_with-bare _ e = refl
 
 -- a request as it stands beside the minutes
 abbrev by_minutes : FinMap name_cmp (List ℕ) → RequestName → Case → Case

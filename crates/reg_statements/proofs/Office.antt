@@ -1,10 +1,14 @@
 -- The definitions of an office's tables are right.
-use Rattle.std.proofs.Common.{◌≡◌, ℕ, pos, ◌==◌, Bool, true, false, ◌&&◌, ◌∷◌, bytes_eq, refl, ap, ◌∙◌, arith}
+use Rattle.std.proofs.Common.{◌≡◌, ℕ, pos, ◌==◌, Bool, true, false, ◌&&◌, List, ◌∷◌, take, bytes_eq}
+use Rattle.std.proofs.Common.{Some, option_map, refl, ap, ◌∙◌, arith}
 use Rattle.std.proofs.Math.Bool.{and-true}
 use Rattle.std.proofs.lemmas.Bool.Decides.{nat_tests}
 use Rattle.std.specs.Ordering.{eq_by_cmp, int_eq, nat_cmp}
+use Rattle.sqlite.specs.Order.{Row}
+use Rattle.sqlite.specs.Tree.{Trees}
 use Rattle.sqlite.specs.declared.types.Value.{Value}
 use Rattle.reg_maps.specs.Maps.{text_cmp}
+use Rattle.reg_maps.specs.RowMaps.{IsTable, held_in}
 use Rattle.reg_maps.proofs.MapLaws.{number_keys, text_keys}
 use Rattle.reg_maps.proofs.KeyTests.{pair_test, text_test}
 use Rattle.reg_blocks.specs.Block.{first_address}
@@ -15,25 +19,30 @@ use Rattle.reg_core.specs.declared.ask.Ask.{Ask}
 use Rattle.reg_core.specs.declared.ask.Ask.TheVariants as ask
 use Rattle.reg_core.specs.declared.request.Request.{Request}
 use Rattle.reg_core.proofs.KeyOrders.{block_keys, link_keys, name_keys, place_keys, seat_keys}
-use Rattle.reg_records.proofs.AdviceLaws.{advice_back, advice_exact}
-use Rattle.reg_records.proofs.EntryLaws.{entry_back, entry_exact}
-use Rattle.reg_records.proofs.GrantLaws.{grant_back, grant_exact}
+use Rattle.reg_records.proofs.AdviceLaws.{advice_kept}
+use Rattle.reg_records.proofs.EntryLaws.{entries_kept}
+use Rattle.reg_records.proofs.GrantLaws.{grants_kept}
 use Rattle.reg_records.specs.Requests.Values.{request_values}
-use Rattle.reg_records.proofs.HoldingLaws.{holding_back, holding_exact}
-use Rattle.reg_records.proofs.HoldLaws.{hold_back, hold_exact}
-use Rattle.reg_records.proofs.LinkLaws.{link_back, link_exact}
-use Rattle.reg_records.proofs.MinuteLaws.{minute_back, minute_exact}
-use Rattle.reg_records.proofs.RangeLaws.{range_back, range_exact}
-use Rattle.reg_records.proofs.RegistryLaws.{registry_back, registry_exact}
-use Rattle.reg_records.proofs.RequestLaws.Rows.{request_back, request_exact}
-use Rattle.reg_records.proofs.PrefixLaws.{prefix_back, prefix_exact}
-use Rattle.reg_records.proofs.SeatLaws.{seat_back, seat_exact}
+use Rattle.reg_records.proofs.HoldingLaws.{holdings_kept}
+use Rattle.reg_records.proofs.HoldLaws.{holds_kept}
+use Rattle.reg_records.proofs.LinkLaws.{links_kept}
+use Rattle.reg_records.proofs.MinuteLaws.{minutes_kept}
+use Rattle.reg_records.proofs.RangeLaws.{ranges_kept}
+use Rattle.reg_records.proofs.RegistryLaws.{registries_kept}
+use Rattle.reg_records.proofs.RequestLaws.Rows.{requests_kept}
+use Rattle.reg_records.proofs.PrefixLaws.{prefixes_kept}
+use Rattle.reg_records.proofs.SeatLaws.{seats_kept}
+use Rattle.reg_tables.specs.Editing.{has_all}
 use Rattle.reg_tables.specs.Selecting.{stored}
+use Rattle.reg_tables.specs.Version.{newest}
 use Rattle.reg_statements.specs.Content.{advice_at, cap_at, case_at, hold_at, holder_at, link_at}
+use Rattle.reg_statements.specs.Content.{AreWhole, parts_in}
 use Rattle.reg_statements.specs.Content.{max_at, minute_at, prefix_at, range_at, registration_at, seat_at}
 use Rattle.reg_statements.specs.Defined.{IsDefined, IsKey}
 use Rattle.reg_statements.specs.Office as office
-use Rattle.reg_statements.specs.Parts.{block_key, link_key, name_key, number_key, place_key, seat_key, text_key}
+use Rattle.reg_statements.specs.Parts.{TableDef, block_key, cells_of, link_key, name_key, number_key}
+use Rattle.reg_statements.specs.Parts.{place_key, same_cells, seat_key, text_key}
+use Rattle.reg_statements.specs.Tables.{put_tree, tables_in}
 use Rattle.reg_statements.proofs.OfficeKeyTests.{block_test, name_test, seat_test}
 
 -- ---- Keys
@@ -84,14 +93,9 @@ seat_is_key = record {
 
 word_test : (a b : Size) → bytes_eq (word_of a) (word_of b) ≡ (prefix_bits a == prefix_bits b)
 word_test MaL MaL = refl
-word_test MaL MaM = refl
-word_test MaL MaS = refl
-word_test MaM MaL = refl
 word_test MaM MaM = refl
-word_test MaM MaS = refl
-word_test MaS MaL = refl
-word_test MaS MaM = refl
 word_test MaS MaS = refl
+word_test _ _ = refl
 
 pub block_is_key : IsKey block_key
 block_is_key = record {
@@ -108,223 +112,125 @@ block_is_key = record {
 stored_row : (id : Value) (a : Ask) (r : Request) → r.ask ≡ a
     → stored 25 (id ∷ request_values r) ≡ request_values r
 stored_row id (ask.Code a) r is = rw is refl
-stored_row id (ask.Early a) r is = rw is refl
-stored_row id (ask.Renew a) r is = rw is refl
-stored_row id (ask.Permanent a) r is = rw is refl
-stored_row id (ask.Block a) r is = rw is refl
+stored_row id _ r is = rw is refl
+
+-- A definition of a table is right where its key is, its rows keep what is written, and the rest
+-- computes: what follows the two about rows is found by refl.
+defined_by : {T K X : Type 0} (d : TableDef T K X) → IsKey d.key
+    → ((t : T) → d.form t ≡ true → d.read (d.values t) ≡ Some t)
+    → ((row : Row) (t : T) → d.read (stored d.width row) ≡ Some t → stored d.width row ≡ d.values t)
+    → d.at ≡ (λ row. option_map d.pair (d.read (stored d.width row)))
+    → ((t : T) → d.item (d.pair t).0 (d.pair t).1 ≡ t)
+    → ((id : Value) (t : T) → stored d.width (id ∷ d.values t) ≡ d.values t)
+    → ((t : T) → take d.key.width (d.values t) ≡ d.key.cells (d.pair t).0)
+    → ((row : Row) (k : K) → has_all (cells_of d.key.width (d.key.cells k)) row
+    ≡ same_cells (take d.key.width (stored d.width row)) (d.key.cells k))
+    → ((trees : Trees) → d.rows (tables_in trees) ≡ trees d.table.tree)
+    → ((trees : Trees) → d.part (parts_in (tables_in trees)) ≡ held_in d.at (trees d.table.tree))
+    → ((trees : Trees) (rows : List Row)
+    → parts_in (tables_in (put_tree d.table.tree rows trees))
+    ≡ d.put (held_in d.at rows) (parts_in (tables_in trees)))
+    → ((trees : Trees) → AreWhole newest (tables_in trees)
+    → IsTable d.key.order d.at (trees d.table.tree))
+    → ((trees : Trees) (rows : List Row) → IsTable d.key.order d.at rows
+    → AreWhole newest (tables_in trees)
+    → AreWhole newest (tables_in (put_tree d.table.tree rows trees)))
+    → IsDefined d
+defined_by d key back exact at item whole first tests rows part put held kept =
+    record { key = key; at = at; item = item; back = back; exact = exact; whole = whole; first = first; tests = tests; rows = rows; part = part; put = put; held = held; kept = kept }
 
 pub caps : IsDefined office.caps
 unfolding cap_at
-caps = record {
-  key = text_is_key;
-  at = refl;
-  item = λ t. refl;
-  back = grant_back;
-  exact = λ row. grant_exact (stored 4 row);
-  whole = λ id t. refl;
-  first = λ t. refl;
-  tests = λ row k. refl;
-  rows = λ trees. refl;
-  part = λ trees. refl;
-  put = λ trees rows. refl;
-  held = λ trees was. was.1.0;
-  kept = λ trees rows held was. (was.0, (held, was.1.1));
-}
+caps =
+    defined_by office.caps text_is_key grants_kept.back (λ row. grants_kept.exact (stored 4 row)) refl
+    (λ t. refl) (λ id t. refl) (λ t. refl) (λ row k. refl) (λ trees. refl) (λ trees. refl)
+    (λ trees rows. refl) (λ trees was. was.1.0)
+    (λ trees rows held was. (was.0, (held, was.1.1)))
 
 pub registries : IsDefined office.registries
 unfolding max_at
-registries = record {
-  key = text_is_key;
-  at = refl;
-  item = λ t. refl;
-  back = registry_back;
-  exact = λ row. registry_exact (stored 2 row);
-  whole = λ id t. refl;
-  first = λ t. refl;
-  tests = λ row k. refl;
-  rows = λ trees. refl;
-  part = λ trees. refl;
-  put = λ trees rows. refl;
-  held = λ trees was. was.1.1.0;
-  kept = λ trees rows held was. (was.0, (was.1.0, (held, was.1.1.1)));
-}
+registries =
+    defined_by office.registries text_is_key registries_kept.back (λ row. registries_kept.exact (stored 2 row)) refl
+    (λ t. refl) (λ id t. refl) (λ t. refl) (λ row k. refl) (λ trees. refl) (λ trees. refl)
+    (λ trees rows. refl) (λ trees was. was.1.1.0)
+    (λ trees rows held was. (was.0, (was.1.0, (held, was.1.1.1))))
 
 pub ranges : IsDefined office.ranges
 unfolding range_at
-ranges = record {
-  key = place_is_key;
-  at = refl;
-  item = λ t. refl;
-  back = range_back;
-  exact = λ row. range_exact (stored 5 row);
-  whole = λ id t. refl;
-  first = λ t. refl;
-  tests = λ row k. refl;
-  rows = λ trees. refl;
-  part = λ trees. refl;
-  put = λ trees rows. refl;
-  held = λ trees was. was.1.1.1.0;
-  kept = λ trees rows held was. (was.0, (was.1.0, (was.1.1.0, (held, was.1.1.1.1))));
-}
+ranges =
+    defined_by office.ranges place_is_key ranges_kept.back (λ row. ranges_kept.exact (stored 5 row)) refl
+    (λ t. refl) (λ id t. refl) (λ t. refl) (λ row k. refl) (λ trees. refl) (λ trees. refl)
+    (λ trees rows. refl) (λ trees was. was.1.1.1.0)
+    (λ trees rows held was. (was.0, (was.1.0, (was.1.1.0, (held, was.1.1.1.1)))))
 
 pub entries : IsDefined office.entries
 unfolding registration_at
-entries = record {
-  key = place_is_key;
-  at = refl;
-  item = λ t. refl;
-  back = entry_back;
-  exact = λ row. entry_exact (stored 7 row);
-  whole = λ id t. refl;
-  first = λ t. refl;
-  tests = λ row k. refl;
-  rows = λ trees. refl;
-  part = λ trees. refl;
-  put = λ trees rows. refl;
-  held = λ trees was. was.1.1.1.1.0;
-  kept = λ trees rows held was. (was.0, (was.1.0, (was.1.1.0, (was.1.1.1.0, (held, was.1.1.1.1.1)))));
-}
+entries =
+    defined_by office.entries place_is_key entries_kept.back (λ row. entries_kept.exact (stored 7 row)) refl
+    (λ t. refl) (λ id t. refl) (λ t. refl) (λ row k. refl) (λ trees. refl) (λ trees. refl)
+    (λ trees rows. refl) (λ trees was. was.1.1.1.1.0)
+    (λ trees rows held was. (was.0, (was.1.0, (was.1.1.0, (was.1.1.1.0, (held, was.1.1.1.1.1))))))
 
 pub requests : IsDefined office.requests
 unfolding case_at
-requests = record {
-  key = name_is_key;
-  at = refl;
-  item = λ t. refl;
-  back = request_back;
-  exact = λ row. request_exact (stored 25 row);
-  whole = λ id r. stored_row id r.ask r refl;
-  first = λ t. refl;
-  tests = λ row k. refl;
-  rows = λ trees. refl;
-  part = λ trees. refl;
-  put = λ trees rows. refl;
-  held = λ trees was. was.1.1.1.1.1.0;
-  kept = λ trees rows held was. (was.0, (was.1.0, (was.1.1.0, (was.1.1.1.0, (was.1.1.1.1.0, (held, was.1.1.1.1.1.1))))));
-}
+requests =
+    defined_by office.requests name_is_key requests_kept.back (λ row. requests_kept.exact (stored 25 row)) refl
+    (λ t. refl) (λ id r. stored_row id r.ask r refl) (λ t. refl) (λ row k. refl) (λ trees. refl) (λ trees. refl)
+    (λ trees rows. refl) (λ trees was. was.1.1.1.1.1.0)
+    (λ trees rows held was. (was.0, (was.1.0, (was.1.1.0, (was.1.1.1.0, (was.1.1.1.1.0, (held, was.1.1.1.1.1.1)))))))
 
 pub queue : IsDefined office.queue
 unfolding seat_at
-queue = record {
-  key = seat_is_key;
-  at = refl;
-  item = λ t. refl;
-  back = seat_back;
-  exact = λ row. seat_exact (stored 3 row);
-  whole = λ id t. refl;
-  first = λ t. refl;
-  tests = λ row k. refl;
-  rows = λ trees. refl;
-  part = λ trees. refl;
-  put = λ trees rows. refl;
-  held = λ trees was. was.1.1.1.1.1.1.0;
-  kept = λ trees rows held was. (was.0, (was.1.0, (was.1.1.0, (was.1.1.1.0, (was.1.1.1.1.0, (was.1.1.1.1.1.0, (held, was.1.1.1.1.1.1.1)))))));
-}
+queue =
+    defined_by office.queue seat_is_key seats_kept.back (λ row. seats_kept.exact (stored 3 row)) refl
+    (λ t. refl) (λ id t. refl) (λ t. refl) (λ row k. refl) (λ trees. refl) (λ trees. refl)
+    (λ trees rows. refl) (λ trees was. was.1.1.1.1.1.1.0)
+    (λ trees rows held was. (was.0, (was.1.0, (was.1.1.0, (was.1.1.1.0, (was.1.1.1.1.0, (was.1.1.1.1.1.0, (held, was.1.1.1.1.1.1.1))))))))
 
 pub advice : IsDefined office.advice
 unfolding advice_at
-advice = record {
-  key = seat_is_key;
-  at = refl;
-  item = λ t. refl;
-  back = advice_back;
-  exact = λ row. advice_exact (stored 5 row);
-  whole = λ id t. refl;
-  first = λ t. refl;
-  tests = λ row k. refl;
-  rows = λ trees. refl;
-  part = λ trees. refl;
-  put = λ trees rows. refl;
-  held = λ trees was. was.1.1.1.1.1.1.1.0;
-  kept = λ trees rows held was. (was.0, (was.1.0, (was.1.1.0, (was.1.1.1.0, (was.1.1.1.1.0, (was.1.1.1.1.1.0, (was.1.1.1.1.1.1.0, (held, was.1.1.1.1.1.1.1.1))))))));
-}
+advice =
+    defined_by office.advice seat_is_key advice_kept.back (λ row. advice_kept.exact (stored 5 row)) refl
+    (λ t. refl) (λ id t. refl) (λ t. refl) (λ row k. refl) (λ trees. refl) (λ trees. refl)
+    (λ trees rows. refl) (λ trees was. was.1.1.1.1.1.1.1.0)
+    (λ trees rows held was. (was.0, (was.1.0, (was.1.1.0, (was.1.1.1.0, (was.1.1.1.1.0, (was.1.1.1.1.1.0, (was.1.1.1.1.1.1.0, (held, was.1.1.1.1.1.1.1.1)))))))))
 
 pub pool : IsDefined office.pool
 unfolding prefix_at
-pool = record {
-  key = number_is_key;
-  at = refl;
-  item = λ t. refl;
-  back = prefix_back;
-  exact = λ row. prefix_exact (stored 1 row);
-  whole = λ id t. refl;
-  first = λ t. refl;
-  tests = λ row k. refl;
-  rows = λ trees. refl;
-  part = λ trees. refl;
-  put = λ trees rows. refl;
-  held = λ trees was. was.1.1.1.1.1.1.1.1.0;
-  kept = λ trees rows held was. (was.0, (was.1.0, (was.1.1.0, (was.1.1.1.0, (was.1.1.1.1.0, (was.1.1.1.1.1.0, (was.1.1.1.1.1.1.0, (was.1.1.1.1.1.1.1.0, (held, was.1.1.1.1.1.1.1.1.1)))))))));
-}
+pool =
+    defined_by office.pool number_is_key prefixes_kept.back (λ row. prefixes_kept.exact (stored 1 row)) refl
+    (λ t. refl) (λ id t. refl) (λ t. refl) (λ row k. refl) (λ trees. refl) (λ trees. refl)
+    (λ trees rows. refl) (λ trees was. was.1.1.1.1.1.1.1.1.0)
+    (λ trees rows held was. (was.0, (was.1.0, (was.1.1.0, (was.1.1.1.0, (was.1.1.1.1.0, (was.1.1.1.1.1.0, (was.1.1.1.1.1.1.0, (was.1.1.1.1.1.1.1.0, (held, was.1.1.1.1.1.1.1.1.1))))))))))
 
 pub blocks : IsDefined office.blocks
 unfolding holder_at
-blocks = record {
-  key = block_is_key;
-  at = refl;
-  item = λ t. refl;
-  back = holding_back;
-  exact = λ row. holding_exact (stored 6 row);
-  whole = λ id t. refl;
-  first = λ t. refl;
-  tests = λ row k. refl;
-  rows = λ trees. refl;
-  part = λ trees. refl;
-  put = λ trees rows. refl;
-  held = λ trees was. was.1.1.1.1.1.1.1.1.1.0;
-  kept = λ trees rows held was. (was.0, (was.1.0, (was.1.1.0, (was.1.1.1.0, (was.1.1.1.1.0, (was.1.1.1.1.1.0, (was.1.1.1.1.1.1.0, (was.1.1.1.1.1.1.1.0, (was.1.1.1.1.1.1.1.1.0, (held, was.1.1.1.1.1.1.1.1.1.1))))))))));
-}
+blocks =
+    defined_by office.blocks block_is_key holdings_kept.back (λ row. holdings_kept.exact (stored 6 row)) refl
+    (λ t. refl) (λ id t. refl) (λ t. refl) (λ row k. refl) (λ trees. refl) (λ trees. refl)
+    (λ trees rows. refl) (λ trees was. was.1.1.1.1.1.1.1.1.1.0)
+    (λ trees rows held was. (was.0, (was.1.0, (was.1.1.0, (was.1.1.1.0, (was.1.1.1.1.0, (was.1.1.1.1.1.0, (was.1.1.1.1.1.1.0, (was.1.1.1.1.1.1.1.0, (was.1.1.1.1.1.1.1.1.0, (held, was.1.1.1.1.1.1.1.1.1.1)))))))))))
 
 pub holds : IsDefined office.holds
 unfolding hold_at
-holds = record {
-  key = place_is_key;
-  at = refl;
-  item = λ t. refl;
-  back = hold_back;
-  exact = λ row. hold_exact (stored 2 row);
-  whole = λ id t. refl;
-  first = λ t. refl;
-  tests = λ row k. refl;
-  rows = λ trees. refl;
-  part = λ trees. refl;
-  put = λ trees rows. refl;
-  held = λ trees was. was.1.1.1.1.1.1.1.1.1.1.0;
-  kept = λ trees rows held was. (was.0, (was.1.0, (was.1.1.0, (was.1.1.1.0, (was.1.1.1.1.0, (was.1.1.1.1.1.0, (was.1.1.1.1.1.1.0, (was.1.1.1.1.1.1.1.0, (was.1.1.1.1.1.1.1.1.0, (was.1.1.1.1.1.1.1.1.1.0, (held, was.1.1.1.1.1.1.1.1.1.1.1)))))))))));
-}
+holds =
+    defined_by office.holds place_is_key holds_kept.back (λ row. holds_kept.exact (stored 2 row)) refl
+    (λ t. refl) (λ id t. refl) (λ t. refl) (λ row k. refl) (λ trees. refl) (λ trees. refl)
+    (λ trees rows. refl) (λ trees was. was.1.1.1.1.1.1.1.1.1.1.0)
+    (λ trees rows held was. (was.0, (was.1.0, (was.1.1.0, (was.1.1.1.0, (was.1.1.1.1.0, (was.1.1.1.1.1.0, (was.1.1.1.1.1.1.0, (was.1.1.1.1.1.1.1.0, (was.1.1.1.1.1.1.1.1.0, (was.1.1.1.1.1.1.1.1.1.0, (held, was.1.1.1.1.1.1.1.1.1.1.1))))))))))))
 
 pub minutes : IsDefined office.minutes
 unfolding minute_at
-minutes = record {
-  key = name_is_key;
-  at = refl;
-  item = λ t. refl;
-  back = minute_back;
-  exact = λ row. minute_exact (stored 3 row);
-  whole = λ id t. refl;
-  first = λ t. refl;
-  tests = λ row k. refl;
-  rows = λ trees. refl;
-  part = λ trees. refl;
-  put = λ trees rows. refl;
-  held = λ trees was. was.1.1.1.1.1.1.1.1.1.1.1.0;
-  kept = λ trees rows held was. (was.0, (was.1.0, (was.1.1.0, (was.1.1.1.0, (was.1.1.1.1.0, (was.1.1.1.1.1.0, (was.1.1.1.1.1.1.0, (was.1.1.1.1.1.1.1.0, (was.1.1.1.1.1.1.1.1.0, (was.1.1.1.1.1.1.1.1.1.0, (was.1.1.1.1.1.1.1.1.1.1.0, (held, was.1.1.1.1.1.1.1.1.1.1.1.1))))))))))));
-}
+minutes =
+    defined_by office.minutes name_is_key minutes_kept.back (λ row. minutes_kept.exact (stored 3 row)) refl
+    (λ t. refl) (λ id t. refl) (λ t. refl) (λ row k. refl) (λ trees. refl) (λ trees. refl)
+    (λ trees rows. refl) (λ trees was. was.1.1.1.1.1.1.1.1.1.1.1.0)
+    (λ trees rows held was. (was.0, (was.1.0, (was.1.1.0, (was.1.1.1.0, (was.1.1.1.1.0, (was.1.1.1.1.1.0, (was.1.1.1.1.1.1.0, (was.1.1.1.1.1.1.1.0, (was.1.1.1.1.1.1.1.1.0, (was.1.1.1.1.1.1.1.1.1.0, (was.1.1.1.1.1.1.1.1.1.1.0, (held, was.1.1.1.1.1.1.1.1.1.1.1.1)))))))))))))
 
 pub agents : IsDefined office.agents
 unfolding link_at
-agents = record {
-  key = link_is_key;
-  at = refl;
-  item = λ t. refl;
-  back = link_back;
-  exact = λ row. link_exact (stored 2 row);
-  whole = λ id t. refl;
-  first = λ t. refl;
-  tests = λ row k. refl;
-  rows = λ trees. refl;
-  part = λ trees. refl;
-  put = λ trees rows. refl;
-  held = λ trees was. was.1.1.1.1.1.1.1.1.1.1.1.1;
-  kept = λ trees rows held was. (was.0, (was.1.0, (was.1.1.0, (was.1.1.1.0, (was.1.1.1.1.0, (was.1.1.1.1.1.0, (was.1.1.1.1.1.1.0, (was.1.1.1.1.1.1.1.0, (was.1.1.1.1.1.1.1.1.0, (was.1.1.1.1.1.1.1.1.1.0, (was.1.1.1.1.1.1.1.1.1.1.0, (was.1.1.1.1.1.1.1.1.1.1.1.0, held))))))))))));
-}
+agents =
+    defined_by office.agents link_is_key links_kept.back (λ row. links_kept.exact (stored 2 row)) refl
+    (λ t. refl) (λ id t. refl) (λ t. refl) (λ row k. refl) (λ trees. refl) (λ trees. refl)
+    (λ trees rows. refl) (λ trees was. was.1.1.1.1.1.1.1.1.1.1.1.1)
+    (λ trees rows held was. (was.0, (was.1.0, (was.1.1.0, (was.1.1.1.0, (was.1.1.1.1.0, (was.1.1.1.1.1.0, (was.1.1.1.1.1.1.0, (was.1.1.1.1.1.1.1.0, (was.1.1.1.1.1.1.1.1.0, (was.1.1.1.1.1.1.1.1.1.0, (was.1.1.1.1.1.1.1.1.1.1.0, (was.1.1.1.1.1.1.1.1.1.1.1.0, held)))))))))))))

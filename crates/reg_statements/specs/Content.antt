@@ -20,7 +20,7 @@ use Rattle.reg_core.specs.declared.entry.Registration.{Registration}
 use Rattle.reg_core.specs.declared.holding.Holder.{Holder}
 use Rattle.reg_core.specs.declared.request.Case.{Case}
 use Rattle.reg_records.specs.Advice.{advice_in}
-use Rattle.reg_records.specs.Agents.{link_in}
+use Rattle.reg_records.specs.Links.{link_in}
 use Rattle.reg_records.specs.Blocks.{holding_in}
 use Rattle.reg_records.specs.Caps.{grant_in}
 use Rattle.reg_records.specs.Entries.{entry_in}
@@ -156,14 +156,14 @@ abbrev pub content : Tables → World
 content t = assembled (parts_in t)
 
 -- the table has one row, of this version
-abbrev pub HasVersion : ℤ → List Row → Type 0
-HasVersion version rows =
+abbrev pub HasVersionRow : ℤ → List Row → Type 0
+HasVersionRow version rows =
     (row : Row) × (rows ≡ row ∷ []) × (version_in (stored 1 row) ≡ Some version)
 
 -- the version is this one, each row reads back, and no two rows of a table have one key
 abbrev pub AreWhole : Version → Tables → Type 0
 AreWhole v t =
-    HasVersion (number_of v) t.office × (IsTable text_cmp cap_at t.caps × (IsTable text_cmp max_at t.registries
+    HasVersionRow (number_of v) t.office × (IsTable text_cmp cap_at t.caps × (IsTable text_cmp max_at t.registries
     × (IsTable place_cmp range_at t.ranges × (IsTable place_cmp registration_at t.entries
     × (IsTable name_cmp case_at t.requests × (IsTable seat_cmp seat_at t.queue
     × (IsTable seat_cmp advice_at t.advice × (IsTable nat_cmp prefix_at t.pool

@@ -20,7 +20,7 @@ use Rattle.reg_tables.proofs.EditLemmas.Putting as putting
 use Rattle.reg_tables.proofs.GivenRows.{AddsGiven}
 use Rattle.reg_tables.specs.Editing.{front, has_all}
 use Rattle.reg_tables.specs.Kinds.{WritesRows}
-use Rattle.reg_tables.specs.Selecting.{Selects, columns_of, equals, passes, shows, stored}
+use Rattle.reg_tables.specs.Selecting.{SelectsFrom, columns_of, equals, passes, shows, stored}
 use Rattle.reg_tables.specs.Version.{newest}
 use Rattle.reg_statements.specs.Content.{AreTied, AreWhole, parts_in}
 use Rattle.reg_statements.specs.Parts.{KeyDef, Parts, TableDef, cells_of, pairs, same_cells}
@@ -63,8 +63,8 @@ KeepsTies changed p = AreTied p → AreTied (changed p)
 -- ---- One row
 
 -- no row has the key of this one
-abbrev pub IsFree : {T K X : Type 0} → TableDef T K X → T → Parts → Type 0
-IsFree d t p = get (d.part p) (d.pair t).0 ≡ None
+abbrev pub HasFreeKey : {T K X : Type 0} → TableDef T K X → T → Parts → Type 0
+HasFreeKey d t p = get (d.part p) (d.pair t).0 ≡ None
 
 -- with this row at its key, and with none at a key
 abbrev pub with_row : {T K X : Type 0} → TableDef T K X → T → Parts → Parts
@@ -101,29 +101,28 @@ pub record Chooses {T K X : Type 0} (d : TableDef T K X) (sql : List ℕ) (param
     (p : K → X → Bool) : Type 0 where
   pub tests : List Term
   pub order : List (Term × Key)
-  pub selects : Selects (d.slot + 1) sql d.table.tree tests (columns_of d.width) order
+  pub selects : SelectsFrom (d.slot + 1) sql d.table.tree tests (columns_of d.width) order
   pub agree : (row : Row) (t : T) → d.read (stored d.width row) ≡ Some t
       → passes tests params row ≡ p (d.pair t).0 (d.pair t).1
 
 -- a query of the row of a key
-abbrev pub Finds : {T K X : Type 0} → TableDef T K X → List ℕ → Row → K → Type 0
-Finds d sql params k = Chooses d sql params (λ key x. eq_by_cmp d.key.order key k)
+abbrev pub ChoosesRowOf : {T K X : Type 0} → TableDef T K X → List ℕ → Row → K → Type 0
+ChoosesRowOf d sql params k = Chooses d sql params (λ key x. eq_by_cmp d.key.order key k)
 
 -- what a query of one row found of the rows that it is for
 pub record IsFound {T K X : Type 0} (d : TableDef T K X) (sql : List ℕ) (params : Row)
     (found : Option T) (p : Parts) : Type 0 where
   pub row : (test : K → X → Bool) → Chooses d sql params test
       → option_to_list found ≡ rows_where d test p
-  pub at_key : (k : K) → Finds d sql params k → found ≡ option_map (d.item k) (get (d.part p) k)
+  pub at_key : (k : K) → ChoosesRowOf d sql params k → found ≡ option_map (d.item k) (get (d.part p) k)
 
 -- a query of all rows of the table
 pub record ShowsAll {T K X : Type 0} (d : TableDef T K X) (sql : List ℕ) : Type 0 where
   pub order : List (Term × Key)
-  pub selects : Selects (d.slot + 1) sql d.table.tree [] (columns_of d.width) order
+  pub selects : SelectsFrom (d.slot + 1) sql d.table.tree [] (columns_of d.width) order
 
 -- an INSERT of the row of what is written, which is stored as it is
-pub record Adds {T K X : Type 0} (d : TableDef T K X) (sql : List ℕ) : Type 0 where
-  pub writes : WritesRows sql
+pub record InsertsRows {T K X : Type 0} (d : TableDef T K X) (sql : List ℕ) : Type 0 where
   pub given : AddsGiven sql d.slot d.table
   pub long : (t : T) → length (d.values t) ≡ length d.table.columns
   pub kept : (t : T) → cast_all d.table.columns (d.values t) ≡ d.values t
@@ -155,6 +154,5 @@ pub record Changes {T K X : Type 0} (d : TableDef T K X) (sql : List ℕ) (param
       ≡ Some ((d.pair t).0, f (d.pair t).1)
 
 -- a DELETE of the row of a key
-pub record Takes {T K X : Type 0} (d : TableDef T K X) (sql : List ℕ) : Type 0 where
-  pub writes : WritesRows sql
+pub record TakesRows {T K X : Type 0} (d : TableDef T K X) (sql : List ℕ) : Type 0 where
   pub takes : deleting.Deletes sql d.slot d.table (equals (pairs d.key.width))

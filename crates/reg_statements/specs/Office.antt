@@ -15,7 +15,7 @@ use Rattle.reg_core.specs.declared.capability.Cap.{Cap}
 use Rattle.reg_core.specs.declared.entry.Entry.{Entry}
 use Rattle.reg_core.specs.declared.entry.Registration.{Registration}
 use Rattle.reg_records.specs.Advice.{advice_in, advice_values, is_expert_advice}
-use Rattle.reg_records.specs.Agents.{is_link, link_in, link_values}
+use Rattle.reg_records.specs.Links.{is_link, link_in, link_values}
 use Rattle.reg_records.specs.Caps.{grant_in, grant_values, is_grant}
 use Rattle.reg_records.specs.Entries.{entry_in, entry_values, is_entry}
 use Rattle.reg_records.specs.Blocks.{holding_in, holding_values, is_holding}
@@ -31,7 +31,7 @@ use Rattle.reg_records.specs.declared.registries.Registry.{Registry}
 use Rattle.reg_records.specs.Pool.{is_prefix, prefix_in, prefix_values}
 use Rattle.reg_records.specs.Queue.{is_seat, seat_in, seat_values}
 use Rattle.reg_records.specs.declared.advice.ExpertAdvice.{ExpertAdvice}
-use Rattle.reg_records.specs.declared.agents.Link as linked
+use Rattle.reg_records.specs.declared.links.Link as linked
 use Rattle.reg_records.specs.declared.caps.Grant.{Grant}
 use Rattle.reg_records.specs.declared.holds.Hold.{Hold}
 use Rattle.reg_records.specs.declared.minutes.Minute.{Minute}

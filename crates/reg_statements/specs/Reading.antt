@@ -5,7 +5,7 @@ use Rattle.std.specs.declared.alloc.Global.{Global}
 use Rattle.sqlite.specs.Given.{HasGiven}
 use Rattle.sqlite.specs.Held.{Held, state}
 use Rattle.sqlite.specs.Order.{Row}
-use Rattle.sqlite.specs.State.{State, HasCleanDisk, Shown}
+use Rattle.sqlite.specs.State.{State, HasCleanDisk, IsUnchanged, Shown}
 use Rattle.sqlite.specs.declared.error.Error.{Error}
 use Rattle.sqlite.specs.declared.error.Error.TheVariants.{SqliteFailure}
 use Rattle.sqlite.specs.declared.error.ErrorCode.TheVariants.{OperationInterrupted, OutOfMemory}
@@ -46,6 +46,18 @@ pub record IsMisread (sql : List ℕ) (params : Row) (old new : State) (Reads : 
     (fault : Fault) : Type 0 where
   pub told : fault ≡ Store
   pub rows : Works new → (rows : List Row) × Shown sql params old new rows × ¬ Reads rows
+
+-- why a query gives no value: a fault tells the error that was met, or its rows are not what they have
+-- to be
+abbrev pub IsNotRead : (Error → Type 0) → List ℕ → Row → State → State → (List Row → Type 0) → Fault
+    → Type 0
+IsNotRead Met sql params old new Reads fault =
+    IsFault Met old new fault ⊎ IsMisread sql params old new Reads fault
+
+-- the query changed nothing, and showed rows of which this is so
+abbrev pub AnswersBy : List ℕ → Row → State → State → (List Row → Type 0) → Type 0
+AnswersBy sql params old new Is =
+    IsUnchanged old new × (rows : List Row) × Shown sql params old new rows × Is rows
 
 -- the value of each row, or none where a row has no value
 abbrev pub AreRead : {T : Type 0} → (Row → Option T) → List Row → Option (Vec T Global) → Type 0

@@ -8,7 +8,7 @@ ghost use Rattle.reg_tables.specs.Connection.{Endures, IsIdle, Stays, Works};
 ghost use Rattle.reg_tables.specs.Faulting.{IsExcused};
 ghost use Rattle.reg_tables.specs.Kinds.{IsQuery};
 ghost use Rattle.reg_tables.specs.Lasting.{Lasts};
-ghost use Rattle.reg_statements.specs.Reading.{AreRead, AreTaken, GivesTooMany, IsFault, IsMet};
+ghost use Rattle.reg_statements.specs.Reading.{AnswersBy, AreRead, AreTaken, GivesTooMany, IsFault, IsMet};
 
 use crate::loads::Loads;
 use crate::write::fault;
@@ -90,9 +90,8 @@ fn take_rows<S: Reports + Loads, T: Record, K: Sink<T, S>>(
         → IsUnchanged (state S.Store conn.old) (state S.Store conn.new)
         ⊎ IsRolledBack (state S.Store conn.old) (state S.Store conn.new) }
     ensures rows { HasCleanDisk (state S.Store conn.new) → IfOk result (λ read.
-        IsUnchanged (state S.Store conn.old) (state S.Store conn.new) × (rows : _)
-        × Shown sql.now (bound params.now) (state S.Store conn.old) (state S.Store conn.new) rows
-        × AreTaken T.of K.Takes sink.old rows sink.new read) }
+        AnswersBy sql.now (bound params.now) (state S.Store conn.old) (state S.Store conn.new)
+        (λ rows. AreTaken T.of K.Takes sink.old rows sink.new read)) }
     ensures whole { IfOk result (λ _. K.Whole sink.old → K.Whole sink.new) }
     ensures cause { IfErr result (IsExcused (state S.Store conn.old) (state S.Store conn.new)) }
     ensures met { IfErr result (IsMet S.Reported (S.Unloaded ⊎ K.Untaken)

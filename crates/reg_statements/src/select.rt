@@ -1,5 +1,5 @@
 //! Queries over the tables of an office.
-ghost use Rattle.std.specs.Prelude.{◌≡◌, ◌⊎◌, ◌↔◌, IfErr, IfOk, IsTrue, MatchResult, option_to_list};
+ghost use Rattle.std.specs.Prelude.{◌≡◌, ◌↔◌, IfErr, IfOk, IsTrue, MatchResult, option_to_list};
 ghost use Rattle.sqlite.specs.Held.{state};
 ghost use Rattle.sqlite.specs.State.{Shown};
 ghost use Rattle.sqlite.specs.Values.{bound};
@@ -7,7 +7,7 @@ ghost use Rattle.reg_tables.specs.Connection.{Endures, IsIdle, Stays, Works};
 ghost use Rattle.reg_tables.specs.Kinds.{IsQuery};
 ghost use Rattle.reg_keeper.specs.declared.keeper.Fault.TheVariants as faults;
 ghost use Rattle.reg_statements.specs.Loading.{IsAscending, ReadAs, ReadsInOrder, ReadsOne};
-ghost use Rattle.reg_statements.specs.Reading.{GivesTooMany, IsFault, IsMet, IsMisread};
+ghost use Rattle.reg_statements.specs.Reading.{GivesTooMany, IsMet, IsNotRead};
 
 use crate::loads::Loads;
 use crate::read::load;
@@ -35,10 +35,9 @@ pub fn one<S: Reports + Loads, T: Record>(
     ensures row { Works (state S.Store conn.new) → IfOk result (λ o. (rows : _)
         × Shown sql.now (bound params.now) (state S.Store conn.old) (state S.Store conn.new) rows
         × ReadAs T.of rows (option_to_list o)) }
-    ensures fault { IfErr result (λ fault. IsFault (IsMet S.Reported S.Unloaded
-        (GivesTooMany S.Store sql.now (bound params.now) conn.new)) (state S.Store conn.old)
-        (state S.Store conn.new) fault ⊎ IsMisread sql.now (bound params.now) (state S.Store conn.old)
-        (state S.Store conn.new) (ReadsOne T.of) fault) }
+    ensures fault { IfErr result (IsNotRead (IsMet S.Reported S.Unloaded
+        (GivesTooMany S.Store sql.now (bound params.now) conn.new)) sql.now (bound params.now)
+        (state S.Store conn.old) (state S.Store conn.new) (ReadsOne T.of)) }
 {
     let Some(mut rows) = load(alloc, conn, sql, params)? else {
         return Err(Fault::Store);
@@ -68,10 +67,9 @@ pub fn all<S: Reports + Loads, T: Keyed>(
     ensures rows { Works (state S.Store conn.new) → IfOk result (λ all. (rows : _)
         × Shown sql.now (bound params.now) (state S.Store conn.old) (state S.Store conn.new) rows
         × ReadAs T.of rows all.items) }
-    ensures fault { IfErr result (λ fault. IsFault (IsMet S.Reported S.Unloaded
-        (GivesTooMany S.Store sql.now (bound params.now) conn.new)) (state S.Store conn.old)
-        (state S.Store conn.new) fault ⊎ IsMisread sql.now (bound params.now) (state S.Store conn.old)
-        (state S.Store conn.new) (ReadsInOrder T.of T.order) fault) }
+    ensures fault { IfErr result (IsNotRead (IsMet S.Reported S.Unloaded
+        (GivesTooMany S.Store sql.now (bound params.now) conn.new)) sql.now (bound params.now)
+        (state S.Store conn.old) (state S.Store conn.new) (ReadsInOrder T.of T.order)) }
 {
     match load(alloc, conn, sql, params)? {
         Some(rows) => in_order(rows),

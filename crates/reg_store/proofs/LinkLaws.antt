@@ -1,163 +1,127 @@
--- The links of accounts in both orders, as they change, and as they are listed.
-use Rattle.std.proofs.Common.{◌≡◌, ℕ, Bool, true, false, cond, ◌&&◌, T, List, [], ◌∷◌, map, refl, sym, ap, ◌∙◌}
+-- Pairs of names in both orders, as they change, and as they are listed.
+use Rattle.std.proofs.Common.{◌≡◌, ℕ, Bool, true, false, cond, List, [], ◌∷◌, map, refl, sym, ap, ◌∙◌}
 use Rattle.std.specs.Prelude.{Option, Some, None, option_and_then}
-use Rattle.std.specs.declared.cmp.Ordering.{Ordering}
-use Rattle.std.specs.Ordering.{eq_by_cmp, is_eq, is_lt, ordering_then}
 use Rattle.std.specs.Cmp.{eq_by_cmp_equiv}
-use Rattle.std.specs.declared.cmp.Ordering.TheVariants.{Less, Equal, Greater}
-use Rattle.std.specs.Map.{lookup}
-use Rattle.std.specs.BTreeMap.{is_at}
-use Rattle.std.specs.FinMap.{get, insert, remove, entries, entries_sorted, find, is_sorted, get-entries}
-use Rattle.std.specs.FinMap.Entries.{below_all}
+use Rattle.std.specs.FinMap.{entries, entries_sorted, find, get, get-entries, insert, remove}
 use Rattle.std.specs.FinSet.{FinSet}
 use Rattle.std.specs.List.{AllByRecursion}
+use Rattle.std.specs.List.Sorted.{IsStrictlySortedBy}
+use Rattle.std.specs.Ordering.{ordering_then}
+use Rattle.std.specs.declared.cmp.Ordering.TheVariants.{Less, Equal}
 use Rattle.std.proofs.lemmas.List.Elements.{recursion_from_All}
 use Rattle.std.proofs.lemmas.Simd.{map-map}
 use Rattle.std.proofs.lemmas.Slice.Eq.{bytes_eq-Decides}
-use Rattle.reg_maps.specs.Maps.{text_cmp, same_text, only_if}
+use Rattle.reg_maps.specs.Maps.{only_if, same_text, text_cmp}
 use Rattle.reg_maps.specs.Groups.{group_at}
-use Rattle.reg_maps.proofs.MapLaws.{text_keys, All-entries, get-select, get-at_insert, get-at_remove}
-use Rattle.reg_maps.proofs.Tests.{both, first, second, and-true}
+use Rattle.reg_maps.specs.RowMaps.{AreAscending}
+use Rattle.reg_maps.proofs.Ascending.{ascending_from_is_sorted}
+use Rattle.reg_maps.proofs.FiniteMaps.InOrder.{text_group}
 use Rattle.reg_maps.proofs.KeyTests.{pair_turned}
-use Rattle.reg_maps.proofs.Orderings.{tie}
-use Rattle.reg_maps.proofs.FiniteMaps.InOrder.{group_is, text_group, map-group_rows}
-use Rattle.reg_core.specs.Link.{agent_rows, principal_names}
-use Rattle.reg_core.specs.View.{agents_of, principals_of}
-use Rattle.reg_core.specs.World.{Link, link_cmp}
-use Rattle.reg_core.proofs.KeyOrders.{link_keys}
-use Rattle.reg_store.specs.Lists.Pairs.{AreMirrored, link_world}
+use Rattle.reg_maps.proofs.MapLaws.{All-entries, IsKeyOrder, entries_are, get-at_insert, get-at_remove, get-select}
+use Rattle.reg_maps.proofs.MapLaws.{pair_keys, text_keys}
+use Rattle.reg_maps.proofs.Orderings.{equal}
+use Rattle.reg_store.specs.Lists.Pairs.{AreMirrored, NamePair, firsts_of, names_cmp, seconds_of}
+use Rattle.reg_store.specs.Lists.Pairs.{with_first, with_second}
+
+pub names_keys : IsKeyOrder names_cmp
+names_keys = pair_keys text_keys text_keys
 
 -- ---- In both orders
 
--- two links are the same in either order
-same_turned : (principal agent p a : List ℕ)
-    → eq_by_cmp link_cmp (agent, principal) (a, p) ≡ eq_by_cmp link_cmp (principal, agent) (p, a)
-same_turned principal agent p a = pair_turned text_cmp text_cmp (agent, principal) (a, p)
+module _ (pairs turned : FinSet names_cmp) (are : AreMirrored pairs turned) (a b : List ℕ) where
+  -- a pair is added
+  pub mirrored-added : AreMirrored (insert pairs (a, b) tt) (insert turned (b, a) tt)
+  mirrored-added first second =
+      get-at_insert names_keys turned (b, a) tt (second, first)
+      ∙ (λ i. cond (pair_turned text_cmp text_cmp (second, first) (b, a) i) (Some tt) (are first second i))
+      ∙ sym (get-at_insert names_keys pairs (a, b) tt (first, second))
 
-module _ (agents principals : FinSet link_cmp) (are : AreMirrored agents principals)
-    (p a : List ℕ) where
-  -- a link is added
-  pub mirrored-added : AreMirrored (insert agents (p, a) tt) (insert principals (a, p) tt)
-  mirrored-added principal agent =
-      get-at_insert link_keys principals (a, p) tt (agent, principal)
-      ∙ (λ i. cond (same_turned principal agent p a i) (Some tt) (are principal agent i))
-      ∙ sym (get-at_insert link_keys agents (p, a) tt (principal, agent))
-
-  -- a link is taken away
-  pub mirrored-taken : AreMirrored (remove agents (p, a)) (remove principals (a, p))
-  mirrored-taken principal agent =
-      get-at_remove link_keys principals (a, p) (agent, principal)
-      ∙ (λ i. cond (same_turned principal agent p a i) None (are principal agent i))
-      ∙ sym (get-at_remove link_keys agents (p, a) (principal, agent))
+  -- a pair is taken away
+  pub mirrored-taken : AreMirrored (remove pairs (a, b)) (remove turned (b, a))
+  mirrored-taken first second =
+      get-at_remove names_keys turned (b, a) (second, first)
+      ∙ (λ i. cond (pair_turned text_cmp text_cmp (second, first) (b, a) i) None (are first second i))
+      ∙ sym (get-at_remove names_keys pairs (a, b) (first, second))
 
 -- ---- As they are listed
 
--- the links of a principal are those of its group
-pub agents-group : (links : FinSet link_cmp) (principal : List ℕ)
-    → agent_rows (agents_of principal (link_world links))
-    ≡ map (λ (e : Link × Unit {0}). e.0.1) (entries (group_at text_cmp links principal))
-agents-group links principal =
-    map-map (λ (link : Link). link.1) (λ (e : Link × Unit {0}). e.0)
-    (entries (agents_of principal (link_world links)))
-    ∙ ap (λ m. map (λ (e : Link × Unit {0}). e.0.1) (entries m)) (text_group links principal)
+-- the pairs that have a name first are those of its group
+pub seconds-group : (pairs : FinSet names_cmp) (name : List ℕ)
+    → seconds_of name pairs
+    ≡ map (λ (e : NamePair × Unit {0}). e.0.1) (entries (group_at text_cmp pairs name))
+seconds-group pairs name =
+    map-map (λ (pair : NamePair). pair.1) (λ (e : NamePair × Unit {0}). e.0)
+    (entries (with_first name pairs))
+    ∙ ap (λ m. map (λ (e : NamePair × Unit {0}). e.0.1) (entries m)) (text_group pairs name)
 
--- the first parts of links, as the rows of a group
-abbrev firsts : List (Link × Unit {0}) → List (List ℕ × Unit {0})
-firsts es = map (λ e. (e.0.0, e.1)) es
+-- a pair in the other order
+abbrev turn : NamePair × Unit {0} → NamePair × Unit {0}
+turn e = ((e.0.1, e.0.0), e.1)
 
--- each link has this agent
-abbrev AreOf : List ℕ → List (Link × Unit {0}) → Type 0
-AreOf agent es = AllByRecursion (λ e. e.0.1 ≡ agent) es
+find-turned : (q : NamePair) (es : List (NamePair × Unit {0}))
+    → find names_cmp q (map turn es) ≡ find names_cmp (q.1, q.0) es
+find-turned q [] = refl
+find-turned q (e ∷ es) =
+    λ i. cond (pair_turned text_cmp text_cmp q (e.0.1, e.0.0) i) (Some e.1) (find-turned q es i)
 
--- what is less, and ties in the second part, is less in the first
-lesser : (x y : Ordering) → is_eq y ≡ true → T (is_lt (ordering_then x y)) → T (is_lt x)
-lesser Less y e h = tt
-lesser Equal Less e h = absurd (cc)
-lesser Equal Equal e h = h
-lesser Equal Greater e h = h
-lesser Greater y e h = h
+module _ (name : List ℕ) where
+  -- each pair has this name first
+  abbrev AreOf : List (NamePair × Unit {0}) → Type 0
+  AreOf es = AllByRecursion (λ e. e.0.0 ≡ name) es
 
-same_agent : (agent a b : List ℕ) → a ≡ agent → b ≡ agent → is_eq (text_cmp a b) ≡ true
-same_agent agent a b p q =
-    ap (λ x. is_eq (text_cmp a x)) (q ∙ sym p) ∙ (eq_by_cmp_equiv text_keys.total).refl a
+  -- then they are in order by their second parts
+  less-turned : (x y : NamePair) → x.0 ≡ name → y.0 ≡ name → names_cmp x y ≡ Less
+      → names_cmp (x.1, x.0) (y.1, y.0) ≡ Less
+  less-turned x y here there less =
+      let same : text_cmp x.0 y.0 ≡ Equal =
+      ap (text_cmp x.0) (there ∙ sym here) ∙ equal _ ((eq_by_cmp_equiv text_keys.total).refl x.0) in
+      let seconds : text_cmp x.1 y.1 ≡ Less =
+      ap (λ r. ordering_then r (text_cmp x.1 y.1)) (sym same) ∙ less in
+      ap (λ r. ordering_then r (text_cmp x.0 y.0)) seconds
 
-module _ (agent : List ℕ) where
-  below-firsts : (k : Link) (es : List (Link × Unit {0})) → k.1 ≡ agent → AreOf agent es
-      → T (below_all link_cmp k es) → T (below_all text_cmp k.0 (firsts es))
-  below-firsts k [] at of h = tt
-  below-firsts k (e ∷ es) at of h =
-      both _ _
-      (lesser (text_cmp k.0 e.0.0) (text_cmp k.1 e.0.1) (same_agent agent k.1 e.0.1 at of.0)
-      (first _ _ h))
-      (below-firsts k es at of.1 (second _ _ h))
+  below-turned : (x : NamePair) (es : List (NamePair × Unit {0})) → x.0 ≡ name → AreOf es
+      → AllByRecursion (λ y. names_cmp x y ≡ Less) (map (λ e. e.0) es)
+      → AllByRecursion (λ y. names_cmp (x.1, x.0) y ≡ Less) (map (λ e. e.0) (map turn es))
+  below-turned x [] here of below = tt
+  below-turned x (e ∷ es) here of below =
+      (less-turned x e.0 here of.0 below.0, below-turned x es here of.1 below.1)
 
-  -- links of one agent are in the order of their first parts
-  is_sorted-firsts : (es : List (Link × Unit {0})) → AreOf agent es → T (is_sorted link_cmp es)
-      → T (is_sorted text_cmp (firsts es))
-  is_sorted-firsts [] of h = tt
-  is_sorted-firsts (e ∷ es) of h =
-      both _ _ (below-firsts e.0 es of.0 of.1 (first _ _ h))
-      (is_sorted-firsts es of.1 (second _ _ h))
+  ascending-turned : (es : List (NamePair × Unit {0})) → AreOf es → AreAscending names_cmp es
+      → AreAscending names_cmp (map turn es)
+  unfolding IsStrictlySortedBy
+  ascending-turned [] of up = tt
+  ascending-turned (e ∷ es) of up =
+      (below-turned e.0 es of.0 of.1 up.0, ascending-turned es of.1 up.1)
 
-  -- and are found by them
-  find-firsts : (p : List ℕ) (es : List (Link × Unit {0})) → AreOf agent es
-      → find link_cmp (p, agent) es ≡ lookup (is_at (text_cmp p)) (firsts es)
-  find-firsts p [] of = refl
-  find-firsts p (e ∷ es) of =
-      let here = is_eq (text_cmp p e.0.0) in
-      (λ i. cond (tie (text_cmp p e.0.0) (text_cmp agent e.0.1) i) (Some e.1)
-      (find-firsts p es of.1 i))
-      ∙ ap (λ b. cond (here && b) (Some e.1) (lookup (is_at (text_cmp p)) (firsts es)))
-      (same_agent agent agent e.0.1 refl of.0)
-      ∙ ap (λ b. cond b (Some e.1) (lookup (is_at (text_cmp p)) (firsts es))) (and-true here)
+  has_first : (pairs : FinSet names_cmp) (pair : NamePair) (u : Unit {0})
+      → get (with_first name pairs) pair ≡ Some u → pair.0 ≡ name
+  has_first pairs pair u is =
+      by (get pairs pair) (same_text pair.0 name) refl
+      (sym (get-select names_keys (λ pair u. only_if (same_text pair.0 name) u) pairs pair) ∙ is)
+    where
+      by : (o : Option (Unit {0})) (b : Bool) → same_text pair.0 name ≡ b
+          → option_and_then (λ x. only_if b x) o ≡ Some u → pair.0 ≡ name
+      by None b t e = absurd (cc)
+      by (Some x) true t e = (bytes_eq-Decides pair.0 name).0 t
+      by (Some x) false t e = absurd (cc)
 
--- the link, where it has this agent
-abbrev to : List ℕ → Link → Unit {0} → Option (Unit {0})
-to agent link u = only_if (same_text link.1 agent) u
-
--- a link of this agent's has it
-has_agent : (links : FinSet link_cmp) (agent : List ℕ) (link : Link) (u : Unit {0})
-    → get (principals_of agent (link_world links)) link ≡ Some u → link.1 ≡ agent
-has_agent links agent link u is =
-    by (get links link) (same_text link.1 agent) refl
-    (sym (get-select link_keys (to agent) links link) ∙ is)
-  where
-    by : (o : Option (Unit {0})) (b : Bool) → same_text link.1 agent ≡ b
-        → option_and_then (λ x. only_if b x) o ≡ Some u → link.1 ≡ agent
-    by None b t e = absurd (cc)
-    by (Some x) true t e = (bytes_eq-Decides link.1 agent).0 t
-    by (Some x) false t e = absurd (cc)
-
--- and a link to this agent is one of its own
-at_agent : (links : FinSet link_cmp) (agent p : List ℕ)
-    → get (principals_of agent (link_world links)) (p, agent) ≡ get links (p, agent)
-at_agent links agent p =
-    get-select link_keys (to agent) links (p, agent)
-    ∙ ap (λ b. option_and_then (λ x. only_if b x) (get links (p, agent)))
-    ((bytes_eq-Decides agent agent).1 refl)
-    ∙ itself (get links (p, agent))
-  where
-    itself : (o : Option (Unit {0})) → option_and_then (λ x. only_if true x) o ≡ o
-    itself None = refl
-    itself (Some x) = refl
-
--- the principals of an agent are the accounts of its group in the other order
-pub principals-group : (agents principals : FinSet link_cmp) → AreMirrored agents principals
-    → (agent : List ℕ)
-    → principal_names (principals_of agent (link_world agents))
-    ≡ agent_rows (agents_of agent (link_world principals))
-principals-group agents principals are agent =
-    let own = principals_of agent (link_world agents) in
-    let rs = firsts (entries own) in
-    let of : AreOf agent (entries own) =
-    recursion_from_All (λ e. e.0.1 ≡ agent) (entries own)
-    (All-entries link_keys.total (λ e. e.0.1 ≡ agent) own (has_agent agents agent)) in
-    sym (agents-group principals agent
-    ∙ ap (map (λ (e : Link × Unit {0}). e.0.1))
-    (group_is text_keys text_keys principals agent rs
-    (is_sorted-firsts agent (entries own) of (entries_sorted own))
-    (λ p. are p agent ∙ sym (at_agent agents agent p) ∙ get-entries own (p, agent)
-    ∙ find-firsts agent p (entries own) of))
-    ∙ map-group_rows (λ (link : Link) (u : Unit {0}). link.1) agent rs
-    ∙ map-map (λ r. r.0) (λ (e : Link × Unit {0}). (e.0.0, e.1)) (entries own)
-    ∙ sym (map-map (λ (link : Link). link.0) (λ (e : Link × Unit {0}). e.0) (entries own)))
+-- so the pairs that have a name second are listed as those that have it first in the other order
+pub firsts-mirrored : (pairs turned : FinSet names_cmp) → AreMirrored pairs turned
+    → (name : List ℕ) → seconds_of name turned ≡ firsts_of name pairs
+firsts-mirrored pairs turned are name =
+    let own = entries (with_first name turned) in
+    let of : AreOf name own =
+    recursion_from_All (λ e. e.0.0 ≡ name) own (All-entries names_keys.total (λ e. e.0.0 ≡ name)
+    (with_first name turned) (has_first name turned)) in
+    let same : entries (with_second name pairs) ≡ map turn own =
+    entries_are names_keys (with_second name pairs) (map turn own)
+    (ascending-turned name own of
+    (ascending_from_is_sorted names_cmp own (entries_sorted (with_first name turned)))) (λ q.
+    get-select names_keys (λ pair u. only_if (same_text pair.1 name) u) pairs q
+    ∙ ap (option_and_then (λ u. only_if (same_text q.1 name) u)) (sym (are q.0 q.1))
+    ∙ sym (get-select names_keys (λ pair u. only_if (same_text pair.0 name) u) turned (q.1, q.0))
+    ∙ get-entries (with_first name turned) (q.1, q.0) ∙ sym (find-turned q own)) in
+    map-map (λ (pair : NamePair). pair.1) (λ (e : NamePair × Unit {0}). e.0) own
+    ∙ sym (map-map (λ (e : NamePair × Unit {0}). e.0.0) turn own)
+    ∙ sym (map-map (λ (pair : NamePair). pair.0) (λ (e : NamePair × Unit {0}). e.0) (map turn own))
+    ∙ sym (ap (λ es. map (λ (pair : NamePair). pair.0) (map (λ e. e.0) es)) same)

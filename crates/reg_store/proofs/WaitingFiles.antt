@@ -2,8 +2,11 @@
 use Rattle.std.proofs.Common.{◌≡◌, ◌++◌, ℕ, true, false, List, [], ◌∷◌, refl, ap, ◌∙◌, map}
 use Rattle.std.specs.Prelude.{Option, filter_map}
 use Rattle.std.specs.BTreeMap.{BTreeMap}
+use Rattle.std.specs.Borrow.{Bor}
 use Rattle.std.specs.FinMap.{entries}
 use Rattle.std.specs.List.{cons_option}
+use Rattle.std.specs.Map.Iter.{deref_pair}
+use Rattle.std.proofs.lemmas.List.{map-append}
 use Rattle.std.proofs.lemmas.List.Elements.{filter_map-append}
 use Rattle.reg_maps.specs.Maps.{keyed, only_if}
 use Rattle.reg_maps.specs.Groups.{rows_in, group_rows}
@@ -31,14 +34,18 @@ files_of-group w a (r ∷ rs) =
     ap (cons_option (waiting_file w (a, r.0) r.1)) (files_of-group w a rs)
 
 -- the files of one more group
-pub files_of-push : (w : World) (es : List (List ℕ × BTreeMap (List ℕ) Case))
-    (e : List ℕ × BTreeMap (List ℕ) Case)
-    → files_of w (rows_in (es ++ e ∷ []))
-    ≡ files_of w (rows_in es) ++ filter_map (λ r. waiting_file w (e.0, r.0) r.1) e.1.entries
-files_of-push w es e =
-    ap (files_of w) (rows_in-push es e)
-    ∙ filter_map-append (λ e. waiting_file w e.0 e.1) (rows_in es) (group_rows e.0 e.1.entries)
-    ∙ ap (λ files. files_of w (rows_in es) ++ files) (files_of-group w e.0 e.1.entries)
+pub files_of-push : (w : World) (done : List (Bor (List ℕ) × Bor (BTreeMap (List ℕ) Case)))
+    (next : Bor (List ℕ) × Bor (BTreeMap (List ℕ) Case))
+    → files_of w (rows_in (map deref_pair (done ++ next ∷ [])))
+    ≡ files_of w (rows_in (map deref_pair done))
+    ++ filter_map (λ r. waiting_file w (next.0.now, r.0) r.1) next.1.now.entries
+files_of-push w done next =
+    let rows = rows_in (map deref_pair done) in
+    let more = next.1.now.entries in
+    ap (λ es. files_of w (rows_in es)) (map-append deref_pair done (next ∷ []))
+    ∙ ap (files_of w) (rows_in-push (map deref_pair done) (deref_pair next))
+    ∙ filter_map-append (λ e. waiting_file w e.0 e.1) rows (group_rows next.0.now more)
+    ∙ ap (λ files. files_of w rows ++ files) (files_of-group w next.0.now more)
 
 -- the files of what is chosen are what is chosen of the files
 files_of-chosen : (w : World) (rs : List (RequestName × Case))

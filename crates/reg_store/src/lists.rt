@@ -216,11 +216,11 @@ impl Keeper for ListKeeper {
     }
 
     fn agents(&mut self, account: &Account) -> Result<Rows<Account>, Fault> {
-        Ok(self.links.agents(self.alloc, account)?)
+        Ok(self.links.seconds(self.alloc, account)?)
     }
 
     fn principals(&mut self, account: &Account) -> Result<Rows<Account>, Fault> {
-        Ok(self.links.principals(self.alloc, account)?)
+        Ok(self.links.firsts(self.alloc, account)?)
     }
 
     fn principal_rows(

@@ -1,7 +1,6 @@
 -- An office is begun beside other tables.
-use Rattle.std.proofs.Common.{◌≡◌, ◌≢◌, inl, inr, ◌<◌, ◌≤◌, ℕ, nat_lt, true}
-use Rattle.std.proofs.Common.{List, [], ◌∷◌, ◌++◌, length, drop, Some, slice_get}
-use Rattle.std.proofs.Common.{refl, sym, ap, subst, ◌∙◌, arith}
+use Rattle.std.proofs.Common.{◌≡◌, ◌≢◌, inl, inr, ◌<◌, ◌≤◌, ℕ, nat_lt, true, List, [], ◌∷◌, ◌++◌}
+use Rattle.std.proofs.Common.{length, drop, Some, slice_get, refl, sym, ap, subst, ◌∙◌, arith}
 use Rattle.std.specs.List.{AllByRecursion, position_from}
 use Rattle.std.specs.List.Sorted.{IsPermutation}
 use Rattle.std.proofs.lemmas.Bool.{cases_Bool, lt-ltb, ltb-true}
@@ -13,7 +12,7 @@ use Rattle.sqlite.specs.Table.{Table}
 use Rattle.sqlite.specs.Tree.{Trees}
 use Rattle.sqlite_catalog.proofs.StepLemmas.{table_below}
 use Rattle.sqlite_catalog.specs.Change.{created, next_tree}
-use Rattle.sqlite_rules.specs.Lists.{Has}
+use Rattle.sqlite_rules.proofs.ListLemmas.{all_from, all_has, has_left, has_right}
 use Rattle.sqlite_schema.specs.Names.{same_name}
 use Rattle.reg_tables.specs.Having.{AreFree, unplaced}
 use Rattle.reg_tables.specs.Making.{AddsVersion, AreToBeEmpty, HasCounter, IsBegunBeside}
@@ -21,31 +20,28 @@ use Rattle.reg_tables.specs.Making.{MakesEach, placed, version_row, with_tables}
 use Rattle.reg_tables.specs.Schema.{office_schema, office_table, office_texts}
 use Rattle.reg_tables.specs.Version.{below}
 use Rattle.reg_tables.proofs.DefineTexts.{all_countless, all_defined}
+use Rattle.reg_tables.proofs.Library.EachOf.{all_back}
 use Rattle.reg_tables.proofs.Library.GrowingLists.{at_end, got_at_end}
 use Rattle.reg_tables.proofs.Library.GrowingSchemas.{unnamed}
 
 -- ---- The trees of tables that come are above those of tables that are there
 
-has_last : (tables : List Table) (t : Table) → Has (tables ++ t ∷ []) t
-has_last [] t = inl refl
-has_last (s ∷ tables) t = inr (has_last tables t)
-
-next_above : (schema : Schema) (t : Table) → next_tree schema < next_tree (created schema t)
+pub next_above : (schema : Schema) (t : Table) → next_tree schema < next_tree (created schema t)
 next_above schema t =
     table_below (created schema t) (record t { tree = next_tree schema })
-    (has_last schema.tables (record t { tree = next_tree schema }))
+    (has_right schema.tables (record t { tree = next_tree schema } ∷ []) _ (inl refl))
 
 module _ (n : ℕ) (trees : Trees) where
-  held_low : (t : ℕ) → t < n → below n trees t ≡ trees t
+  pub held_low : (t : ℕ) → t < n → below n trees t ≡ trees t
   held_low t low = rw (lt-ltb t n low) refl
 
-  none_high : (t : ℕ) → n ≤ t → below n trees t ≡ []
+  pub none_high : (t : ℕ) → n ≤ t → below n trees t ≡ []
   none_high t high = elim (cases_Bool (nat_lt t n)) [
     | inl low ↦ absurd (omega (arith, high, ltb-true t n low))
     | inr is ↦ rw is refl
   ]
 
-  all_empty : (schema : Schema) (tables : List Table) → n ≤ next_tree schema
+  pub all_empty : (schema : Schema) (tables : List Table) → n ≤ next_tree schema
       → AreToBeEmpty (below n trees) schema tables
   all_empty schema [] high = tt
   all_empty schema (t ∷ tables) high =
@@ -54,15 +50,9 @@ module _ (n : ℕ) (trees : Trees) where
         all_empty (created schema (unplaced t)) tables (omega (arith, high, more)),
       )
 
-  held_rows : (tables : List Table) → ((t : Table) → Has tables t → t.tree < n)
-      → AllByRecursion (λ t. trees t.tree ≡ below n trees t.tree) tables
-  held_rows [] low = tt
-  held_rows (t ∷ tables) low =
-      (sym (held_low t.tree (low t (inl refl))), held_rows tables (λ u h. low u (inr h)))
-
 -- ---- The schema
 
-tables_are : (schema : Schema) (tables : List Table)
+pub tables_are : (schema : Schema) (tables : List Table)
     → (with_tables schema tables).tables ≡ schema.tables ++ placed schema tables
 tables_are schema [] = sym (append-nil schema.tables)
 tables_are schema (t ∷ tables) =
@@ -92,29 +82,12 @@ module _ (schema : Schema) where
 
 -- ---- The rows
 
-all_front : (P : Table → Type 0) (tables more : List Table) → AllByRecursion P (tables ++ more)
-    → AllByRecursion P tables
-all_front P [] more all = tt
-all_front P (t ∷ tables) more all = (all.0, all_front P tables more all.1)
-
-all_back : (P : Table → Type 0) (tables more : List Table) → AllByRecursion P (tables ++ more)
-    → AllByRecursion P more
-all_back P [] more all = all
-all_back P (t ∷ tables) more all = all_back P tables more all.1
-
 module _ (k : ℕ) (mid new old : Trees) where
   -- what the row of the version leaves alone holds what it held
-  low_kept : (tables : List Table) → ((t : Table) → Has tables t → t.tree < k)
-      → AllByRecursion (λ (t : Table). t.tree ≢ k → new t.tree ≡ mid t.tree) tables
-      → AllByRecursion (λ (t : Table). mid t.tree ≡ below k old t.tree) tables
-      → AllByRecursion (λ (t : Table). new t.tree ≡ old t.tree) tables
-  low_kept [] low beside rows = tt
-  low_kept (t ∷ tables) low beside rows =
-      let under = low t (inl refl) in (
-        beside.0 (λ same. let e = same in absurd (omega (arith, under, e))) ∙ rows.0
-            ∙ held_low k old t.tree under,
-        low_kept tables (λ u h. low u (inr h)) beside.1 rows.1,
-      )
+  low_kept : (t : Table) → t.tree < k → (t.tree ≢ k → new t.tree ≡ mid t.tree)
+      → mid t.tree ≡ below k old t.tree → new t.tree ≡ old t.tree
+  low_kept t low beside rows =
+      beside (λ same. let e = same in absurd (omega (arith, low, e))) ∙ rows ∙ held_low k old t.tree low
 
   high_empty : (schema : Schema) (tables : List Table) → k < next_tree schema
       → AllByRecursion (λ (t : Table). t.tree ≢ k → new t.tree ≡ mid t.tree) (placed schema tables)
@@ -136,7 +109,10 @@ begun_beside old mid new makes adds free counter =
     let after = created old.schema (unplaced office_table) in
     let made = (makes old.schema office_schema.tables (below k old.trees) all_defined counter
     all_countless (all_empty k old.trees old.schema office_schema.tables (omega arith))
-    (record { has = refl; rows = held_rows k old.trees old.schema.tables low })).0 in
+    (record {
+      has = refl;
+      rows = all_from _ old.schema.tables (λ t here. sym (held_low k old.trees t.tree (low t here)));
+    })).0 in
     let are = ap (λ (s : Schema). s.tables) made.has ∙ tables_are old.schema office_schema.tables in
     let added = adds (length old.schema.tables) k
     (ap (position_from (λ (t : Table). same_name t.name office_table.name) 0) are
@@ -146,14 +122,16 @@ begun_beside old mid new makes adds free counter =
     let Holds = λ (t : Table). mid.trees t.tree ≡ below k old.trees t.tree in
     let beside = subst (AllByRecursion Beside) are added.beside in
     let rows = subst (AllByRecursion Holds) (tables_are old.schema office_schema.tables) made.rows in
-    let here = all_back Holds old.schema.tables (placed old.schema office_schema.tables) rows in
-    let others = all_back Beside old.schema.tables (placed old.schema office_schema.tables) beside in
+    let more = placed old.schema office_schema.tables in
+    let here = all_back Holds old.schema.tables more rows in
+    let others = all_back Beside old.schema.tables more beside in
     let none : mid.trees k ≡ [] = here.0 ∙ none_high k old.trees k (omega arith) in
     record {
       has = added.schema ∙ made.has;
-      kept = low_kept k mid.trees new.trees old.trees old.schema.tables low
-          (all_front Beside old.schema.tables (placed old.schema office_schema.tables) beside)
-          (all_front Holds old.schema.tables (placed old.schema office_schema.tables) rows);
+      kept = all_from _ old.schema.tables (λ t here.
+          low_kept k mid.trees new.trees old.trees t (low t here)
+          (all_has Beside (old.schema.tables ++ more) t beside (has_left old.schema.tables more t here))
+          (all_has Holds (old.schema.tables ++ more) t rows (has_left old.schema.tables more t here)));
       version = record {
         row = added.id ∷ version_row;
         only = one_permutation (added.id ∷ version_row) (new.trees k)

@@ -5,65 +5,60 @@ use Rattle.sqlite_schema.specs.Names.{same_name}
 use Rattle.sqlite_tied.specs.Compute.{everything}
 use Rattle.reg_tables.specs.Having.{AreDefined, AreNamed, Defines, unplaced}
 use Rattle.reg_tables.specs.Making.{AreCountless}
-use Rattle.reg_tables.specs.Schema.{advice_table, agents_table, blocks_table, caps_table}
-use Rattle.reg_tables.specs.Schema.{entries_table, holds_table, minutes_table}
-use Rattle.reg_tables.specs.Texts.{make_agents, make_holds, make_minutes}
-use Rattle.reg_tables.specs.Texts.{make_advice, make_blocks, make_caps, make_entries}
-use Rattle.reg_tables.specs.Texts.{make_office, make_pool, make_queue, make_ranges}
-use Rattle.reg_tables.specs.Schema.{office_schema, office_table}
-use Rattle.reg_tables.specs.Texts.{make_registries, make_requests}
-use Rattle.reg_tables.specs.Schema.{office_texts, pool_table, queue_table, ranges_table}
-use Rattle.reg_tables.specs.Schema.{registries_table, requests_table}
+use Rattle.reg_tables.specs.Schema.{advice_table, agents_table, blocks_table, caps_table, entries_table}
+use Rattle.reg_tables.specs.Schema.{holds_table, minutes_table, office_schema, office_table, office_texts}
+use Rattle.reg_tables.specs.Schema.{pool_table, queue_table, ranges_table, registries_table, requests_table}
+use Rattle.reg_tables.specs.declared.texts.TheConstants as texts
 
-office_defined : Defines make_office (unplaced office_table)
+office_defined : Defines texts.MAKE_OFFICE.now (unplaced office_table)
 unfolding everything
 office_defined = record { parsed = _; is = refl; makes = refl; whole = refl; defined = refl }
 
-caps_defined : Defines make_caps (unplaced caps_table)
+caps_defined : Defines texts.MAKE_CAPS.now (unplaced caps_table)
 unfolding everything
 caps_defined = record { parsed = _; is = refl; makes = refl; whole = refl; defined = refl }
 
-registries_defined : Defines make_registries (unplaced registries_table)
+registries_defined : Defines texts.MAKE_REGISTRIES.now (unplaced registries_table)
 unfolding everything
 registries_defined = record { parsed = _; is = refl; makes = refl; whole = refl; defined = refl }
 
-ranges_defined : Defines make_ranges (unplaced ranges_table)
+ranges_defined : Defines texts.MAKE_RANGES.now (unplaced ranges_table)
 unfolding everything
 ranges_defined = record { parsed = _; is = refl; makes = refl; whole = refl; defined = refl }
 
-entries_defined : Defines make_entries (unplaced entries_table)
+entries_defined : Defines texts.MAKE_ENTRIES.now (unplaced entries_table)
 unfolding everything
 entries_defined = record { parsed = _; is = refl; makes = refl; whole = refl; defined = refl }
 
-requests_defined : Defines make_requests (unplaced requests_table)
+requests_defined : Defines texts.MAKE_REQUESTS.now (unplaced requests_table)
 unfolding everything
 requests_defined = record { parsed = _; is = refl; makes = refl; whole = refl; defined = refl }
 
-queue_defined : Defines make_queue (unplaced queue_table)
+queue_defined : Defines texts.MAKE_QUEUE.now (unplaced queue_table)
 unfolding everything
 queue_defined = record { parsed = _; is = refl; makes = refl; whole = refl; defined = refl }
 
-advice_defined : Defines make_advice (unplaced advice_table)
+advice_defined : Defines texts.MAKE_ADVICE.now (unplaced advice_table)
 unfolding everything
 advice_defined = record { parsed = _; is = refl; makes = refl; whole = refl; defined = refl }
 
-pool_defined : Defines make_pool (unplaced pool_table)
+pool_defined : Defines texts.MAKE_POOL.now (unplaced pool_table)
 unfolding everything
 pool_defined = record { parsed = _; is = refl; makes = refl; whole = refl; defined = refl }
 
-blocks_defined : Defines make_blocks (unplaced blocks_table)
+blocks_defined : Defines texts.MAKE_BLOCKS.now (unplaced blocks_table)
 unfolding everything
 blocks_defined = record { parsed = _; is = refl; makes = refl; whole = refl; defined = refl }
 
-holds_defined : Defines make_holds (unplaced holds_table)
+holds_defined : Defines texts.MAKE_HOLDS.now (unplaced holds_table)
 unfolding everything
 holds_defined = record { parsed = _; is = refl; makes = refl; whole = refl; defined = refl }
 
-minutes_defined : Defines make_minutes (unplaced minutes_table)
+minutes_defined : Defines texts.MAKE_MINUTES.now (unplaced minutes_table)
 unfolding everything
 minutes_defined = record { parsed = _; is = refl; makes = refl; whole = refl; defined = refl }
 
-agents_defined : Defines make_agents (unplaced agents_table)
+agents_defined : Defines texts.MAKE_AGENTS.now (unplaced agents_table)
 unfolding everything
 agents_defined = record { parsed = _; is = refl; makes = refl; whole = refl; defined = refl }
 

@@ -6,17 +6,6 @@ use Rattle.sqlite.specs.State.{State, Survives}
 use Rattle.reg_tables.specs.Connection.{Endures, HoldsOn, Stays, Works}
 use Rattle.reg_tables.specs.Lasting.{Lasts}
 
-pub endures_in : (old new : State) (Commits : Trees → Type 0) → Survives old new Commits
-    → Endures old new
-endures_in old new Commits it = record {
-  clean = λ clean. let less = it.clean in omega arith;
-  faults = it.counts;
-  stays_open = λ clean none was. elim (it.closes clean was) [
-    | inl still ↦ still
-    | inr more ↦ absurd (omega (arith, more, none))
-  ];
-}
-
 pub endures_lasting : (old new : State) → Lasts old new → Endures old new
 endures_lasting old new it = record {
   clean = λ clean. let less = it.clean in omega arith;
@@ -26,6 +15,11 @@ endures_lasting old new it = record {
     | inr more ↦ absurd (omega (arith, more, none))
   ];
 }
+
+pub endures_in : (old new : State) (Commits : Trees → Type 0) → Survives old new Commits
+    → Endures old new
+endures_in old new Commits it =
+    endures_lasting old new (record { clean = it.clean; counts = it.counts; closes = it.closes })
 
 pub endures_still : (s : State) → Endures s s
 endures_still s = record { clean = λ clean. clean; faults = omega arith; stays_open = λ _ _ still. still }

@@ -12,19 +12,15 @@ use Rattle.sqlite.specs.declared.error.Error.{Error}
 use Rattle.sqlite_resolve.specs.declared.compiled.Compiled.{Compiled}
 use Rattle.sqlite_schema.specs.declared.command.Returning.{Returning}
 use Rattle.sqlite_trees.specs.declared.error.StoreError.{StoreError}
-use Rattle.sqlite_trees.specs.declared.error.StoreError.TheVariants.{OutOfMemory, Io, Corrupt, Full, Broken, Unstorable}
+use Rattle.sqlite_trees.specs.declared.error.StoreError.TheVariants.{OutOfMemory, Broken, Unstorable}
 use Rattle.sqlite.specs.Store.{Ghosts}
 use Rattle.reg_tables.specs.Faulting.{HasFailed, IsExcused, IsSame}
 
 module _ (old new : State) where
   any_size : (P : Type 0) (cause : StoreError) → HasCause old new P cause
       → HasCause old new (Unit {0}) cause
-  any_size P OutOfMemory h = h
-  any_size P Io h = h
-  any_size P Corrupt h = h
-  any_size P Full h = h
-  any_size P Broken h = h
   any_size P Unstorable h = tt
+  any_size P _ h = h
 
   pub has_failed : (P : Type 0) (e : Error) → Fails old new P e → HasFailed old new e
   has_failed P e f = (f.0, f.1, any_size P f.0 f.2)
@@ -80,11 +76,9 @@ failed_later a b c e u counts (inl f) = inl (f.0, f.1, cause_before f.0 f.2)
     cause_before : (cause : StoreError) → HasCause b c (Unit {0}) cause
         → HasCause a c (Unit {0}) cause
     cause_before OutOfMemory h = h
-    cause_before Io h = omega (arith, counts, h)
-    cause_before Corrupt h = omega (arith, counts, h)
-    cause_before Full h = omega (arith, counts, h)
     cause_before Broken h = absurd (let still = u.0.is_open in cc)
     cause_before Unstorable h = tt
+    cause_before _ h = omega (arith, counts, h)
 
 -- why a statement in a transaction, or after its end, is not carried out
 pub not_carried : {S : Type 0} (g : Ghosts S) (held : ℕ) (sql : List ℕ) (params : Row)

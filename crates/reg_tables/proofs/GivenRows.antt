@@ -2,10 +2,9 @@
 use Rattle.std.proofs.Common.{◌≡◌, ℕ, ◌+◌, ◌*◌, ◌/◌, List, [], ◌∷◌, ◌++◌, length, map, slice_get}
 use Rattle.std.proofs.Common.{Some, drop, ◌-◌, false, refl, sym, ap, subst, ◌∙◌, arith, append_assoc, length-append}
 use Rattle.std.specs.List.{range_with_len}
-use Rattle.std.proofs.lemmas.List.{take_all}
+use Rattle.std.proofs.lemmas.List.{take_all, append-nil}
 use Rattle.std.proofs.lemmas.List.FromFn.{length-map-range_with_len}
 use Rattle.std.proofs.lemmas.Nat.{div-mul-add}
-use Rattle.std.proofs.lemmas.List.{append-nil}
 use Rattle.sqlite.specs.declared.types.Value.TheVariants.{Null}
 use Rattle.sqlite.specs.Cast.{cast_all}
 use Rattle.sqlite.specs.Command.TheVariants.{Insert}
@@ -18,6 +17,7 @@ use Rattle.sqlite.specs.Table.{Table}
 use Rattle.sqlite.specs.Term.{Term, col, eval_all, lit}
 use Rattle.sqlite.proofs.Callers.{IsPlain, command_of}
 use Rattle.reg_tables.specs.Bare.{no_stamps}
+use Rattle.reg_tables.specs.Kinds.{WritesRows}
 use Rattle.reg_tables.specs.Schema.{office_schema}
 use Rattle.reg_tables.proofs.InsertLemmas.{Adds}
 use Rattle.reg_tables.proofs.Library.Casts.{cast_null}
@@ -36,6 +36,7 @@ pub record AddsGiven (sql : List ℕ) (at : ℕ) (table : Table) : Type 0 where
   pub plain : IsPlain (understood office_schema sql)
   pub counts : table.is_counted ≡ false
   pub stamps : table.stamps ≡ no_stamps
+  pub writes : WritesRows sql
 
 -- the columns after some are those of the rest
 columns_after : (front row : Row)

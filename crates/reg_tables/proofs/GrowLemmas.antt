@@ -1,7 +1,6 @@
 -- Where the tables of an office came and stand alone, there were none before.
-use Rattle.std.proofs.Common.{◌≡◌, ◌≤◌}
-use Rattle.std.proofs.Common.{List, [], ◌∷◌, ◌++◌, length}
-use Rattle.std.proofs.Common.{refl, sym, ap, ◌∙◌, arith, length-append}
+use Rattle.std.proofs.Common.{◌≡◌, ◌≤◌, List, [], ◌∷◌, ◌++◌, length, refl, sym, ap, ◌∙◌, arith}
+use Rattle.std.proofs.Common.{length-append}
 use Rattle.sqlite.specs.Schema.{Schema}
 use Rattle.reg_tables.specs.Having.{GainsTables}
 use Rattle.reg_tables.specs.Making.{no_schema}

@@ -21,12 +21,12 @@ use Rattle.reg_tables.specs.declared.version.Version.{Version}
 use Rattle.reg_tables.specs.declared.version.Version.TheVariants.{First, Second, Third}
 use Rattle.reg_tables.specs.Making.{IsBlank, no_schema}
 use Rattle.reg_tables.specs.Schema.{office_schema}
+use Rattle.reg_tables.proofs.Library.EachOf.{all_if, all_then}
 use Rattle.reg_tables.proofs.Library.GrowingLists.{got_at_end}
 
 pub all_has : (schema : Schema) (tables : List Table) → AllByRecursion (FindsTable schema) tables
     → AllByRecursion (HasTable schema) tables
-all_has schema [] found = tt
-all_has schema (t ∷ tables) found = (found.0.has, all_has schema tables found.1)
+all_has schema tables found = all_then tables found (λ t it. it.has)
 
 abbrev is_some_of : (ℕ → Bool) → Option ℕ → Bool
 is_some_of p None = false
@@ -75,16 +75,13 @@ found_from schema front (t ∷ tables) is e =
 free_by : (schema : Schema) (tables : List Table)
     → list_all (λ (t : Table). not (is_used schema t.name)) tables ≡ true
     → AllByRecursion (λ (t : Table). is_used schema t.name ≡ false) tables
-free_by schema [] e = tt
-free_by schema (t ∷ tables) e =
-    let both = and_parts _ _ e in
-    (not-true _ both.0, free_by schema tables both.1)
+free_by schema tables e =
+    all_if (λ (t : Table). not (is_used schema t.name)) _ tables e (λ t free. not-true _ free)
 
 -- a version has some of the tables
 pub counted : (v : Version) → table_count v ≤ length office_schema.tables
 counted First = omega arith
-counted Second = omega arith
-counted Third = omega arith
+counted _ = omega arith
 
 version_has : (v : Version) → FindsTablesOf v (schema_of v)
 unfolding same_name

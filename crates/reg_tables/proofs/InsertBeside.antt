@@ -10,7 +10,7 @@ use Rattle.sqlite_schema.specs.Names.{table_named}
 use Rattle.sqlite_tied.specs.Compute.{everything}
 use Rattle.reg_tables.specs.Making.{AddsVersion, version_row}
 use Rattle.reg_tables.specs.Schema.{office_table}
-use Rattle.reg_tables.specs.Texts.{insert_version}
+use Rattle.reg_tables.specs.declared.texts.TheConstants as texts
 use Rattle.reg_tables.specs.Version.{newest, number_of}
 use Rattle.reg_tables.proofs.GivenRows.{given_terms}
 use Rattle.reg_tables.proofs.InsertLemmas.{AddsTo, adds_to}
@@ -18,16 +18,16 @@ use Rattle.reg_tables.proofs.Library.Casts.{cast_int, cast_null}
 
 module _ (schema : Schema) (at k : ℕ) (named : table_named schema office_table.name ≡ Some at)
     (there : slice_get schema.tables at ≡ Some (record office_table { tree = k })) where
-  says_version : command_of (understood schema insert_version)
+  says_version : command_of (understood schema texts.INSERT_VERSION.now)
       ≡ Insert at (Values (given_terms 1) 2)
   unfolding understood everything
   says_version = rw (named, there) refl
 
-  plainly : IsPlain (understood schema insert_version)
+  plainly : IsPlain (understood schema texts.INSERT_VERSION.now)
   unfolding understood everything
   plainly = rw (named, there) (refl, refl)
 
-  adds_there : AddsTo schema insert_version at (record office_table { tree = k }) (given_terms 1)
+  adds_there : AddsTo schema texts.INSERT_VERSION.now at (record office_table { tree = k }) (given_terms 1)
       version_row
   adds_there = record {
     slot = there;
@@ -39,7 +39,7 @@ module _ (schema : Schema) (at k : ℕ) (named : table_named schema office_table
   }
 
 pub adds_version_there : (old new : State) (count : ℕ)
-    → Executes insert_version version_row old new (Ok count) → AddsVersion old.now new.now
+    → Executes texts.INSERT_VERSION.now version_row old new (Ok count) → AddsVersion old.now new.now
 adds_version_there old new count ran at k named there =
-    adds_to old.now.schema insert_version at (record office_table { tree = k }) (given_terms 1)
+    adds_to old.now.schema texts.INSERT_VERSION.now at (record office_table { tree = k }) (given_terms 1)
     version_row (adds_there old.now.schema at k named there) old new count refl ran

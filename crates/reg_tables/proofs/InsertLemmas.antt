@@ -1,10 +1,10 @@
 -- What an INSERT of one row does to a table of an office whose rowid is no column.
-use Rattle.std.proofs.Common.{◌≡◌, ◌≢◌, ℕ, List, [], ◌∷◌, length, map, drop, fold}
+use Rattle.std.proofs.Common.{◌≡◌, ◌≢◌, ℕ, ℤ, List, [], ◌∷◌, length, map, drop, fold}
 use Rattle.std.proofs.Common.{◌+◌, ◌/◌, slice_get, Bool, true, false, not, ◌&&◌, ◌==◌, if◌then◌else◌}
 use Rattle.std.proofs.Common.{Option, Some, None, Ok, Result, refl, sym, ap, subst, ◌∙◌}
 use Rattle.std.specs.List.{AllByRecursion, filter_map, flat_map, list_all}
 use Rattle.std.specs.List.Sorted.{IsPermutation}
-use Rattle.std.proofs.lemmas.Bool.{and_parts, eqb-false}
+use Rattle.std.proofs.lemmas.Bool.{and_parts, eqb-false, not-true}
 use Rattle.sqlite.specs.declared.types.Value.TheVariants.{Null, Int}
 use Rattle.sqlite.specs.Order.{Row}
 use Rattle.sqlite.specs.Tree.{Trees, put_row}
@@ -36,8 +36,8 @@ use Rattle.sqlite.specs.Listing.{understood}
 use Rattle.sqlite.proofs.Callers.{IsPlain, command_of, runs_as, one_step, through}
 use Rattle.reg_tables.specs.Schema.{office_schema}
 use Rattle.reg_tables.specs.Inserting.{AddedRow, AddedTo}
-use Rattle.std.proofs.lemmas.Bool.{not-true}
-use Rattle.reg_tables.proofs.Library.Parts.{chosen, concluded, same_ok}
+use Rattle.reg_tables.proofs.Library.EachOf.{all_if, all_then}
+use Rattle.reg_tables.proofs.Library.Parts.{chosen, concluded, same_ok, went}
 use Rattle.reg_tables.proofs.Library.QuietReferences.{AreQuiet, quiet_tables}
 use Rattle.reg_tables.proofs.Library.RowLists.{permutation-put_row}
 
@@ -51,17 +51,11 @@ apart_if t u e = eqb-false t u (not-true _ e)
 abbrev pub is_apart : ℕ → Index → Bool
 is_apart t i = not (i.tree == t)
 
-apart_from : (t : ℕ) (indexes : List Index) → list_all (is_apart t) indexes ≡ true
-    → AllByRecursion (λ i. i.tree ≢ t) indexes
-apart_from t [] e = tt
-apart_from t (i ∷ more) e =
-    let both = and_parts _ _ e in
-    (apart_if i.tree t both.0, apart_from t more both.1)
-
 -- of a tree that is written out `refl` finds that no index has it
 pub unindexed : (t : ℕ) → list_all (is_apart t) office_schema.indexes ≡ true
     → IsNoIndex office_schema t
-unindexed t e = apart_from t office_schema.indexes e
+unindexed t e =
+    all_if (is_apart t) (λ i. i.tree ≢ t) office_schema.indexes e (λ i. apart_if i.tree t)
 
 -- ---- Where no row goes, no foreign key acts
 
@@ -92,6 +86,13 @@ module _ (schema : Schema) (keys : Keys) (tree : ℕ) (news : List Row) where
   idle_works = idle_tables schema.tables
 
 -- ---- An INSERT, whatever tables there are
+
+-- a table with no AUTOINCREMENT has no count
+pub uncounts : (task : Task) (db : Trees) (counter : Option Row) (top : ℤ) (next : Trees)
+    → task.table.is_counted ≡ false → Counts task db counter top (Ok next) → next ≡ db
+uncounts task db counter top next e h =
+    let plain : ◌≡◌ {A = Result Trees (Option Error)} (Ok next) (Ok db) = rw e at h in
+    same_ok plain
 
 -- the parts of an INSERT into a table that counts no rowids
 module _ (schema : Schema) (limit : Option ℕ) (table : Table) (params : Row) (db : Trees)
@@ -124,23 +125,16 @@ module _ (schema : Schema) (limit : Option ℕ) (table : Table) (params : Row) (
   abbrev Numbers : List Row → Option Row → Part Written
   Numbers sources counter = Enters counter (edit_by (rowids_for table (count_of counter)) sources)
 
-  uncounted : (mid : Trees) (counter : Option Row) (edit : Edit) (next : Trees)
-      → CountsOn counter edit mid (Ok next) → next ≡ mid
-  uncounted mid counter edit next h =
-      let same : ◌≡◌ {A = Result Trees (Option Error)} (Ok next) (Ok mid) = rw plain at h in
-      same_ok same
-
   entered : (counter : Option Row) (edit : Edit) (done : Written) → Enters counter edit (Ok done)
       → Edited schema Enforced db edit (Ok done.trees)
   entered counter edit done h =
-      let written = through (Edited schema Enforced db edit)
-      (λ mid. Then (CountsOn counter edit mid) (λ next. Gives (outcome edit next))) done h in
+      let written = went h in
       let mid = written.0 in
-      let counted = through (CountsOn counter edit mid) (λ next. Gives (outcome edit next))
-      done written.2 in
+      let counted = went written.2 in
       let trees : mid ≡ done.trees =
       sym (ap (λ (it : Written). it.trees) (same_ok counted.2)
-      ∙ uncounted mid counter edit counted.0 counted.1) in
+      ∙ uncounts task mid counter (fold higher (count_of counter) edit.news) counted.0 plain
+      counted.1) in
       subst (λ t. Edited schema Enforced db edit (Ok t)) trees written.1
 
   -- the trees are those that the edit of the rows leaves
@@ -148,10 +142,9 @@ module _ (schema : Schema) (limit : Option ℕ) (table : Table) (params : Row) (
       → (sources : List Row) × IsSource before (stamped table params) from sources
       × Applies schema Enforced db (edit_by Chosen sources) done.trees
   inserted from done h =
-      let given = through (Sourced limit before (stamped table params) from)
-      (λ sources. Then (Counter task db) (Numbers sources)) done h in
+      let given = went h in
       let sources = given.0 in
-      let counter = through (Counter task db) (Numbers sources) done given.2 in
+      let counter = went given.2 in
       let edit = edit_by Chosen sources in
       let numbered = subst (λ ids. Enters counter.0 (edit_by ids sources) (Ok done))
       (chosen table.is_counted (count_of counter.0) plain) counter.2 in
@@ -175,12 +168,11 @@ pub record AddsTo (schema : Schema) (sql : List ℕ) (at : ℕ) (table : Table) 
       → numbered Chosen rows (map (λ s. cast_row table (drop 0 s)) ((Null ∷ params) ∷ []))
       ≡ (Int (next_rowid rows) ∷ params) ∷ []
 
-placed_so : (new done db : Trees) (k : ℕ) → ((t : ℕ) → new t ≡ done t) → (tables : List Table)
+pub placed_so : (new done db : Trees) (k : ℕ) → ((t : ℕ) → new t ≡ done t) → (tables : List Table)
     → AllByRecursion (λ (t : Table). t.tree ≢ k → done t.tree ≡ db t.tree) tables
     → AllByRecursion (λ (t : Table). t.tree ≢ k → new t.tree ≡ db t.tree) tables
-placed_so new done db k same [] all = tt
-placed_so new done db k same (t ∷ tables) all =
-    (λ other. same t.tree ∙ all.0 other, placed_so new done db k same tables all.1)
+placed_so new done db k same tables all =
+    all_then tables all (λ t stays other. same t.tree ∙ stays other)
 
 -- so it is at the office's schema
 abbrev pub Adds : List ℕ → ℕ → Table → List Term → Row → Type 0
@@ -221,8 +213,7 @@ module _ (schema : Schema) (sql : List ℕ) (at : ℕ) (table : Table) (terms : 
       (Ok (w.tally, new.now))) has w.changed in
       let found = subst (λ o. AtPlace (λ (t : Table). OnRows (record here { table = t })
       (mode_of old) None (Insert at from) db) o (Ok (w.tally, new.now))) a.slot does in
-      let done = through (Inserts here from db) (Concludes here (mode_of old) None)
-      (w.tally, new.now) found in
+      let done = went found in
       let now = concluded here (mode_of old) done.0 w.tally new.now done.2 in
       let put = inserted schema old.step_limit table params db a.counts from done.0 done.1 in
       let place : (t : ℕ) → new.now.trees t ≡ done.0.trees t =

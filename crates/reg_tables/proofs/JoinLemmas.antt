@@ -10,11 +10,11 @@ use Rattle.sqlite.specs.Term.{Env, eval_all, holds}
 use Rattle.sqlite.specs.Query.{matches, or_nulls}
 use Rattle.reg_tables.specs.Joining.{advice_agrees, is_of, joined_by, queued_at, queued_from, queued_order, queued_project, queued_rows, queued_tests, request_agrees, with_advice}
 use Rattle.reg_tables.specs.Selecting.{BeginsWith}
-use Rattle.reg_tables.specs.Texts.{select_queued}
+use Rattle.reg_tables.specs.declared.texts.TheConstants as texts
 use Rattle.reg_tables.specs.Values.{same_value}
 use Rattle.reg_tables.proofs.FlatMaps.{apart, map-flat_map, mapped_where, of_passing}
 use Rattle.reg_tables.proofs.SelectLemmas.{answered_rows}
-use Rattle.reg_tables.proofs.Statements.Queued.{queued_of_expert}
+use Rattle.reg_tables.proofs.Statements.{queued_of_expert}
 use Rattle.reg_tables.proofs.ValueLemmas.{compared}
 
 -- ---- The tests
@@ -97,9 +97,9 @@ module _ (trees : Trees) (params : Row) where
 
 -- the rows of the query are what is shown of the expert's queue, in some order
 pub queued_selected : (expert : Value) (old new : State) (rows : List Row)
-    → BeginsWith 8 old.now.schema → Shown select_queued (expert ∷ []) old new rows
+    → BeginsWith 8 old.now.schema → Shown texts.SELECT_QUEUED.now (expert ∷ []) old new rows
     → IsPermutation (queued_rows old.now.trees expert) rows
 queued_selected expert old new rows begins h =
     subst (λ xs. IsPermutation xs rows) (joined old.now.trees (expert ∷ []))
-    (answered_rows select_queued queued_from queued_tests queued_project queued_order
+    (answered_rows texts.SELECT_QUEUED.now queued_from queued_tests queued_project queued_order
     (expert ∷ []) old new rows queued_of_expert begins h)

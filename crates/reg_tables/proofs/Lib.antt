@@ -24,6 +24,5 @@ pub mod EditLemmas
 pub mod GrowLemmas
 pub mod HavingLemmas
 pub mod DefineTexts
-pub mod WriteTexts
 pub mod SchemaLemmas
 pub mod EditStatements

@@ -5,6 +5,7 @@ pub mod Queries
 pub mod Parts
 pub mod Writes
 pub mod Creating
+pub mod EachOf
 pub mod GrowingLists
 pub mod GrowingSchemas
 pub mod QuietReferences

@@ -1,8 +1,8 @@
 -- What CREATE TABLE texts make, one after the other.
-use Rattle.std.proofs.Common.{◌≡◌, ◌⊎◌, inr, ◌≤◌, ℕ, List, [], ◌∷◌, ◌++◌, length, drop, Bool, true, false}
+use Rattle.std.proofs.Common.{◌≡◌, ◌⊎◌, inr, ◌≤◌, ℕ, List, [], ◌∷◌, ◌++◌, drop, Bool, true, false}
 use Rattle.std.proofs.Common.{not, ◌==◌, ◌&&◌, Ok, Err, Result, OnOk, inl, Option, Some, None, codes, is_some, slice_get, option_and_then}
 use Rattle.std.proofs.Common.{refl, sym, subst, ◌∙◌, arith}
-use Rattle.std.specs.List.{AllByRecursion, list_all, list_any, position_from}
+use Rattle.std.specs.List.{list_all, list_any, position_from}
 use Rattle.std.specs.List.Sorted.{IsPermutation}
 use Rattle.std.proofs.lemmas.Bool.{and_parts, cases_Bool, not-false, or_parts}
 use Rattle.std.proofs.lemmas.List.Folds.{list_any-append}
@@ -11,7 +11,7 @@ use Rattle.sqlite.specs.Tree.{Trees}
 use Rattle.sqlite.specs.Table.{Table}
 use Rattle.sqlite.specs.Schema.{Schema}
 use Rattle.sqlite.specs.State.{State, HasCleanDisk, KeepsCommit}
-use Rattle.sqlite_catalog.specs.Change.{created, next_tree, KeepsRows}
+use Rattle.sqlite_catalog.specs.Change.{created, next_tree}
 use Rattle.sqlite_schema.specs.Names.{same_name, table_named}
 use Rattle.sqlite_trees.specs.View.{doubt}
 use Rattle.sqlite.specs.Rows.{sequence}
@@ -19,13 +19,14 @@ use Rattle.sqlite.specs.Effect.{Database}
 use Rattle.sqlite.proofs.Callers.{one_permutation}
 use Rattle.reg_tables.specs.Schema.{office_table, office_schema, office_texts}
 use Rattle.reg_tables.specs.Connection.{WentOn}
-use Rattle.reg_tables.specs.Having.{Defines, Gains, GainsEach, unplaced}
+use Rattle.reg_tables.specs.Having.{GainsEach, GainsOne, unplaced}
 use Rattle.reg_tables.specs.Inside.{GoesInside}
 use Rattle.reg_tables.specs.Making.{AreToBeEmpty, HasCounter, HasRows, IsBlank, IsFounded}
 use Rattle.reg_tables.specs.Making.{IsMade, MakesEach, MakesOne, no_schema, version_row, with_tables}
 use Rattle.reg_tables.specs.Editing.{IsOffice}
 use Rattle.reg_tables.specs.Inserting.{AddedRow}
 use Rattle.reg_tables.proofs.DefineTexts.{all_countless, all_defined}
+use Rattle.reg_tables.proofs.Library.EachOf.{all_both, all_join, all_tested}
 use Rattle.reg_tables.proofs.Library.GrowingLists.{before_more, got_before}
 use Rattle.reg_tables.proofs.Library.GrowingSchemas.{gains_each}
 use Rattle.reg_tables.proofs.InsertLemmas.{apart_if, unindexed}
@@ -38,21 +39,6 @@ pub on_all : {A E : Type 0} {P Q R S : Type 0} (r : Result A E) → (P → Q →
     → OnOk r Q → OnOk r R → OnOk r S
 on_all (Ok a) f p q s = f p q s
 on_all (Err e) f p q s = tt
-
--- ---- The rows
-
-module _ (held old new : Trees) where
-  still_held : (tables : List Table) → KeepsRows tables old new
-      → AllByRecursion (λ t. old t.tree ≡ held t.tree) tables
-      → AllByRecursion (λ t. new t.tree ≡ held t.tree) tables
-  still_held [] kept rows = tt
-  still_held (t ∷ tables) kept rows =
-      (kept.0 ∙ rows.0, still_held tables kept.1 rows.1)
-
-all_and : (P : Table → Type 0) (tables : List Table) (t : Table) → AllByRecursion P tables → P t
-    → AllByRecursion P (tables ++ t ∷ [])
-all_and P [] t all p = (p, tt)
-all_and P (s ∷ tables) t all p = (all.0, all_and P tables t all.1 p)
 
 -- ---- The table that counts rowids
 
@@ -114,10 +100,10 @@ has_more : (schema : Schema) (table : Table) (held : Trees) (old new : Database)
     → HasRows (created schema table) held new
 has_more schema table held old new made empty has = record {
   has = made.has;
-  rows = all_and (λ t. new.trees t.tree ≡ held t.tree) schema.tables
-      (record table { tree = next_tree schema })
-      (still_held held old.trees new.trees schema.tables made.others has.rows)
-      (made.empty ∙ sym empty);
+  rows = all_join (λ t. new.trees t.tree ≡ held t.tree) schema.tables
+      (record table { tree = next_tree schema } ∷ [])
+      (all_both schema.tables made.others has.rows (λ t kept rows. kept ∙ rows))
+      (made.empty ∙ sym empty, tt);
 }
 
 -- nothing is held where all is empty
@@ -192,9 +178,7 @@ module _ {E : Type 0} (all texts : List (List ℕ)) (text : List ℕ) (old mid n
   -- after one text more
   pub goes_more : GoesOn all (text ∷ texts) old mid
       → (HasCleanDisk new → MakesOne text mid.now new.now)
-      → (HasCleanDisk new → (table : Table) → Defines text (unplaced table)
-      → same_name table.name table.name ≡ true
-      → Gains (table ∷ []) 1 (length table.uniques) mid.now.schema new.now.schema)
+      → (HasCleanDisk new → GainsOne text mid.now.schema new.now.schema)
       → GoesOn all texts old new
   goes_more on made gained =
       let through = goes_to all old mid new (Ok (tt {0})) here on in
@@ -219,16 +203,10 @@ is_other t = not (t.tree == office_table.tree)
     && list_all (λ i. not (i.tree == t.tree)) office_schema.indexes
 
 module _ (old new : Database) (added : AddedRow office_table.tree version_row old new) where
-  others_empty : (tables : List Table) → list_all is_other tables ≡ true
-      → AllByRecursion (λ t. old.trees t.tree ≡ []) tables
-      → AllByRecursion (λ t. new.trees t.tree ≡ []) tables
-  others_empty [] others empty = tt
-  others_empty (t ∷ more) others empty =
-      let both = and_parts _ _ others in
-      let is = and_parts _ _ both.0 in
-      let same = added.others t.tree (apart_if t.tree office_table.tree is.0)
-      (unindexed t.tree is.1) in
-      (same ∙ empty.0, others_empty more both.1 empty.1)
+  other_empty : (t : Table) → is_other t ≡ true → old.trees t.tree ≡ [] → new.trees t.tree ≡ []
+  other_empty t other empty =
+      let is = and_parts _ _ other in
+      added.others t.tree (apart_if t.tree office_table.tree is.0) (unindexed t.tree is.1) ∙ empty
 
   -- the row of the version comes to tables that are all empty
   pub founded : IsOffice new → IsBlank office_schema old → IsFounded new
@@ -241,7 +219,9 @@ module _ (old new : Database) (added : AddedRow office_table.tree version_row ol
           (new.trees office_table.tree)) blank.empty.0 added.rows);
       says = refl;
     };
-    empty = others_empty (drop 1 office_schema.tables) refl blank.empty.1;
+    empty = all_both {P = λ t. is_other t ≡ true} {Q = λ t. old.trees t.tree ≡ []}
+        {R = λ t. new.trees t.tree ≡ []} (drop 1 office_schema.tables)
+        (all_tested is_other (drop 1 office_schema.tables) refl) blank.empty.1 other_empty;
   }
 
 -- all tables come to a store without one

@@ -21,33 +21,13 @@ use Rattle.reg_tables.specs.Schema.{office_schema, office_table, office_texts}
 use Rattle.reg_tables.specs.Version.{below, end_of, later_than, newest, number_of, rows_of}
 use Rattle.reg_tables.specs.Version.{schema_of, table_count, tables_of}
 use Rattle.reg_tables.specs.declared.version.Version.{Version}
-use Rattle.reg_tables.specs.declared.version.Version.TheVariants.{First, Second, Third}
+use Rattle.reg_tables.specs.declared.version.Version.TheVariants.{First}
 use Rattle.reg_tables.proofs.DefineTexts.{all_defined, defined_drop}
 use Rattle.reg_tables.proofs.EditLemmas.Tables.{keyed-nil, office_after_change}
 use Rattle.reg_tables.proofs.InsertLemmas.{apart_if, unindexed}
+use Rattle.reg_tables.proofs.Library.EachOf.{all_back, all_both, all_front, all_if}
+use Rattle.reg_tables.proofs.Library.EachOf.{all_join, all_rest, all_tested, all_then}
 use Rattle.reg_tables.proofs.MakeLemmas.{is_other}
-
--- ---- Lists
-
-all_front : (P : Table → Type 0) (front back : List Table) → AllByRecursion P (front ++ back)
-    → AllByRecursion P front
-all_front P [] back all = tt
-all_front P (t ∷ front) back all = (all.0, all_front P front back all.1)
-
-all_back : (P : Table → Type 0) (front back : List Table) → AllByRecursion P (front ++ back)
-    → AllByRecursion P back
-all_back P [] back all = all
-all_back P (t ∷ front) back all = all_back P front back all.1
-
-all_join : (P : Table → Type 0) (front back : List Table) → AllByRecursion P front
-    → AllByRecursion P back → AllByRecursion P (front ++ back)
-all_join P [] back a b = b
-all_join P (t ∷ front) back a b = (a.0, all_join P front back a.1 b)
-
-all_drop : (P : Table → Type 0) (tables : List Table) → AllByRecursion P tables
-    → AllByRecursion P (drop 1 tables)
-all_drop P [] all = tt
-all_drop P (t ∷ tables) all = all.1
 
 -- ---- What is so of each version
 
@@ -72,14 +52,12 @@ record IsPart (v : Version) : Type 0 where
 is_part : (v : Version) → IsPart v
 unfolding digits
 is_part First = record { all = refl; most = refl; made = refl; counter = refl; later_countless = refl; low = refl; high = refl; next = refl }
-is_part Second = record { all = refl; most = refl; made = refl; counter = refl; later_countless = refl; low = refl; high = refl; next = refl }
-is_part Third = record { all = refl; most = refl; made = refl; counter = refl; later_countless = refl; low = refl; high = refl; next = refl }
+is_part _ = record { all = refl; most = refl; made = refl; counter = refl; later_countless = refl; low = refl; high = refl; next = refl }
 
 pub later_named : (v : Version) → AreNamed (later_than v)
 unfolding same_name
 later_named First = refl
-later_named Second = refl
-later_named Third = refl
+later_named _ = refl
 
 -- the texts that make the tables that a version lacks
 abbrev pub later_texts : Version → List (List ℕ)
@@ -104,60 +82,26 @@ module _ (n : ℕ) (trees : Trees) where
       let both = and_parts _ _ e in
       (above_is (next_tree schema) both.0, empty_next (created schema (unplaced t)) tables both.1)
 
-  held_below : (tables : List Table) → list_all (is_below n) tables ≡ true
-      → AllByRecursion (λ t. trees t.tree ≡ below n trees t.tree) tables
-  held_below [] e = tt
-  held_below (t ∷ tables) e =
-      let both = and_parts _ _ e in
-      (sym (below_is t both.0), held_below tables both.1)
-
-  module _ (new : Trees) where
-    kept_below : (tables : List Table) → list_all (is_below n) tables ≡ true
-        → AllByRecursion (λ t. new t.tree ≡ below n trees t.tree) tables
-        → AllByRecursion (λ t. new t.tree ≡ trees t.tree) tables
-    kept_below [] e all = tt
-    kept_below (t ∷ tables) e all =
-        let both = and_parts _ _ e in
-        (all.0 ∙ below_is t both.0, kept_below tables both.1 all.1)
-
-    empty_above : (tables : List Table) → list_all (λ t. not (is_below n t)) tables ≡ true
-        → AllByRecursion (λ t. new t.tree ≡ below n trees t.tree) tables
-        → AllByRecursion (λ t. new t.tree ≡ []) tables
-    empty_above [] e all = tt
-    empty_above (t ∷ tables) e all =
-        let both = and_parts _ _ e in
-        (all.0 ∙ above_is t.tree both.0, empty_above tables both.1 all.1)
-
-module _ (old new : Trees) where
-  keyed_kept : (tables : List Table) → AllByRecursion (λ t. new t.tree ≡ old t.tree) tables
-      → AllByRecursion (λ t. AreKeyed (old t.tree)) tables
-      → AllByRecursion (λ t. AreKeyed (new t.tree)) tables
-  keyed_kept [] kept keyed = tt
-  keyed_kept (t ∷ tables) kept keyed =
-      (subst AreKeyed (sym kept.0) keyed.0, keyed_kept tables kept.1 keyed.1)
-
-  keyed_empty : (tables : List Table) → AllByRecursion (λ t. new t.tree ≡ []) tables
-      → AllByRecursion (λ t. AreKeyed (new t.tree)) tables
-  keyed_empty [] empty = tt
-  keyed_empty (t ∷ tables) empty =
-      (subst AreKeyed (sym empty.0) keyed-nil, keyed_empty tables empty.1)
-
 pub later_made : (v : Version) (old new : Database) → MakesEach (later_texts v) old new
     → IsOfficeOf v old → HasLater v old new
 later_made v old new makes office =
     let part = is_part v in
     let n = end_of v in
+    let low = all_tested (is_below n) (tables_of v) part.low in
+    let high = all_tested (λ t. not (is_below n t)) (later_than v) part.high in
     let made = makes (schema_of v) (later_than v) (below n old.trees) (later_defined v)
     part.counter part.later_countless
     (empty_next n old.trees (schema_of v) (later_than v) part.next)
-    (record { has = office.schema; rows = held_below n old.trees (tables_of v) part.low }) in
+    (record { has = office.schema; rows = all_then (tables_of v) low (λ t e. sym (below_is n old.trees t e)) }) in
     let has = subst (λ s. HasRows s (below n old.trees) new) part.made made.0 in
     let P = λ (t : Table). new.trees t.tree ≡ below n old.trees t.tree in
     let rows = subst (AllByRecursion P) part.all has.rows in
-    let kept = kept_below n old.trees new.trees (tables_of v) part.low
-    (all_front P (tables_of v) (later_than v) rows) in
-    let empty = empty_above n old.trees new.trees (later_than v) part.high
-    (all_back P (tables_of v) (later_than v) rows) in
+    let kept : AllByRecursion (λ (t : Table). new.trees t.tree ≡ old.trees t.tree) (tables_of v) =
+    all_both (tables_of v) low (all_front P (tables_of v) (later_than v) rows)
+    (λ t e is. is ∙ below_is n old.trees t e) in
+    let empty : AllByRecursion (λ (t : Table). new.trees t.tree ≡ []) (later_than v) =
+    all_both (later_than v) high (all_back P (tables_of v) (later_than v) rows)
+    (λ t e is. is ∙ above_is n old.trees t.tree e) in
     let K = λ (t : Table). AreKeyed (new.trees t.tree) in
     record {
       office = record {
@@ -165,8 +109,8 @@ later_made v old new makes office =
         sound = made.1 office.sound;
         tables = subst (AllByRecursion K) (sym part.all)
             (all_join K (tables_of v) (later_than v)
-            (keyed_kept old.trees new.trees (tables_of v) kept office.tables)
-            (keyed_empty old.trees new.trees (later_than v) empty));
+            (all_both (tables_of v) kept office.tables (λ t is. subst AreKeyed (sym is)))
+            (all_then (later_than v) empty (λ t is. subst AreKeyed (sym is) keyed-nil)));
       };
       kept = kept;
       empty = empty;
@@ -176,15 +120,10 @@ later_made v old new makes office =
 
 module _ (old new : Database) (n m : ℤ)
     (changed : ChangedRows 0 [] (col 1 0 ∷ col 0 0 ∷ []) (Int n ∷ []) old new) where
-  others_stay : (tables : List Table) → list_all is_other tables ≡ true
-      → AllByRecursion (λ t. new.trees t.tree ≡ old.trees t.tree) tables
-  others_stay [] others = tt
-  others_stay (t ∷ tables) others =
-      let both = and_parts _ _ others in
-      let is = and_parts _ _ both.0 in (
-        changed.others t.tree (apart_if t.tree office_table.tree is.0) (unindexed t.tree is.1),
-        others_stay tables both.1,
-      )
+  stays : (t : Table) → is_other t ≡ true → new.trees t.tree ≡ old.trees t.tree
+  stays t other =
+      let is = and_parts _ _ other in
+      changed.others t.tree (apart_if t.tree office_table.tree is.0) (unindexed t.tree is.1)
 
   one_row : HasVersion m (old.trees office_table.tree)
       → HasVersion n (new.trees office_table.tree)
@@ -201,31 +140,18 @@ pub raised : (m : ℤ) (old new : Database)
 raised m old new changed office version = record {
   office = office_after_change 0 _ _ old new office changed;
   version = one_row old new (number_of newest) m changed version;
-  others = others_stay old new (number_of newest) m changed (drop 1 office_schema.tables) refl;
+  others = all_if is_other (λ t. new.trees t.tree ≡ old.trees t.tree) (drop 1 office_schema.tables) refl
+      (stays old new (number_of newest) m changed);
 }
 
 -- ---- Both
-
-module _ (old mid new : Trees) where
-  stay_then : (tables : List Table) → AllByRecursion (λ t. mid t.tree ≡ old t.tree) tables
-      → AllByRecursion (λ t. new t.tree ≡ mid t.tree) tables
-      → AllByRecursion (λ t. new t.tree ≡ old t.tree) tables
-  stay_then [] a b = tt
-  stay_then (t ∷ tables) a b = (b.0 ∙ a.0, stay_then tables a.1 b.1)
-
-  empty_then : (tables : List Table) → AllByRecursion (λ t. mid t.tree ≡ []) tables
-      → AllByRecursion (λ t. new t.tree ≡ mid t.tree) tables
-      → AllByRecursion (λ t. new t.tree ≡ []) tables
-  empty_then [] a b = tt
-  empty_then (t ∷ tables) a b = (b.0 ∙ a.0, empty_then tables a.1 b.1)
 
 -- the row of the office is as it was before the version is written
 pub version_kept : (v : Version) (old mid : Database) → HasLater v old mid
     → HasVersion (number_of v) (old.trees office_table.tree)
     → HasVersion (number_of v) (mid.trees office_table.tree)
 version_kept First old mid has version = rw has.kept.0 version
-version_kept Second old mid has version = rw has.kept.0 version
-version_kept Third old mid has version = rw has.kept.0 version
+version_kept _ old mid has version = rw has.kept.0 version
 
 pub migrated : (v : Version) (old mid new : Database) → HasLater v old mid → IsRaised mid new
     → IsMigrated v old new
@@ -235,34 +161,11 @@ migrated v old mid new has is =
     record {
       office = is.office;
       version = is.version;
-      kept = stay_then old.trees mid.trees new.trees (drop 1 (tables_of v))
-          (all_drop _ (tables_of v) has.kept)
-          (all_front P (drop 1 (tables_of v)) (later_than v) others);
-      empty = empty_then old.trees mid.trees new.trees (later_than v) has.empty
-          (all_back P (drop 1 (tables_of v)) (later_than v) others);
+      kept = all_both (drop 1 (tables_of v)) (all_rest _ (tables_of v) has.kept)
+          (all_front P (drop 1 (tables_of v)) (later_than v) others) (λ t was same. same ∙ was);
+      empty = all_both (later_than v) has.empty
+          (all_back P (drop 1 (tables_of v)) (later_than v) others) (λ t was same. same ∙ was);
     }
-
-test_drop : (p : Table → Bool) (tables : List Table) → list_all p tables ≡ true
-    → list_all p (drop 1 tables) ≡ true
-test_drop p [] e = refl
-test_drop p (t ∷ tables) e = (and_parts (p t) (list_all p tables) e).1
-
-module _ (n : ℕ) (old new : Trees) where
-  stay_below : (tables : List Table) → list_all (is_below n) tables ≡ true
-      → AllByRecursion (λ t. new t.tree ≡ old t.tree) tables
-      → AllByRecursion (λ t. new t.tree ≡ below n old t.tree) tables
-  stay_below [] e all = tt
-  stay_below (t ∷ tables) e all =
-      let both = and_parts _ _ e in
-      (all.0 ∙ sym (below_is n old t both.0), stay_below tables both.1 all.1)
-
-  stay_empty : (tables : List Table) → list_all (λ t. not (is_below n t)) tables ≡ true
-      → AllByRecursion (λ t. new t.tree ≡ []) tables
-      → AllByRecursion (λ t. new t.tree ≡ below n old t.tree) tables
-  stay_empty [] e all = tt
-  stay_empty (t ∷ tables) e all =
-      let both = and_parts _ _ e in
-      (all.0 ∙ sym (above_is n old t.tree both.0), stay_empty tables both.1 all.1)
 
 -- each table but the office's has the rows of the older office
 pub rows_migrated : (v : Version) (old new : Database) → IsMigrated v old new
@@ -271,8 +174,11 @@ pub rows_migrated : (v : Version) (old new : Database) → IsMigrated v old new
 rows_migrated v old new is =
     let part = is_part v in
     let P = λ (t : Table). new.trees t.tree ≡ rows_of v old.trees t.tree in
+    let low = all_tested (is_below (end_of v)) (tables_of v) part.low in
+    let high = all_tested (λ t. not (is_below (end_of v) t)) (later_than v) part.high in
     subst (AllByRecursion P) (sym part.most)
     (all_join P (drop 1 (tables_of v)) (later_than v)
-    (stay_below (end_of v) old.trees new.trees (drop 1 (tables_of v))
-    (test_drop (is_below (end_of v)) (tables_of v) part.low) is.kept)
-    (stay_empty (end_of v) old.trees new.trees (later_than v) part.high is.empty))
+    (all_both (drop 1 (tables_of v)) (all_rest _ (tables_of v) low) is.kept
+    (λ t e same. same ∙ sym (below_is (end_of v) old.trees t e)))
+    (all_both (later_than v) high is.empty
+    (λ t e none. none ∙ sym (above_is (end_of v) old.trees t.tree e))))

@@ -64,8 +64,7 @@ record IsEnd (v : Version) : Type 0 where
 is_end : (v : Version) → IsEnd v
 unfolding same_name
 is_end First = record { last = refl; place = refl; named = refl; indexed = refl; tables = refl; indexes = refl }
-is_end Second = record { last = refl; place = refl; named = refl; indexed = refl; tables = refl; indexes = refl }
-is_end Third = record { last = refl; place = refl; named = refl; indexed = refl; tables = refl; indexes = refl }
+is_end _ = record { last = refl; place = refl; named = refl; indexed = refl; tables = refl; indexes = refl }
 
 -- ---- The front of a list
 

@@ -14,9 +14,10 @@ use Rattle.sqlite_schema.specs.Rules.{is_of}
 use Rattle.sqlite_rules.proofs.ListLemmas.{has_got}
 use Rattle.sqlite_tied.specs.Compute.{everything}
 use Rattle.reg_tables.specs.Editing.{front}
+use Rattle.reg_tables.specs.Kinds.{WritesRows}
 use Rattle.reg_tables.specs.Schema.{office_schema, advice_table, entries_table}
 use Rattle.reg_tables.specs.Selecting.{columns_of}
-use Rattle.reg_tables.specs.Texts.{put_advice, put_entry}
+use Rattle.reg_tables.specs.declared.texts.TheConstants as texts
 use Rattle.reg_tables.proofs.EditLemmas.Putting.{Puts}
 use Rattle.reg_tables.proofs.Library.Casts.{cast_null, cast_int}
 use Rattle.reg_tables.proofs.ValueLemmas.{compared}
@@ -54,7 +55,7 @@ module _ (account reference expert verdict text : List ℕ) where
   abbrev advice_by : Row → Row
   advice_by row = front 4 row ++ Text verdict ∷ Text text ∷ []
 
-  pub advice_puts : Puts put_advice 7 advice_table advice_terms advice_index put_advice_terms
+  pub advice_puts : Puts texts.PUT_ADVICE.now 7 advice_table advice_terms advice_index put_advice_terms
       advice_row advice_key advice_by
   unfolding understood everything
   advice_puts = record {
@@ -74,6 +75,10 @@ module _ (account reference expert verdict text : List ℕ) where
         && (compared (column row 2) (Text reference) i
         && (compared (column row 3) (Text expert) i && true));
   }
+
+pub put_advice_writes : WritesRows texts.PUT_ADVICE.now
+unfolding everything
+put_advice_writes = refl
 
 -- ---- entries
 
@@ -111,7 +116,7 @@ module _ (registry : List ℕ) (value : ℤ) (label assignee : List ℕ) (first 
   entry_by row = front 3 row ++ entry_values label assignee first expires renewed
 
   pub entry_puts : cast_all entries_table.columns entry_row ≡ entry_row
-      → Puts put_entry 4 entries_table entries_terms entries_index put_entry_terms
+      → Puts texts.PUT_ENTRY.now 4 entries_table entries_terms entries_index put_entry_terms
       entry_row entry_key entry_by
   unfolding understood everything
   entry_puts same = record {
@@ -130,3 +135,7 @@ module _ (registry : List ℕ) (value : ℤ) (label assignee : List ℕ) (first 
     keys = λ n row i. compared (column row 1) (Text registry) i
         && (compared (column row 2) (Int value) i && true);
   }
+
+pub put_entry_writes : WritesRows texts.PUT_ENTRY.now
+unfolding everything
+put_entry_writes = refl

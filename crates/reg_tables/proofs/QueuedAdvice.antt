@@ -4,7 +4,7 @@ use Rattle.std.proofs.Common.{refl, sym, ap, subst, ◌∙◌}
 use Rattle.std.specs.List.{list_any}
 use Rattle.std.proofs.lemmas.Bool.{and_parts, not-true}
 use Rattle.sqlite.specs.declared.types.Value.{Value}
-use Rattle.sqlite.specs.declared.types.Value.TheVariants.{Null, Int, Real, Text, Blob}
+use Rattle.sqlite.specs.declared.types.Value.TheVariants.{Text}
 use Rattle.sqlite.specs.Effect.{Database}
 use Rattle.sqlite.specs.Ops.{is_null}
 use Rattle.sqlite.specs.Order.{Row, column}
@@ -27,18 +27,12 @@ use Rattle.reg_tables.proofs.ValueLemmas.{compared, same_value-is}
 -- ---- Texts
 
 text_is : (v : Value) → is_of kind.Text v ≡ true → is_null v ≡ false → (t : List ℕ) × (v ≡ Text t)
-text_is Null is there = absurd (cc)
-text_is (Int n) is there = absurd (cc)
-text_is (Real x) is there = absurd (cc)
 text_is (Text t) is there = (t, refl)
-text_is (Blob b) is there = absurd (cc)
+text_is _ is there = absurd (cc)
 
 like_text : (v : Value) (t : List ℕ) → same_value v (Text t) ≡ true → v ≡ Text t
-like_text Null t e = absurd (cc)
-like_text (Int n) t e = absurd (cc)
-like_text (Real x) t e = absurd (cc)
 like_text (Text s) t e = ap Text ((same_value-is s t).0 e)
-like_text (Blob b) t e = absurd (cc)
+like_text _ t e = absurd (cc)
 
 -- what SQL finds equal to a text is that text
 same_text : (v w : Value) → is_of kind.Text w ≡ true → is_null w ≡ false → equal Binary v w ≡ true

@@ -1,33 +1,24 @@
 -- No table of an office computes anything.
-use Rattle.std.proofs.Common.{◌≡◌, ◌==◌, ◌&&◌, ◌+◌, List, [], ◌∷◌, true, Bool, length, refl, arith}
+use Rattle.std.proofs.Common.{◌≡◌, ◌==◌, ◌&&◌, ◌+◌, List, [], true, Bool, length, refl, arith}
 use Rattle.std.proofs.lemmas.Bool.{and_parts, eqb-true}
 use Rattle.std.proofs.lemmas.List.{nil_from_length}
 use Rattle.std.specs.List.{AllByRecursion, list_all}
 use Rattle.sqlite.specs.declared.types.Value.{Value}
-use Rattle.sqlite.specs.declared.types.Value.TheVariants.{Null, Int, Real, Text, Blob}
+use Rattle.sqlite.specs.declared.types.Value.TheVariants.{Null}
 use Rattle.sqlite.specs.Ops.{is_null}
 use Rattle.sqlite.specs.Table.{Table}
 use Rattle.sqlite_schema.specs.declared.schema.Column.{Column}
 use Rattle.sqlite_schema.specs.declared.schema.Stamps.{Stamps}
 use Rattle.reg_tables.specs.Schema.{office_schema}
 use Rattle.reg_tables.specs.Bare.{IsBareColumn, IsBareTable, no_stamps}
+use Rattle.reg_tables.proofs.Library.EachOf.{all_if}
 
 null_is : (v : Value) → is_null v ≡ true → v ≡ Null
 null_is Null e = refl
-null_is (Int n) e = absurd (cc)
-null_is (Real x) e = absurd (cc)
-null_is (Text t) e = absurd (cc)
-null_is (Blob b) e = absurd (cc)
+null_is _ e = absurd (cc)
 
 abbrev has_no_default : Column → Bool
 has_no_default c = is_null c.default
-
-bare_columns : (columns : List Column) → list_all has_no_default columns ≡ true
-    → AllByRecursion IsBareColumn columns
-bare_columns [] e = tt
-bare_columns (c ∷ more) e =
-    let both = and_parts _ _ e in
-    (null_is c.default both.0, bare_columns more both.1)
 
 abbrev is_unstamped : Stamps → Bool
 is_unstamped s = length s.places + length s.terms + length s.formats == 0
@@ -54,18 +45,12 @@ bare_table t e =
     let computed = and_parts _ _ stamps.0 in
     let checks = and_parts _ _ computed.0 in
     record {
-      columns = bare_columns t.columns checks.0;
+      columns = all_if has_no_default IsBareColumn t.columns checks.0
+          (λ column none. null_is column.default none);
       checks = none_if t.checks checks.1;
       computed = none_if t.computed computed.1;
       stamps = unstamped t.stamps stamps.1;
     }
 
-bare_tables : (tables : List Table) → list_all is_bare tables ≡ true
-    → AllByRecursion IsBareTable tables
-bare_tables [] e = tt
-bare_tables (t ∷ tables) e =
-    let both = and_parts _ _ e in
-    (bare_table t both.0, bare_tables tables both.1)
-
 pub office_bare : AllByRecursion IsBareTable office_schema.tables
-office_bare = bare_tables office_schema.tables refl
+office_bare = all_if is_bare IsBareTable office_schema.tables refl bare_table

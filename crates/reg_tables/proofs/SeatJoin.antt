@@ -12,10 +12,10 @@ use Rattle.reg_tables.specs.Joining.{advice_agrees, joined_by}
 use Rattle.reg_tables.specs.Seats.{is_seat_of, seat_rows, seats_from, seats_order, seats_project}
 use Rattle.reg_tables.specs.Seats.{seats_rows, seats_tests}
 use Rattle.reg_tables.specs.Selecting.{BeginsWith}
-use Rattle.reg_tables.specs.Texts.{select_seats}
+use Rattle.reg_tables.specs.declared.texts.TheConstants as texts
 use Rattle.reg_tables.proofs.FlatMaps.{map-flat_map, mapped_where, of_passing}
 use Rattle.reg_tables.proofs.SelectLemmas.{answered_rows}
-use Rattle.reg_tables.proofs.Statements.Seats.{seats_of_request}
+use Rattle.reg_tables.proofs.Statements.{seats_of_request}
 use Rattle.reg_tables.proofs.ValueLemmas.{compared}
 
 module _ (trees : Trees) (account reference : Value) where
@@ -66,9 +66,9 @@ module _ (trees : Trees) (account reference : Value) where
 
 -- the rows of the query are what is shown of the request's experts, in some order
 pub seats_selected : (account reference : Value) (old new : State) (rows : List Row)
-    → BeginsWith 8 old.now.schema → Shown select_seats (account ∷ reference ∷ []) old new rows
+    → BeginsWith 8 old.now.schema → Shown texts.SELECT_SEATS.now (account ∷ reference ∷ []) old new rows
     → IsPermutation (seats_rows old.now.trees account reference) rows
 seats_selected account reference old new rows begins h =
     subst (λ xs. IsPermutation xs rows) (joined old.now.trees account reference)
-    (answered_rows select_seats seats_from seats_tests seats_project seats_order
+    (answered_rows texts.SELECT_SEATS.now seats_from seats_tests seats_project seats_order
     (account ∷ reference ∷ []) old new rows seats_of_request begins h)

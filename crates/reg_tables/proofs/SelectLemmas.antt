@@ -20,9 +20,11 @@ use Rattle.sqlite_resolve.specs.declared.compiled.Compiled.{Compiled}
 use Rattle.sqlite_resolve.specs.declared.error.CompileError.{CompileError}
 use Rattle.sqlite_schema.specs.declared.program.Program.{Program}
 use Rattle.sqlite_value.specs.declared.keys.Key.{Key}
+use Rattle.sqlite.specs.Listing.{understood, reads_listing}
+use Rattle.reg_tables.specs.Kinds.{IsQuery}
 use Rattle.reg_tables.specs.Schema.{office_schema}
 use Rattle.reg_tables.proofs.Library.Queries.{IsPlainly, understood_query}
-use Rattle.reg_tables.specs.Selecting.{BeginsWith, beginning, query_over, select_from, passes, shows, IsTextOf, Selects, columns_of, stored}
+use Rattle.reg_tables.specs.Selecting.{BeginsWith, beginning, query_over, select_from, passes, shows, IsTextOf, SelectsFrom, columns_of, stored}
 
 -- ---- Any query of this form
 
@@ -80,25 +82,32 @@ begun n schema begins =
     ∙ ap (λ front. front ++ drop n schema.tables) begins.tables in
     λ i. record { tables = tables i; indexes = schema.indexes; views = begins.views i }
 
+-- what a text shows that is a query at this schema is what is shown of the matches, in some order
+pub rows_as : (sql : List ℕ) (from : Join) (tests project : List Term)
+    (order : List (Term × Key)) (params : Row) (old new : State) (rows : List Row)
+    (schema : Schema) (names : List (List ℕ)) → old.now.schema ≡ schema
+    → command_of (understood schema sql)
+    ≡ Select (record { lets = []; body = query_over from tests project order }) names
+    → IsQuery sql → reads_listing schema sql ≡ false → Shown sql params old new rows
+    → IsPermutation (map (eval_all project) (matches old.now.trees tests from (params ∷ []))) rows
+rows_as sql from tests project order params old new rows schema names has is asks unlisted h =
+    let plain = plain_query _ _ names (understood_query sql asks schema) is in
+    let read = reads_as sql params old new schema has (Select _ names) is plain unlisted rows h in
+    subst (λ db. IsPermutation (map (eval_all project) (matches db tests from (params ∷ []))) rows)
+    (λ i t. as_kept old.now.trees t i)
+    (answered from tests project order params (overlay old.now.trees []) rows (read.answer Null))
+
 -- the rows of a query are what is shown of the matches, in some order
 pub answered_rows : {n : ℕ} (sql : List ℕ) (from : Join) (tests project : List Term)
     (order : List (Term × Key)) (params : Row) (old new : State) (rows : List Row)
     → IsTextOf n sql (query_over from tests project order) → BeginsWith n old.now.schema
     → Shown sql params old new rows
     → IsPermutation (map (eval_all project) (matches old.now.trees tests from (params ∷ []))) rows
-answered_rows {n = n} sql from tests project order params old new rows s begins h =
-    let program : Program =
-    record { lets = []; body = query_over from tests project order } in
+answered_rows {n = n} sql from tests project order params old new rows s begins =
     let more = drop n old.now.schema.tables in
     let indexes = old.now.schema.indexes in
-    let schema = beginning n more indexes in
-    let read = reads_as sql params old new schema (begun n old.now.schema begins)
-    (Select program s.names) (s.is more indexes)
-    (plain_query _ program s.names (understood_query sql s.plain schema) (s.is more indexes))
-    (s.unlisted more indexes) rows h in
-    subst (λ db. IsPermutation (map (eval_all project) (matches db tests from (params ∷ []))) rows)
-    (λ i t. as_kept old.now.trees t i)
-    (answered from tests project order params (overlay old.now.trees []) rows (read.answer Null))
+    rows_as sql from tests project order params old new rows (beginning n more indexes) s.names
+    (begun n old.now.schema begins) (s.is more indexes) s.plain (s.unlisted more indexes)
 
 -- ---- Over one table
 
@@ -106,7 +115,7 @@ module _ (tests project : List Term) (params : Row) where
   abbrev env_of : Row → List Env
   env_of r = cond (passes tests params r) ((params ∷ r ∷ []) ∷ []) []
 
-  matched : (rs : List Row) → map (eval_all project) (flat_map env_of rs)
+  pub matched : (rs : List Row) → map (eval_all project) (flat_map env_of rs)
       ≡ map (shows project params) (filter (passes tests params) rs)
   matched [] = refl
   matched (r ∷ rs) = elim (passes tests params r) as (λ b.
@@ -128,7 +137,7 @@ answer_rows t tests project order params db rows a =
 -- the rows of a query are what is shown of the rows that pass, in some order
 pub selected : {n : ℕ} (sql : List ℕ) (t : ℕ) (tests project : List Term)
     (order : List (Term × Key)) (params : Row) (old new : State) (rows : List Row)
-    → Selects n sql t tests project order → BeginsWith n old.now.schema
+    → SelectsFrom n sql t tests project order → BeginsWith n old.now.schema
     → Shown sql params old new rows
     → IsPermutation (map (shows project params) (filter (passes tests params) (old.now.trees t)))
     rows

@@ -30,28 +30,16 @@ apart a b differ unequal = ap is_eq (value_cmp-apart a b differ) ∙ unequal
 pub compared : (a b : Value) → is_true (binary (Compare Eq Binary) a b) ≡ same_value a b
 unfolding binary
 compared Null b = refl
-compared (Int m) Null = refl
 compared (Int m) (Int n) = told (is_eq (value_cmp (Int m) (Int n))) ∙ ap is_eq (value_cmp-Int m n)
 compared (Int m) (Real y) = told (is_eq (value_cmp (Int m) (Real y)))
-compared (Int m) (Text t) = told _ ∙ apart (Int m) (Text t) (λ e. cc) refl
-compared (Int m) (Blob b) = told _ ∙ apart (Int m) (Blob b) (λ e. cc) refl
-compared (Real x) Null = refl
 compared (Real x) (Int n) = told (is_eq (value_cmp (Real x) (Int n)))
 compared (Real x) (Real y) = told (is_eq (value_cmp (Real x) (Real y)))
-compared (Real x) (Text t) = told _ ∙ apart (Real x) (Text t) (λ e. cc) refl
-compared (Real x) (Blob b) = told _ ∙ apart (Real x) (Blob b) (λ e. cc) refl
-compared (Text s) Null = refl
-compared (Text s) (Int n) = told _ ∙ apart (Text s) (Int n) (λ e. cc) refl
-compared (Text s) (Real y) = told _ ∙ apart (Text s) (Real y) (λ e. cc) refl
 compared (Text s) (Text t) =
     told _ ∙ ap is_eq (value_cmp-Text s t) ∙ is_eq-slice_cmp s t
-compared (Text s) (Blob b) = told _ ∙ apart (Text s) (Blob b) (λ e. cc) refl
-compared (Blob s) Null = refl
-compared (Blob s) (Int n) = told _ ∙ apart (Blob s) (Int n) (λ e. cc) refl
-compared (Blob s) (Real y) = told _ ∙ apart (Blob s) (Real y) (λ e. cc) refl
-compared (Blob s) (Text t) = told _ ∙ apart (Blob s) (Text t) (λ e. cc) refl
 compared (Blob s) (Blob t) =
     told _ ∙ ap is_eq (value_cmp-Blob s t) ∙ is_eq-slice_cmp s t
+compared a Null = refl
+compared a b = told _ ∙ apart a b (λ e. cc) refl
 
 -- a row passes where each column of a pair has the value of its parameter
 pub passes_equals : (pairs : List (ℕ × ℕ)) (params row : Row) → passes (equals pairs) params row

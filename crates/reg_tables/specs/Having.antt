@@ -78,6 +78,12 @@ pub record Defines (text : List ℕ) (table : Table) : Type 0 where
   pub whole : slice_range text parsed.start parsed.end ≡ text
   pub defined : table_defined_by text ≡ Ok table
 
+-- where the text defines a table, this came, with its indexes
+abbrev pub GainsOne : List ℕ → Schema → Schema → Type 0
+GainsOne text old new =
+    (table : Table) → Defines text (unplaced table) → same_name table.name table.name ≡ true
+    → Gains (table ∷ []) 1 (length table.uniques) old new
+
 -- each text makes the table in its place
 abbrev pub AreDefined : List (List ℕ) → List Table → Type 0
 AreDefined [] [] = Unit {0}

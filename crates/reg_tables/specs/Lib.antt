@@ -8,7 +8,6 @@ pub mod Values
 pub mod Selecting
 pub mod Joining
 pub mod Seats
-pub mod Texts
 pub mod Editing
 pub mod Faulting
 pub mod Bare

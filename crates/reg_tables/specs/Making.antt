@@ -12,7 +12,7 @@ use Rattle.sqlite.specs.Effect.{Database, IsDatabase}
 use Rattle.sqlite_schema.specs.Names.{table_named}
 use Rattle.reg_tables.specs.Editing.{IsOffice}
 use Rattle.reg_tables.specs.Having.{AreDefined, AreFree, Defines, GainsTables, unplaced}
-use Rattle.reg_tables.specs.Inserting.{AddedTo}
+use Rattle.reg_tables.specs.Inserting.{AddedRow, AddedTo}
 use Rattle.reg_tables.specs.Schema.{office_table, office_schema}
 use Rattle.reg_tables.specs.Version.{later_than, newest, number_of, tables_of}
 use Rattle.reg_tables.specs.declared.version.Version.{Version}
@@ -79,6 +79,11 @@ pub record IsBlank (schema : Schema) (db : Database) : Type 0 where
 -- the columns of the row that says the version of the schema
 abbrev pub version_row : Row
 version_row = Int (number_of newest) ∷ []
+
+-- the row of the version comes to the tables of an office that are all empty, and these are an office's
+abbrev pub MarksOffice : Database → Database → Type 0
+MarksOffice old new =
+    IsBlank office_schema old → AddedRow office_table.tree version_row old new × IsOffice new
 
 -- there is one row, which says this version
 pub record HasVersion (n : ℤ) (rows : List Row) : Type 0 where

@@ -11,10 +11,7 @@ use Rattle.sqlite_schema.specs.declared.schema.Action.TheVariants.{NoAction}
 use Rattle.sqlite_schema.specs.declared.schema.Column.{Column}
 use Rattle.sqlite_schema.specs.declared.schema.Index.{Index}
 use Rattle.sqlite_schema.specs.declared.schema.Reference.{Reference}
-use Rattle.reg_tables.specs.Texts.{make_office, make_caps, make_registries, make_ranges}
-use Rattle.reg_tables.specs.Texts.{make_entries, make_requests, make_queue, make_advice}
-use Rattle.reg_tables.specs.Texts.{make_pool, make_blocks, make_holds, make_minutes}
-use Rattle.reg_tables.specs.Texts.{make_agents}
+use Rattle.reg_tables.specs.declared.texts.TheConstants as texts
 
 -- a column of a STRICT table
 abbrev column : Kind → Bool → List ℕ → Column
@@ -229,19 +226,19 @@ agents_table = table (codes "agents") 25
 -- the texts that make the tables, in order
 abbrev pub office_texts : List (List ℕ)
 office_texts =
-    make_office ∷
-    make_caps ∷
-    make_registries ∷
-    make_ranges ∷
-    make_entries ∷
-    make_requests ∷
-    make_queue ∷
-    make_advice ∷
-    make_pool ∷
-    make_blocks ∷
-    make_holds ∷
-    make_minutes ∷
-    make_agents ∷
+    texts.MAKE_OFFICE.now ∷
+    texts.MAKE_CAPS.now ∷
+    texts.MAKE_REGISTRIES.now ∷
+    texts.MAKE_RANGES.now ∷
+    texts.MAKE_ENTRIES.now ∷
+    texts.MAKE_REQUESTS.now ∷
+    texts.MAKE_QUEUE.now ∷
+    texts.MAKE_ADVICE.now ∷
+    texts.MAKE_POOL.now ∷
+    texts.MAKE_BLOCKS.now ∷
+    texts.MAKE_HOLDS.now ∷
+    texts.MAKE_MINUTES.now ∷
+    texts.MAKE_AGENTS.now ∷
     []
 
 abbrev pub office_schema : Schema

@@ -69,8 +69,8 @@ pub record IsTextOf (n : ℕ) (sql : List ℕ) (q : Query) : Type 0 where
       → reads_listing (beginning n more indexes) sql ≡ false
 
 -- the text is a query over one table of an office, of which the first so many suffice
-abbrev pub Selects : ℕ → List ℕ → ℕ → List Term → List Term → List (Term × Key) → Type 0
-Selects n sql t tests project order = IsTextOf n sql (select_from t tests project order)
+abbrev pub SelectsFrom : ℕ → List ℕ → ℕ → List Term → List Term → List (Term × Key) → Type 0
+SelectsFrom n sql t tests project order = IsTextOf n sql (select_from t tests project order)
 
 -- each of these columns equals a parameter: pairs of their places
 abbrev pub equals : List (ℕ × ℕ) → List Term

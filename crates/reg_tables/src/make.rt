@@ -1,20 +1,16 @@
 //! The tables are made, all or none.
 
-ghost use Rattle.std.specs.Prelude.{◌≡◌, ◌≢◌, [], ◌∷◌, false, true, drop, length, map, IfErr, IsTrue, OnOk, OnErr};
+ghost use Rattle.std.specs.Prelude.{◌≡◌, ◌≢◌, [], drop, map, IfErr, IsTrue, OnOk, OnErr};
 ghost use Rattle.sqlite.specs.Held.{state};
 ghost use Rattle.sqlite.specs.State.{HasCleanDisk};
-ghost use Rattle.sqlite.specs.Table.{Table as SqlTable};
-ghost use Rattle.sqlite_schema.specs.Names.{same_name};
-ghost use Rattle.reg_tables.specs.Schema.{office_schema, office_table, office_texts};
+ghost use Rattle.reg_tables.specs.Schema.{office_schema, office_texts};
 ghost use Rattle.reg_tables.specs.Connection.{IsIdle, WentOn, Works};
-ghost use Rattle.reg_tables.specs.Editing.{IsOffice};
 ghost use Rattle.reg_tables.specs.Faulting.{IsGivenUp};
-ghost use Rattle.reg_tables.specs.Having.{Defines, Gains, GainsEach, GainsTables, unplaced};
+ghost use Rattle.reg_tables.specs.Having.{GainsEach, GainsOne, GainsTables};
 ghost use Rattle.reg_tables.specs.Inside.{GoesInside, StaysInside};
 ghost use Rattle.reg_tables.specs.Making.{AddsVersion, Founds, IsBlank};
-ghost use Rattle.reg_tables.specs.Making.{MakesEach, MakesOne, no_schema, version_row};
+ghost use Rattle.reg_tables.specs.Making.{MakesEach, MakesOne, MarksOffice, no_schema};
 ghost use Rattle.reg_tables.specs.Version.{table_count};
-ghost use Rattle.reg_tables.specs.Inserting.{AddedRow};
 
 use crate::reports::Reports;
 use crate::texts;
@@ -56,10 +52,8 @@ fn make<S: Reports>(tx: &mut Transaction<'_, S>, text: &str) -> Result<(), Error
         → OnOk result (MakesOne text.now (state S.Store tx.old.conn.now).now
         (state S.Store tx.new.conn.now).now) }
     ensures gained { HasCleanDisk (state S.Store tx.new.conn.now)
-        → OnOk result ((table : SqlTable) → Defines text.now (unplaced table)
-        → same_name table.name table.name ≡ true
-        → Gains (table ∷ []) 1 (length table.uniques)
-        (state S.Store tx.old.conn.now).now.schema (state S.Store tx.new.conn.now).now.schema) }
+        → OnOk result (GainsOne text.now (state S.Store tx.old.conn.now).now.schema
+        (state S.Store tx.new.conn.now).now.schema) }
     ensures reported { IfErr result S.Reported }
 {
     run(tx, text, &[])?;
@@ -113,10 +107,8 @@ fn add_version<S: Reports>(tx: &mut Transaction<'_, S>) -> Result<(), Error>
     ensures inside { GoesInside (state S.Store tx.old.conn.now)
         (state S.Store tx.new.conn.now) result }
     ensures added { HasCleanDisk (state S.Store tx.new.conn.now)
-        → OnOk result (IsBlank office_schema (state S.Store tx.old.conn.now).now
-        → AddedRow office_table.tree version_row
-        (state S.Store tx.old.conn.now).now (state S.Store tx.new.conn.now).now
-        × IsOffice (state S.Store tx.new.conn.now).now) }
+        → OnOk result (MarksOffice (state S.Store tx.old.conn.now).now
+        (state S.Store tx.new.conn.now).now) }
     ensures defined { HasCleanDisk (state S.Store tx.new.conn.now)
         → OnOk result ((state S.Store tx.new.conn.now).now.schema
         ≡ (state S.Store tx.old.conn.now).now.schema) }

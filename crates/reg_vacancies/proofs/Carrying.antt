@@ -5,7 +5,7 @@ use Rattle.reg_maps.specs.Maps.{update}
 use Rattle.reg_maps.proofs.KeySets.{contains-changed, contains-replaced}
 use Rattle.reg_maps.proofs.KeyLists.{keys-same}
 use Rattle.reg_blocks.specs.Block.{SizedPrefix}
-use Rattle.reg_vacancies.specs.PoolPlaces.{Follows}
+use Rattle.reg_vacancies.specs.PoolPlaces.{FollowsGiven}
 use Rattle.reg_vacancies.specs.Laws.{EntriesAreReplaced, HoldersAreChanged, KeysDecide}
 use Rattle.reg_vacancies.specs.Places.{AreLeftBy, AreUnchanged, Blocks, places_in}
 use Rattle.reg_vacancies.specs.Vacancies.{AreSame, free_in, taken_in}
@@ -38,7 +38,7 @@ pub left-same : (places : FreePlaces) (blocks rest : Blocks)
     → ((block : SizedPrefix) → contains_key rest block ≡ contains_key blocks block)
     → AreLeftBy places blocks → AreLeftBy places rest
 left-same places blocks rest same left =
-    subst (λ (given : List SizedPrefix). ∥ Follows (places_in places) given ∥₁)
+    subst (λ (given : List SizedPrefix). ∥ FollowsGiven (places_in places) given ∥₁)
     (sym (keys-same block_keys rest blocks same)) left
 
 pub keys_decide : KeysDecide

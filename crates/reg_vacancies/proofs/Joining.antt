@@ -159,26 +159,21 @@ new_run old new first last value b j f l some = elim (cases_eq f first) [
   ]
 ]
 
-apart_runs : (old new : Spans) (first last value : ℕ) → Apart old → Between old first last value
-    → (f l g k : ℕ) → NewRun old first last f l → NewRun old first last g k → f < g → l + 1 < g
-apart_runs old new first last value apart b f l g k (inl a) (inl c) lt =
-    absurd (let e : f ≡ first = a.0 in let e' : g ≡ first = c.0 in omega arith)
-apart_runs old new first last value apart b f l g k (inl a) (inr (some, inl down)) lt =
-    absurd (let e : f ≡ first = a.0 in let filled = apart.filled g k some in omega arith)
-apart_runs old new first last value apart b f l g k (inl a) (inr (some, inr up)) lt =
-    let e : l ≡ last = a.1 in omega arith
-apart_runs old new first last value apart b f l g k (inr (some, inl down)) (inl c) lt =
-    let e : g ≡ first = c.0 in omega arith
-apart_runs old new first last value apart b f l g k (inr (some, inr up)) (inl c) lt =
-    absurd (let e : g ≡ first = c.0 in let low = b.low in let high = b.high in omega arith)
-apart_runs old new first last value apart b f l g k (inr (some, side)) (inr (other, side')) lt =
-    apart.apart f l g k some other lt
-
 filled_run : (old : Spans) (first last value : ℕ) → Apart old → Between old first last value
     → (f l : ℕ) → NewRun old first last f l → f ≤ l
 filled_run old first last value apart b f l (inl a) = let e : f ≡ first =
     a.0 in let e' : l ≡ last = a.1 in let low = b.low in let high = b.high in omega arith
 filled_run old first last value apart b f l (inr (some, side)) = apart.filled f l some
+
+apart_runs : (old new : Spans) (first last value : ℕ) → Apart old → Between old first last value
+    → (f l g k : ℕ) → NewRun old first last f l → NewRun old first last g k → f < g → l + 1 < g
+apart_runs old new first last value apart b f l g k (inr (some, side)) (inr (other, side')) lt =
+    apart.apart f l g k some other lt
+apart_runs old new first last value apart b f l g k p q lt =
+    let low = b.low in
+    let high = b.high in
+    let filled = filled_run old first last value apart b g k q in
+    grind arith
 
 fits_run : (old : Spans) (first last : ℕ) → Apart old → last < 2 ^ 32 → (f l : ℕ)
     → NewRun old first last f l → l < 2 ^ 32

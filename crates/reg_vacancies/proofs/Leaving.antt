@@ -10,7 +10,7 @@ use Rattle.reg_blocks.specs.Block.{SizedPrefix, block_cmp, leading_24}
 use Rattle.reg_blocks.specs.Due.{IsFree}
 use Rattle.reg_core.specs.declared.holding.Holder.{Holder}
 use Rattle.reg_core.proofs.KeyOrders.{block_keys}
-use Rattle.reg_vacancies.specs.PoolPlaces.{AddsBlock, Follows, IsFreeIn, pool_of}
+use Rattle.reg_vacancies.specs.PoolPlaces.{AddsBlock, FollowsGiven, IsFreeIn, pool_of}
 use Rattle.reg_vacancies.specs.declared.pool_places.Places.{Places}
 use Rattle.reg_vacancies.specs.Places.{AreUnchanged, places_in}
 use Rattle.reg_vacancies.specs.Pool.{prefix_set}
@@ -35,7 +35,7 @@ adds-inserted m block h other = (
 -- places with the same pool and the same free blocks follow the same gifts
 pub follows-same : (old new : Places) → pool_of new ≡ pool_of old
     → ((block : SizedPrefix) → IsFreeIn new block ↔ IsFreeIn old block)
-    → (given : List SizedPrefix) → Follows old given → Follows new given
+    → (given : List SizedPrefix) → FollowsGiven old given → FollowsGiven new given
 follows-same old new pool free given follows = record {
   free = λ block. (
     (λ is. subst (λ (prefixes : List ℕ). IsFree prefixes given block) (sym pool)

@@ -85,13 +85,8 @@ module _ (old new : Spans) (lo hi : ℕ) (apart : AreDisjoint old) (up : lo ≤ 
   fills f l (inr (run, side)) = apart.filled f l run
 
   ascends : (f l g k : ℕ) → FilledRun f l → FilledRun g k → f < g → l < g
-  ascends f l g k (inl (a, b)) (inl (c, d)) lt = absurd (omega arith)
-  ascends f l g k (inl (a, b)) (inr (run, inl before)) lt =
-      let filled = apart.filled g k run in absurd (omega arith)
-  ascends f l g k (inl (a, b)) (inr (run, inr past)) lt = omega arith
-  ascends f l g k (inr (run, inl before)) (inl (c, d)) lt = omega arith
-  ascends f l g k (inr (run, inr past)) (inl (c, d)) lt = absurd (omega arith)
   ascends f l g k (inr (run, side)) (inr (other, sides)) lt = apart.apart f l g k run other lt
+  ascends f l g k p q lt = let filled = fills g k q in grind arith
 
   pub apart_filled : AreDisjoint new
   apart_filled = record {
@@ -127,14 +122,10 @@ module _ (old new : Spans) (lo hi : ℕ) (apart : AreDisjoint old) (up : lo ≤ 
   )
 
   cut_first : (f l : ℕ) → FilledRun f l → f < lo → l < lo
-  cut_first f l (inl (a, b)) lt = absurd (omega arith)
-  cut_first f l (inr (run, inl before)) lt = before
-  cut_first f l (inr (run, inr past)) lt = absurd (omega arith)
+  cut_first f l p lt = grind arith
 
   cut_last : (f l : ℕ) → FilledRun f l → f < hi + 1 → l < hi + 1
-  cut_last f l (inl (a, b)) lt = omega arith
-  cut_last f l (inr (run, inl before)) lt = omega arith
-  cut_last f l (inr (run, inr past)) lt = absurd (omega arith)
+  cut_last f l p lt = grind arith
 
   pub cuts_filled : IsCut new lo × IsCut new (hi + 1)
   cuts_filled = (
@@ -173,22 +164,9 @@ module _ (old new : Spans) (first last at : ℕ) (apart : AreDisjoint old) (run 
   split_fills f l (inr (inr (was, side))) = apart.filled f l was
 
   split_ascends : (f l g k : ℕ) → SplitRun f l → SplitRun g k → f < g → l < g
-  split_ascends f l g k (inl (a, b)) (inl (c, d)) up = absurd (omega arith)
-  split_ascends f l g k (inl (a, b)) (inr (inl (c, d))) up = omega arith
-  split_ascends f l g k (inl (a, b)) (inr (inr (was, inl before))) up =
-      let filled = apart.filled g k was in absurd (omega arith)
-  split_ascends f l g k (inl (a, b)) (inr (inr (was, inr past))) up = omega arith
-  split_ascends f l g k (inr (inl (a, b))) (inl (c, d)) up = absurd (omega arith)
-  split_ascends f l g k (inr (inl (a, b))) (inr (inl (c, d))) up = absurd (omega arith)
-  split_ascends f l g k (inr (inl (a, b))) (inr (inr (was, inl before))) up =
-      let filled = apart.filled g k was in absurd (omega arith)
-  split_ascends f l g k (inr (inl (a, b))) (inr (inr (was, inr past))) up = omega arith
-  split_ascends f l g k (inr (inr (was, inl before))) (inl (c, d)) up = omega arith
-  split_ascends f l g k (inr (inr (was, inr past))) (inl (c, d)) up = absurd (omega arith)
-  split_ascends f l g k (inr (inr (was, inl before))) (inr (inl (c, d))) up = omega arith
-  split_ascends f l g k (inr (inr (was, inr past))) (inr (inl (c, d))) up = absurd (omega arith)
   split_ascends f l g k (inr (inr (was, side))) (inr (inr (other, sides))) up =
       apart.apart f l g k was other up
+  split_ascends f l g k p q up = let filled = split_fills g k q in grind arith
 
   pub apart_split : AreDisjoint new
   apart_split = record {
@@ -240,10 +218,7 @@ module _ (old new : Spans) (first last at : ℕ) (apart : AreDisjoint old) (run 
   )
 
   cut_there : (f l : ℕ) → SplitRun f l → f < at → l < at
-  cut_there f l (inl (a, b)) below = omega arith
-  cut_there f l (inr (inl (a, b))) below = absurd (omega arith)
-  cut_there f l (inr (inr (was, inl before))) below = omega arith
-  cut_there f l (inr (inr (was, inr past))) below = absurd (omega arith)
+  cut_there f l p below = grind arith
 
   pub cut_split : IsCut new at
   cut_split f l is below = cut_there f l (split_run f l is) below

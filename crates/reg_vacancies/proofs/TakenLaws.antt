@@ -16,7 +16,7 @@ use Rattle.reg_core.specs.World.{place_cmp}
 use Rattle.reg_core.specs.declared.entry.Registration.{Registration}
 use Rattle.reg_core.proofs.ValuesIn.{has_entry}
 use Rattle.reg_core.proofs.KeyOrders.{place_keys}
-use Rattle.reg_vacancies.specs.Sets.{Sets, Test, Tells, Gains, AreAlike, is_in, is_member}
+use Rattle.reg_vacancies.specs.Sets.{Sets, Test, TellsEntries, GainsValue, AreSameTests, is_in, is_member}
 
 -- ---- One set put in the place of another, or of none
 
@@ -41,7 +41,7 @@ module _ (old new : Sets) (registry : List ℕ) (was : Option Runs) (runs : Runs
 
   -- with one value more
   pub gains : (v : ℕ) → ((n : ℕ) → has runs n ≡ (nat_eq n v || is_in was n))
-      → Gains (is_member old) (is_member new) registry v
+      → GainsValue (is_member old) (is_member new) registry v
   gains v adds name n =
       ap (λ set. is_in set n) (put name)
       ∙ elim (is_at (text_cmp registry) name) as (λ t. is_at (text_cmp registry) name ≡ t
@@ -53,7 +53,7 @@ module _ (old new : Sets) (registry : List ℕ) (was : Option Runs) (runs : Runs
       ∙ ap (λ b. b || is_member old name n) (place_tied name registry n v)
 
   -- with the same values
-  pub alike : ((n : ℕ) → has runs n ≡ is_in was n) → AreAlike (is_member old) (is_member new)
+  pub alike : ((n : ℕ) → has runs n ≡ is_in was n) → AreSameTests (is_member old) (is_member new)
   alike same name n =
       ap (λ set. is_in set n) (put name)
       ∙ elim (is_at (text_cmp registry) name) as (λ t. is_at (text_cmp registry) name ≡ t
@@ -71,8 +71,8 @@ is_some-cond false x o = refl
 
 module _ (entries : FinMap place_cmp Registration) (old new : Test) where
   -- where an entry is put, and its value
-  pub tells-put : Tells old entries → (registry : List ℕ) (v : ℕ) (x : Registration)
-      → Gains old new registry v → Tells new (insert entries (registry, v) x)
+  pub tells-put : TellsEntries old entries → (registry : List ℕ) (v : ℕ) (x : Registration)
+      → GainsValue old new registry v → TellsEntries new (insert entries (registry, v) x)
   tells-put tells registry v x adds name n =
       adds name n
       ∙ ap (λ b. eq_by_cmp place_cmp (name, n) (registry, v) || b) (tells name n)
@@ -80,7 +80,7 @@ module _ (entries : FinMap place_cmp Registration) (old new : Test) where
       ∙ sym (ap is_some (get-at_insert place_keys entries (registry, v) x (name, n)))
 
   -- where nothing is
-  pub tells-alike : AreAlike old new → Tells new entries ↔ Tells old entries
+  pub tells-alike : AreSameTests old new → TellsEntries new entries ↔ TellsEntries old entries
   tells-alike same = (
     (λ tells. λ name n. sym (same name n) ∙ tells name n),
     (λ tells. λ name n. same name n ∙ tells name n),
@@ -90,7 +90,7 @@ no_row : {X : Type 0} (o : Option X) → is_some o ≡ false → o ≡ None
 no_row None h = refl
 no_row (Some x) h = absurd (cc)
 
-module _ (entries : FinMap place_cmp Registration) (test : Test) (tells : Tells test entries)
+module _ (entries : FinMap place_cmp Registration) (test : Test) (tells : TellsEntries test entries)
     (registry : List ℕ) where
   -- at a value that is not taken there is no entry
   pub not_taken : (v : ℕ) → test registry v ≡ false → get entries (registry, v) ≡ None

@@ -5,7 +5,7 @@ use Rattle.std.specs.FinSet.{FinSet}
 use Rattle.std.specs.Ordering.{nat_cmp}
 use Rattle.reg_blocks.specs.Block.{block_cmp}
 use Rattle.reg_core.specs.declared.holding.Holder.{Holder}
-use Rattle.reg_vacancies.specs.PoolPlaces.{Follows, pool_of}
+use Rattle.reg_vacancies.specs.PoolPlaces.{FollowsGiven, pool_of}
 use Rattle.reg_vacancies.specs.declared.pool_places.Places.{Places}
 use Rattle.reg_vacancies.specs.Pool.{prefix_set}
 use Rattle.reg_vacancies.specs.declared.places.FreePlaces.{FreePlaces}
@@ -24,7 +24,7 @@ Blocks = FinMap block_cmp Holder
 
 -- the places that are free are just those that these blocks, which lie in the pool, leave
 abbrev pub AreLeftBy : FreePlaces → Blocks → Type 0
-AreLeftBy free blocks = ∥ Follows (places_in free) (keys blocks) ∥₁
+AreLeftBy free blocks = ∥ FollowsGiven (places_in free) (keys blocks) ∥₁
 
 -- of free places before and after: the pool is the same, and the same blocks leave them
 pub record AreUnchanged (old new : FreePlaces) : Type 0 where

@@ -25,7 +25,7 @@ IsDueOf free size (Some due) =
 
 -- the free blocks are those that lie in a prefix of the pool and share no address with a given
 -- block, and each given block lies in a prefix of the pool
-pub record Follows (places : Places) (given : List SizedPrefix) : Type 0 where
+pub record FollowsGiven (places : Places) (given : List SizedPrefix) : Type 0 where
   pub free : (block : SizedPrefix) → IsFreeIn places block ↔ IsFree (pool_of places) given block
   pub in_pool : All (λ block. Contains (pool_of places) (leading_24 block)) given
 

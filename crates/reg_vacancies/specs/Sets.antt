@@ -29,16 +29,16 @@ abbrev pub Test : Type 0
 Test = List ℕ → ℕ → Bool
 
 -- the test holds just where the registry has an entry at the value
-abbrev pub Tells : Test → FinMap place_cmp Registration → Type 0
-Tells test entries =
+abbrev pub TellsEntries : Test → FinMap place_cmp Registration → Type 0
+TellsEntries test entries =
     (registry : List ℕ) (value : ℕ) → test registry value ≡ contains_key entries (registry, value)
 
 -- the test holds at one value more of one registry
-abbrev pub Gains : Test → Test → List ℕ → ℕ → Type 0
-Gains old new registry value =
+abbrev pub GainsValue : Test → Test → List ℕ → ℕ → Type 0
+GainsValue old new registry value =
     (name : List ℕ) (n : ℕ)
     → new name n ≡ (eq_by_cmp place_cmp (name, n) (registry, value) || old name n)
 
 -- the tests hold at the same values
-abbrev pub AreAlike : Test → Test → Type 0
-AreAlike old new = (name : List ℕ) (n : ℕ) → new name n ≡ old name n
+abbrev pub AreSameTests : Test → Test → Type 0
+AreSameTests old new = (name : List ℕ) (n : ℕ) → new name n ≡ old name n

@@ -3,7 +3,7 @@ use Rattle.std.specs.Prelude.{ℕ, List, Bool}
 use Rattle.std.specs.FinMap.{FinMap}
 use Rattle.reg_core.specs.World.{place_cmp}
 use Rattle.reg_core.specs.declared.entry.Registration.{Registration}
-use Rattle.reg_vacancies.specs.Sets.{Tells, is_member}
+use Rattle.reg_vacancies.specs.Sets.{TellsEntries, is_member}
 use Rattle.reg_vacancies.specs.declared.values.TakenValues.{TakenValues}
 
 -- the value of the registry is taken
@@ -16,4 +16,4 @@ Entries = FinMap place_cmp Registration
 
 -- the values that are taken are just those at which there are entries
 abbrev pub AreTakenBy : TakenValues → Entries → Type 0
-AreTakenBy taken entries = Tells (is_taken taken) entries
+AreTakenBy taken entries = TellsEntries (is_taken taken) entries

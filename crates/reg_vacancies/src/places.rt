@@ -20,6 +20,7 @@ pub struct FreePlaces {
     places: Places,
 }
 
+#[tactic(auto, unfolding(crate::specs::Places::places_in))]
 impl FreePlaces {
     ghost use Rattle.reg_vacancies.specs.Places.{AreLeftBy, AreUnchanged, Blocks, pool_in};
 
@@ -41,6 +42,7 @@ impl FreePlaces {
     }
 
     /// Whether the prefix is in the pool.
+    #[tactic(auto, using(crate::proofs::PrefixSets::found_in_set), unfolding(crate::specs::Places::places_in))]
     pub fn has_prefix(&self, prefix: u32) -> bool
         ensures { result ≡ fin.contains_key (pool_in self.now) prefix }
     {

@@ -26,14 +26,15 @@ pub struct Places {
     ghost pooled: { ArePooled prefixes large medium small },
 }
 
+#[tactic(auto, unfolding(crate::specs::PoolPlaces::pool_of, crate::specs::PoolPlaces::IsFreeIn))]
 impl Places {
-    ghost use Rattle.reg_vacancies.specs.PoolPlaces.{pool_of, IsFreeIn, IsDueOf, Follows, AddsBlock};
+    ghost use Rattle.reg_vacancies.specs.PoolPlaces.{pool_of, IsFreeIn, IsDueOf, FollowsGiven, AddsBlock};
 
     /// An empty pool. It takes no memory.
     pub fn new(alloc: Global) -> Self
         ensures pool { pool_of result ≡ [] }
         ensures free { (block : SizedPrefix) → ¬ IsFreeIn result block }
-        ensures follows { Follows result [] }
+        ensures follows { FollowsGiven result [] }
     {
         Places {
             prefixes: BTreeSet::new(alloc),
@@ -65,8 +66,8 @@ impl Places {
             ↔ IsFreeIn self.old block) }
 
         // The same blocks are given.
-        ensures follows { (given : List SizedPrefix) → Follows self.old given
-            → Follows self.new given }
+        ensures follows { (given : List SizedPrefix) → FollowsGiven self.old given
+            → FollowsGiven self.new given }
     {
         add_pooled(
             &mut self.prefixes,
@@ -88,10 +89,10 @@ impl Places {
 
         // The blocks that are given have this one more, of the pool; or, at an error, they are the same.
         ensures follows { OnOk result ((given after : List SizedPrefix)
-            → Follows self.old given → AddsBlock given after block
-            → Contains (pool_of self.old) (leading_24 block) → Follows self.new after) }
-        ensures stays { OnErr result ((given : List SizedPrefix) → Follows self.old given
-            → Follows self.new given) }
+            → FollowsGiven self.old given → AddsBlock given after block
+            → Contains (pool_of self.old) (leading_24 block) → FollowsGiven self.new after) }
+        ensures stays { OnErr result ((given : List SizedPrefix) → FollowsGiven self.old given
+            → FollowsGiven self.new given) }
     {
         give_block(&mut self.large, &mut self.medium, &mut self.small, &block)
     }
@@ -102,11 +103,11 @@ impl Places {
         ensures least { IsDueOf (IsFreeIn self.now) size result }
 
         // The block due of the pool and of the blocks given that the places follow.
-        ensures due { (given : List SizedPrefix) → Follows self.now given
+        ensures due { (given : List SizedPrefix) → FollowsGiven self.now given
             → IfSome result (IsDue (pool_of self.now) given size) }
-        ensures none { (given : List SizedPrefix) → Follows self.now given
+        ensures none { (given : List SizedPrefix) → FollowsGiven self.now given
             → IsNone result ↔ NoneIsFree (pool_of self.now) given size }
-        ensures trial { (given : List SizedPrefix) → Follows self.now given
+        ensures trial { (given : List SizedPrefix) → FollowsGiven self.now given
             → result ≡ block_due (pool_of self.now) given size }
     {
         due_among(self.runs(size), size)

@@ -13,6 +13,7 @@ pub struct Runs {
     ghost apart: { Apart spans },
 }
 
+#[tactic(auto, unfolding(crate::specs::Runs::has))]
 impl Runs {
     ghost use Rattle.std.specs.Prelude.{◌≡◌, ℕ, ◌||◌, false, nat_eq, OnOk, OnErr};
     ghost use Rattle.reg_vacancies.specs.Runs.{has, IsNextFree};

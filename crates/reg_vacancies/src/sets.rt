@@ -1,6 +1,6 @@
 //! Sets of values, one for each registry.
 ghost use Rattle.std.specs.Prelude.{◌≡◌, false, OnOk, OnErr};
-ghost use Rattle.reg_vacancies.specs.Sets.{AreAlike, Gains, is_member};
+ghost use Rattle.reg_vacancies.specs.Sets.{AreSameTests, GainsValue, is_member};
 
 use crate::runs::Runs;
 use reg_core::text::Name;
@@ -17,8 +17,8 @@ pub fn put_value(
     registry: &Name,
     value: u32,
 ) -> Result<(), AllocError>
-    ensures ok { OnOk result (Gains (is_member sets.old) (is_member sets.new) registry.now value) }
-    ensures err { OnErr result (AreAlike (is_member sets.old) (is_member sets.new)) }
+    ensures ok { OnOk result (GainsValue (is_member sets.old) (is_member sets.new) registry.now value) }
+    ensures err { OnErr result (AreSameTests (is_member sets.old) (is_member sets.new)) }
     ensures absent { OnErr result (is_member sets.old registry.now value ≡ false) }
 {
     match sets.get_mut(registry) {

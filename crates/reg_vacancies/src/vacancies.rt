@@ -28,6 +28,7 @@ pub struct Vacancies {
     places: FreePlaces,
 }
 
+#[tactic(auto, unfolding(crate::specs::Vacancies::free_in, crate::specs::Vacancies::taken_in))]
 impl Vacancies {
     ghost use Rattle.reg_vacancies.specs.Vacancies.{AreSame, AreVacancies, OfAll};
 

@@ -11,6 +11,7 @@ use std::collections::BTreeMap;
 pub type Spans = BTreeMap<u32, u32>;
 
 /// Whether a number lies in a run.
+#[tactic(auto, using(crate::proofs::SpanLaws::within_reaches))]
 pub fn is_within(spans: &Spans, value: u32) -> bool
     requires { Apart spans.now }
     ensures { result ≡ is_within spans.now value }
@@ -77,6 +78,7 @@ fn first_with(run: Option<(u32, u32)>, value: u32) -> u32
 }
 
 // Where the run of a number ends, once it is added.
+#[tactic(auto, using(crate::proofs::Joining::last_at_top))]
 fn last_with(spans: &Spans, value: u32) -> u32
     requires { Apart spans.now }
     ensures { result ≡ unwrap_or (get nat_cmp spans.now (value + 1)) value }

@@ -1,7 +1,7 @@
 -- Bytes that are compared with those that a printer gives, a portion at a time.
 use Rattle.std.proofs.Common.{◌≡◌, ◌==◌, ℕ, Bool, true, false, List, [], ◌∷◌, ◌++◌, length, refl, sym, ap, ◌∙◌, append_assoc, arith}
 use Rattle.std.specs.Prelude.{IsTrue, ◌↔◌, ◌≢◌}
-use Rattle.reg_site.specs.Portions.{Gives}
+use Rattle.reg_site.specs.Portions.{GivesIfMore}
 use Rattle.std.proofs.lemmas.Bool.{eqb-true}
 use Rattle.std.proofs.lemmas.List.{append_cancel_left}
 
@@ -52,11 +52,11 @@ same_front-end bytes (x ∷ xs) given left r so none e = (
 
 -- what is given comes next, or nothing does
 pub gives_next : (more : Bool) (items left left' : List ℕ) → more ≡ true
-    → Gives more [] items left left' → left ≡ items ++ left'
+    → GivesIfMore more [] items left left' → left ≡ items ++ left'
 gives_next true items left left' is gives = sym gives.whole
 gives_next false items left left' is gives = absurd (let no : ⊥ = cc in no)
 
 pub gives_none : (more : Bool) (items left left' : List ℕ) → more ≡ false
-    → Gives more [] items left left' → left ≡ []
+    → GivesIfMore more [] items left left' → left ≡ []
 gives_none false items left left' is gives = gives.none
 gives_none true items left left' is gives = absurd (let no : ⊥ = cc in no)

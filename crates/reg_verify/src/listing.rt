@@ -1,7 +1,7 @@
 //! Bytes that are compared with those that a printer gives.
 ghost use Rattle.std.specs.Prelude.{◌≡◌, ◌↔◌, [], IfOk, IsTrue};
 ghost use Rattle.reg_print.specs.Comparing.{Leaves};
-ghost use Rattle.reg_site.specs.Portions.{Gives};
+ghost use Rattle.reg_site.specs.Portions.{GivesIfMore};
 
 use reg_site::portions::Portions;
 use std::alloc::{AllocError, Global};
@@ -29,7 +29,7 @@ pub(crate) fn gives_just<P: Portions>(
 // The portion that comes next; whether there is one.
 fn next_portion<P: Portions>(printer: &mut P, portion: &mut Vec<u8>) -> Result<bool, AllocError>
     ensures { IfOk result
-        (λ more. Gives more [] portion.new.items (P.rest printer.old) (P.rest printer.new)) }
+        (λ more. GivesIfMore more [] portion.new.items (P.rest printer.old) (P.rest printer.new)) }
 {
     portion.clear();
     printer.push_next(portion)

@@ -13,7 +13,7 @@ use Rattle.reg_core.specs.declared.reply.Reply.TheVariants.{Accepted, Refused}
 use Rattle.reg_core.specs.declared.told.Told.{Told}
 use Rattle.reg_core.specs.declared.told.Told.TheVariants.{Made}
 use Rattle.reg_print.specs.Answer.{body_text, status_of}
-use Rattle.reg_wire.specs.Exchange.{IsAnswered}
+use Rattle.reg_wire.specs.Exchange.{IsNotStorage}
 use Rattle.reg_wire.specs.Script.Lines.{IsOneLine, refusal, storage}
 use Rattle.reg_wire.specs.Script.Answers.{answer_line, tab_of}
 use Rattle.reg_print.specs.declared.answer.Answer.{Answer}
@@ -36,7 +36,6 @@ refused_is_another : (why : Refusal)
     → bytes_eq (answer_line (answer.Reply (Refused why))) storage ≡ false
 unfolding body_text digits serde_json_on_literals
 refused_is_another no.Clock = refl
-refused_is_another (no.Evidence item) = refl
 refused_is_another why = refl
 
 told_is_another : (c : Told)
@@ -52,11 +51,7 @@ reply_is_another (Refused why) = refused_is_another why
 pub wire_is_another : (why : WireRefusal) → bytes_eq (answer_line (answer.Wire why)) storage ≡ false
 unfolding digits
 wire_is_another wire.Line = refl
-wire_is_another wire.Route = refl
-wire_is_another wire.Method = refl
-wire_is_another wire.Body = refl
-wire_is_another (wire.Field item) = refl
-wire_is_another (wire.Ranges fault) = refl
+wire_is_another why = refl
 
 -- ---- An answer has no line feed
 
@@ -105,7 +100,7 @@ another text other same = false≢true (sym other ∙ ap (λ t. bytes_eq t stora
 pub refusal_is_no_storage : refusal ≢ storage
 refusal_is_no_storage = another _ refusal_is_another
 
-pub answered_is_another : (a : Answer) → IsAnswered a → answer_line a ≢ storage
+pub answered_is_another : (a : Answer) → IsNotStorage a → answer_line a ≢ storage
 answered_is_another (answer.Reply reply) h = another _ (reply_is_another reply)
 answered_is_another (answer.Wire refusal) h = another _ (wire_is_another refusal)
 answered_is_another answer.Storage h = absurd h

@@ -40,29 +40,15 @@ use Rattle.reg_wire.proofs.TreeText.{◌▸◌, AreReadable, IfReadable, Readabl
 
 policy_ascii : (p : Policy) → are_ascii (policy_word p) ≡ true
 policy_ascii policy.PrivateUse = refl
-policy_ascii policy.ExperimentalUse = refl
-policy_ascii policy.HierarchicalAllocation = refl
-policy_ascii policy.FirstComeFirstServed = refl
-policy_ascii policy.ExpertReview = refl
-policy_ascii policy.SpecificationRequired = refl
-policy_ascii policy.RfcRequired = refl
-policy_ascii policy.IetfReview = refl
-policy_ascii policy.StandardsAction = refl
-policy_ascii policy.IesgApproval = refl
+policy_ascii other = refl
 
 stream_ascii : (s : Stream) → are_ascii (stream_word s) ≡ true
 stream_ascii stream.Ietf = refl
-stream_ascii stream.Irtf = refl
-stream_ascii stream.Iab = refl
-stream_ascii stream.Independent = refl
-stream_ascii stream.Editorial = refl
+stream_ascii other = refl
 
 track_ascii : (t : Track) → are_ascii (track_word t) ≡ true
 track_ascii track.Standards = refl
-track_ascii track.Bcp = refl
-track_ascii track.Informational = refl
-track_ascii track.Experimental = refl
-track_ascii track.Historic = refl
+track_ascii other = refl
 
 size_ascii : (s : Size) → are_ascii (word_of s) ≡ true
 size_ascii size.MaL = refl

@@ -1,6 +1,5 @@
 -- An ask is read back from its JSON.
 use Rattle.std.proofs.Common.{◌≡◌, ◌∙◌, ℕ, ◌^◌, List, [], ◌∷◌, get_or, map, Bool, true, false, Option, Some, None, Ok, refl, ap, nat_lt, arith, option_and_then}
-use Rattle.std.specs.Prelude.{⊤}
 use Rattle.std.specs.Cmp.{first_so, second_so}
 use Rattle.std.proofs.lemmas.Bool.Decides.{nat_tests}
 use Rattle.serde_json.specs.Data.{Data, string}
@@ -40,12 +39,12 @@ use Rattle.reg_core.specs.declared.ask_kind.AskKind.{AskKind}
 use Rattle.reg_core.specs.declared.ask_kind.AskKind.TheVariants as kind
 use Rattle.reg_parse.specs.declared.bodies.value.AllocatedValue.{AllocatedValue}
 use Rattle.reg_parse.specs.declared.bodies.value.WantedValue.{WantedValue}
-use Rattle.reg_parse.specs.Bodies.Members.{Reading, ◌>>=◌, needed, formed, number_form, optional, optional_truth, only, text_form, truth_by}
+use Rattle.reg_parse.specs.Bodies.Members.{Reading, ◌>>=◌, needed, formed, number_form, optional, optional_truth, text_form, truth_by}
 use Rattle.reg_parse.specs.Bodies.Rfc.{rfc_form}
-use Rattle.reg_parse.specs.Bodies.EarlyEvidence.{early_evidence_items, early_evidence_of, early_evidence_with}
+use Rattle.reg_parse.specs.Bodies.EarlyEvidence.{early_evidence_items, early_evidence_of}
 use Rattle.reg_parse.specs.Bodies.Evidence.{evidence_of}
 use Rattle.reg_parse.specs.Bodies.Value.{allocated_value_of, want_by, want_of, wanted_value_of}
-use Rattle.reg_parse.specs.Bodies.Ask.{ask_of, ask_of_kind, ask_kind_form, block_items, block_of, size_form, size_named, code_items, code_of, code_with, early_items, early_of, early_with, permanence_items, permanence_of, permanence_with, renewal_items, renewal_of, renewal_with}
+use Rattle.reg_parse.specs.Bodies.Ask.{ask_of, ask_of_kind, ask_kind_form, block_items, block_of, size_form, size_named, code_items, code_of, early_items, early_of, permanence_items, permanence_of, renewal_items, renewal_of}
 use Rattle.reg_wire.proofs.AskForms.{HasWantedForm, early_formed, evidence_formed, renewal_formed, value_formed, want_formed}
 use Rattle.reg_wire.proofs.ListedMembers.{find_listed, get-object_with, needed-object_with, optional-object_with, only-object_with}
 
@@ -53,29 +52,15 @@ use Rattle.reg_wire.proofs.ListedMembers.{find_listed, get-object_with, needed-o
 
 policy_back : (p : Policy) → read_policy (policy_word p) ≡ Some p
 policy_back policy.PrivateUse = refl
-policy_back policy.ExperimentalUse = refl
-policy_back policy.HierarchicalAllocation = refl
-policy_back policy.FirstComeFirstServed = refl
-policy_back policy.ExpertReview = refl
-policy_back policy.SpecificationRequired = refl
-policy_back policy.RfcRequired = refl
-policy_back policy.IetfReview = refl
-policy_back policy.StandardsAction = refl
-policy_back policy.IesgApproval = refl
+policy_back other = refl
 
 stream_back : (s : Stream) → read_stream (stream_word s) ≡ Some s
 stream_back stream.Ietf = refl
-stream_back stream.Irtf = refl
-stream_back stream.Iab = refl
-stream_back stream.Independent = refl
-stream_back stream.Editorial = refl
+stream_back other = refl
 
 track_back : (t : Track) → read_track (track_word t) ≡ Some t
 track_back track.Standards = refl
-track_back track.Bcp = refl
-track_back track.Informational = refl
-track_back track.Experimental = refl
-track_back track.Historic = refl
+track_back other = refl
 
 size_back : (s : Size) → size_named (word_of s) ≡ Some s
 size_back size.MaL = refl
@@ -101,23 +86,30 @@ number_back : (n : ℕ) → nat_lt n (2 ^ 32) ≡ true
     → option_and_then number_form (whole_number n) ≡ Some n
 number_back n h = rw h refl
 
--- what is read of a member that is listed so
-needed_back : {A : Type 0} (part : Item) (form : Data → Option A) (x : A) (o : Option Data)
-    (ms : Listed) → ascends ms ≡ true → find_listed (item_name part) ms ≡ o
-    → option_and_then form o ≡ Some x → needed part form (object_with ms) ≡ Ok x
-needed_back part form x o ms h found back =
-    needed-object_with part form x ms h (ap (option_and_then form) found ∙ back)
+-- what is read of a text, a note or a mark that is listed so
+text_read : (part : Item) (form : List ℕ → Bool) (s : List ℕ) (ms : Listed) → ascends ms ≡ true
+    → find_listed (item_name part) ms ≡ text s → form s ≡ true
+    → needed part (text_form form) (object_with ms) ≡ Ok s
+text_read part form s ms h found is =
+    needed-object_with part (text_form form) s ms h
+    (ap (option_and_then (text_form form)) found ∙ named_back form s is)
 
-optional_back : {A : Type 0} (part : Item) (form : Data → Option A) (x : Option A)
-    (o : Option Data) (ms : Listed) → ascends ms ≡ true → find_listed (item_name part) ms ≡ o
-    → formed part form o ≡ Ok x → optional part form (object_with ms) ≡ Ok x
-optional_back part form x o ms h found back =
-    optional-object_with part form x ms h (ap (formed part form) found ∙ back)
+note_read : (part : Item) (note : Option (List ℕ)) (ms : Listed) → ascends ms ≡ true
+    → find_listed (item_name part) ms ≡ text_if note → has_note_form note ≡ true
+    → optional part (text_form is_text) (object_with ms) ≡ Ok note
+note_read part note ms h found is =
+    optional-object_with part (text_form is_text) note ms h
+    (ap (formed part (text_form is_text)) found ∙ note_back part note is)
 
 truth_back : (part : Item) (b : Bool) (ms : Listed) → ascends ms ≡ true
     → find_listed (item_name part) ms ≡ true_if b → optional_truth part (object_with ms) ≡ Ok b
 truth_back part b ms h found =
     ap (truth_by part) (get-object_with (item_name part) ms h ∙ found) ∙ mark_back part b
+
+-- what is read on after a part that was read
+read_on : {A B : Type 0} {part : Reading A} {x : A} {y : B} (more : A → Reading B) → part ≡ Ok x
+    → more x ≡ Ok y → (part >>= more) ≡ Ok y
+read_on more h k = rw h k
 
 -- ---- evidence
 
@@ -143,33 +135,17 @@ record ListEvidence (ms : Listed) (e : Evidence) : Type 0 where
   rfc : find_listed (item_name item.Rfc) ms ≡ rfc_if e.rfc
   minute : find_listed (item_name item.Minute) ms ≡ text_if e.minute
 
-evidence_joined : (e : Evidence) (c s m : Reading (Option (List ℕ)))
-    (r : Reading (Option PublishedRfc)) → c ≡ Ok e.contact → s ≡ Ok e.spec → r ≡ Ok e.rfc
-    → m ≡ Ok e.minute
-    → (c >>= (λ contact. s
-    >>= (λ specification. r
-    >>= (λ rfc. m
-    >>= (λ minute. Ok
-    (record { contact = contact; spec = specification; rfc = rfc; minute = minute })))))) ≡ Ok e
-evidence_joined e c s m r hc hs hr hm = rw (hc, hs, hr, hm) refl
-
 evidence_back : (ms : Listed) (e : Evidence) → ListEvidence ms e → has_evidence_form e ≡ true
     → evidence_of (object_with ms) ≡ Ok e
 unfolding evidence_of
 evidence_back ms e l h =
     let shown = evidence_formed e h in
-    evidence_joined e (optional item.Contact (text_form is_text) (object_with ms))
-    (optional item.Specification (text_form is_text) (object_with ms))
-    (optional item.Minute (text_form is_text) (object_with ms))
-    (optional item.Rfc rfc_form (object_with ms))
-    (optional_back item.Contact (text_form is_text) e.contact (text_if e.contact) ms l.ascending
-    l.contact (note_back item.Contact e.contact shown.contact))
-    (optional_back item.Specification (text_form is_text) e.spec (text_if e.spec) ms l.ascending
-    l.spec (note_back item.Specification e.spec shown.spec))
-    (optional_back item.Rfc rfc_form e.rfc (rfc_if e.rfc) ms l.ascending l.rfc
-    (rfc_back e.rfc shown.rfc))
-    (optional_back item.Minute (text_form is_text) e.minute (text_if e.minute) ms l.ascending
-    l.minute (note_back item.Minute e.minute shown.minute))
+    read_on _ (note_read item.Contact e.contact ms l.ascending l.contact shown.contact)
+    (read_on _ (note_read item.Specification e.spec ms l.ascending l.spec shown.spec)
+    (read_on _
+    (optional-object_with item.Rfc rfc_form e.rfc ms l.ascending
+    (ap (formed item.Rfc rfc_form) l.rfc ∙ rfc_back e.rfc shown.rfc))
+    (read_on _ (note_read item.Minute e.minute ms l.ascending l.minute shown.minute) refl)))
 
 -- these members list this evidence for an early allocation
 record ListEarlyEvidence (ms : Listed) (e : EarlyEvidence) : Type 0 where
@@ -182,36 +158,19 @@ found_at : {found listed : List (Option Data)} (i : ℕ) → found ≡ listed
     → get_or found i None ≡ get_or listed i None
 found_at i h = ap (λ os. get_or os i None) h
 
-early_joined : (e : EarlyEvidence) (d c a : Reading (Option (List ℕ))) (s i p : Reading Bool)
-    → d ≡ Ok e.draft → s ≡ Ok e.stable → i ≡ Ok e.interest → c ≡ Ok e.chair → a ≡ Ok e.director
-    → p ≡ Ok e.will_be_rfc
-    → (d >>= (λ draft. s
-    >>= (λ stable. i
-    >>= (λ interest. c
-    >>= (λ chair. a
-    >>= (λ director. p
-    >>= (λ promise. Ok (early_evidence_with draft stable interest chair director promise)))))))) ≡ Ok e
-early_joined e d c a s i p hd hs hi hc ha hp = rw (hd, hs, hi, hc, ha, hp) refl
-
 early_evidence_back : (ms : Listed) (e : EarlyEvidence) → ListEarlyEvidence ms e
     → has_early_form e ≡ true → early_evidence_of (object_with ms) ≡ Ok e
 unfolding early_evidence_of
 early_evidence_back ms e l h =
     let shown = early_formed e h in
-    early_joined e (optional item.Draft (text_form is_text) (object_with ms))
-    (optional item.Chair (text_form is_text) (object_with ms))
-    (optional item.Director (text_form is_text) (object_with ms))
-    (optional_truth item.Stable (object_with ms)) (optional_truth item.Interest (object_with ms))
-    (optional_truth item.WillBeRfc (object_with ms))
-    (optional_back item.Draft (text_form is_text) e.draft (text_if e.draft) ms l.ascending
-    (found_at 0 l.found) (note_back item.Draft e.draft shown.draft))
-    (truth_back item.Stable e.stable ms l.ascending (found_at 1 l.found))
-    (truth_back item.Interest e.interest ms l.ascending (found_at 2 l.found))
-    (optional_back item.Chair (text_form is_text) e.chair (text_if e.chair) ms l.ascending
-    (found_at 3 l.found) (note_back item.Chair e.chair shown.chair))
-    (optional_back item.Director (text_form is_text) e.director (text_if e.director) ms l.ascending
-    (found_at 4 l.found) (note_back item.Director e.director shown.director))
-    (truth_back item.WillBeRfc e.will_be_rfc ms l.ascending (found_at 5 l.found))
+    read_on _ (note_read item.Draft e.draft ms l.ascending (found_at 0 l.found) shown.draft)
+    (read_on _ (truth_back item.Stable e.stable ms l.ascending (found_at 1 l.found))
+    (read_on _ (truth_back item.Interest e.interest ms l.ascending (found_at 2 l.found))
+    (read_on _ (note_read item.Chair e.chair ms l.ascending (found_at 3 l.found) shown.chair)
+    (read_on _
+    (note_read item.Director e.director ms l.ascending (found_at 4 l.found) shown.director)
+    (read_on _ (truth_back item.WillBeRfc e.will_be_rfc ms l.ascending (found_at 5 l.found))
+    refl)))))
 
 -- ---- values
 
@@ -237,24 +196,13 @@ want_back ms w l h =
       l.least,
     ) (want_by_back w.want h)
 
-wanted_joined : (w : WantedValue) (r l : Reading (List ℕ)) (v : Reading Want)
-    → r ≡ Ok w.registry → v ≡ Ok w.want → l ≡ Ok w.label
-    → (r >>= (λ registry. v
-    >>= (λ wanted. l
-    >>= (λ label. Ok (record { registry = registry; want = wanted; label = label }))))) ≡ Ok w
-wanted_joined w r l v hr hv hl = rw (hr, hv, hl) refl
-
 wanted_back : (ms : Listed) (w : WantedValue) → ListWanted ms w
     → HasWantedForm w.registry w.want w.label → wanted_value_of (object_with ms) ≡ Ok w
 unfolding wanted_value_of
 wanted_back ms w l h =
-    wanted_joined w (needed item.Registry (text_form is_name) (object_with ms))
-    (needed item.Label (text_form is_text) (object_with ms)) (want_of (object_with ms))
-    (needed_back item.Registry (text_form is_name) w.registry (text w.registry) ms l.ascending
-    l.registry (named_back is_name w.registry h.registry))
-    (want_back ms w l h.want)
-    (needed_back item.Label (text_form is_text) w.label (text w.label) ms l.ascending l.label
-    (named_back is_text w.label h.label))
+    read_on _ (text_read item.Registry is_name w.registry ms l.ascending l.registry h.registry)
+    (read_on _ (want_back ms w l h.want)
+    (read_on _ (text_read item.Label is_text w.label ms l.ascending l.label h.label) refl))
 
 -- these members list this value, which was allocated
 record ListAllocated (ms : Listed) (v : AllocatedValue) : Type 0 where
@@ -262,32 +210,18 @@ record ListAllocated (ms : Listed) (v : AllocatedValue) : Type 0 where
   registry : find_listed (item_name item.Registry) ms ≡ text v.registry
   value : find_listed (item_name item.Value) ms ≡ whole_number v.value
 
-allocated_joined : (v : AllocatedValue) (r : Reading (List ℕ)) (n : Reading ℕ)
-    → r ≡ Ok v.registry → n ≡ Ok v.value
-    → (r >>= (λ registry. n >>= (λ value. Ok (record { registry = registry; value = value }))))
-    ≡ Ok v
-allocated_joined v r n hr hn = rw (hr, hn) refl
-
 allocated_back : (ms : Listed) (v : AllocatedValue) → ListAllocated ms v
     → is_name v.registry ≡ true → nat_lt v.value (2 ^ 32) ≡ true
     → allocated_value_of (object_with ms) ≡ Ok v
 unfolding allocated_value_of
 allocated_back ms v l named below =
-    allocated_joined v (needed item.Registry (text_form is_name) (object_with ms))
-    (needed item.Value number_form (object_with ms))
-    (needed_back item.Registry (text_form is_name) v.registry (text v.registry) ms l.ascending
-    l.registry (named_back is_name v.registry named))
-    (needed_back item.Value number_form v.value (whole_number v.value) ms l.ascending l.value
-    (number_back v.value below))
+    read_on _ (text_read item.Registry is_name v.registry ms l.ascending l.registry named)
+    (read_on _
+    (needed-object_with item.Value number_form v.value ms l.ascending
+    (ap (option_and_then number_form) l.value ∙ number_back v.value below))
+    refl)
 
 -- ---- asks
-
--- an ask of a value and of evidence, which are both read back
-ask_joined : {V E A : Type 0} (ask : V → E → A) (v : V) (e : E) (value : Reading V)
-    (evidence : Reading E) (others : Reading ⊤) → value ≡ Ok v → evidence ≡ Ok e
-    → others ≡ Ok tt
-    → (value >>= (λ x. evidence >>= (λ y. others >>= (λ none. Ok (ask x y))))) ≡ Ok (ask v e)
-ask_joined ask v e value evidence others hv he ho = rw (hv, he, ho) refl
 
 code_back : (ask : CodeAsk) → has_code_form ask ≡ true → code_of (code_tree ask) ≡ Ok ask
 unfolding code_of
@@ -296,15 +230,15 @@ code_back ask h =
     let parts = want_formed ask.registry ask.want ask.label (has_evidence_form ask.evidence) h in
     let wanted : WantedValue =
     record { registry = ask.registry; want = ask.want; label = ask.label } in
-    ask_joined code_with wanted ask.evidence (wanted_value_of (object_with ms))
-    (evidence_of (object_with ms)) (only code_items (object_with ms))
+    read_on _
     (wanted_back ms wanted
     (record { ascending = refl; registry = refl; value = refl; least = refl; label = refl })
     parts.wanted)
+    (read_on _
     (evidence_back ms ask.evidence
     (record { ascending = refl; contact = refl; spec = refl; rfc = refl; minute = refl })
     parts.evidence)
-    (only-object_with code_items ms refl refl)
+    (read_on _ (only-object_with code_items ms refl refl) refl))
 
 early_back : (ask : EarlyAsk) → has_early_ask_form ask ≡ true
     → early_of (early_tree ask) ≡ Ok ask
@@ -314,25 +248,14 @@ early_back ask h =
     let parts = want_formed ask.registry ask.want ask.label (has_early_form ask.evidence) h in
     let wanted : WantedValue =
     record { registry = ask.registry; want = ask.want; label = ask.label } in
-    ask_joined early_with wanted ask.evidence (wanted_value_of (object_with ms))
-    (early_evidence_of (object_with ms)) (only early_items (object_with ms))
+    read_on _
     (wanted_back ms wanted
     (record { ascending = refl; registry = refl; value = refl; least = refl; label = refl })
     parts.wanted)
-    (early_evidence_back ms ask.evidence
-    (record { ascending = refl; found = refl })
+    (read_on _
+    (early_evidence_back ms ask.evidence (record { ascending = refl; found = refl })
     parts.evidence)
-    (only-object_with early_items ms refl refl)
-
-renewal_joined : (v : AllocatedValue) (e : EarlyEvidence) (m : Option (List ℕ))
-    (value : Reading AllocatedValue) (evidence : Reading EarlyEvidence)
-    (minute : Reading (Option (List ℕ))) (others : Reading ⊤) → value ≡ Ok v → evidence ≡ Ok e
-    → minute ≡ Ok m → others ≡ Ok tt
-    → (value >>= (λ x. evidence
-    >>= (λ y. minute
-    >>= (λ z. others
-    >>= (λ none. Ok (renewal_with x y z)))))) ≡ Ok (renewal_with v e m)
-renewal_joined v e m value evidence minute others hv he hm ho = rw (hv, he, hm, ho) refl
+    (read_on _ (only-object_with early_items ms refl refl) refl))
 
 renewal_back : (ask : RenewalAsk) → has_renewal_form ask ≡ true
     → renewal_of (renewal_tree ask) ≡ Ok ask
@@ -341,18 +264,14 @@ renewal_back ask h =
     let ms = renewal_members ask in
     let parts = renewal_formed ask h in
     let allocated : AllocatedValue = record { registry = ask.registry; value = ask.value } in
-    renewal_joined allocated ask.evidence ask.iesg (allocated_value_of (object_with ms))
-    (early_evidence_of (object_with ms))
-    (optional item.Iesg (text_form is_text) (object_with ms))
-    (only renewal_items (object_with ms))
+    read_on _
     (allocated_back ms allocated (record { ascending = refl; registry = refl; value = refl })
     parts.registry parts.value)
-    (early_evidence_back ms ask.evidence
-    (record { ascending = refl; found = refl })
+    (read_on _
+    (early_evidence_back ms ask.evidence (record { ascending = refl; found = refl })
     parts.evidence)
-    (optional_back item.Iesg (text_form is_text) ask.iesg (text_if ask.iesg) ms refl refl
-    (note_back item.Iesg ask.iesg parts.iesg))
-    (only-object_with renewal_items ms refl refl)
+    (read_on _ (note_read item.Iesg ask.iesg ms refl refl parts.iesg)
+    (read_on _ (only-object_with renewal_items ms refl refl) refl)))
 
 permanence_back : (ask : PermanenceAsk) → has_permanence_form ask ≡ true
     → permanence_of (permanence_tree ask) ≡ Ok ask
@@ -362,45 +281,29 @@ permanence_back ask h =
     let parts =
     value_formed ask.registry (nat_lt ask.value (2 ^ 32)) (has_evidence_form ask.evidence) h in
     let allocated : AllocatedValue = record { registry = ask.registry; value = ask.value } in
-    ask_joined permanence_with allocated ask.evidence (allocated_value_of (object_with ms))
-    (evidence_of (object_with ms)) (only permanence_items (object_with ms))
+    read_on _
     (allocated_back ms allocated (record { ascending = refl; registry = refl; value = refl })
     parts.registry parts.value)
+    (read_on _
     (evidence_back ms ask.evidence
     (record { ascending = refl; contact = refl; spec = refl; rfc = refl; minute = refl })
     parts.evidence)
-    (only-object_with permanence_items ms refl refl)
-
-block_joined : (ask : BlockAsk) (s : Reading Size) (g a : Reading (List ℕ)) (o : Reading ⊤)
-    → s ≡ Ok ask.size → g ≡ Ok ask.organization → a ≡ Ok ask.address → o ≡ Ok tt
-    → (s >>= (λ size. g
-    >>= (λ organization. a
-    >>= (λ address. o
-    >>= (λ others. Ok
-    (record { size = size; organization = organization; address = address }))))))
-    ≡ Ok ask
-block_joined ask s g a o hs hg ha ho = rw (hs, hg, ha, ho) refl
+    (read_on _ (only-object_with permanence_items ms refl refl) refl))
 
 block_back : (ask : BlockAsk) → has_block_form ask ≡ true → block_of (block_tree ask) ≡ Ok ask
 unfolding block_of
 block_back ask h =
-    block_joined ask (needed item.Size size_form (block_tree ask))
-    (needed item.Organization (text_form is_text) (block_tree ask))
-    (needed item.Address (text_form is_text) (block_tree ask)) (only block_items (block_tree ask))
-    (needed-object_with item.Size size_form ask.size (block_members ask) refl (size_back ask.size))
-    (needed-object_with item.Organization (text_form is_text) ask.organization (block_members ask)
-    refl
-    (named_back is_text ask.organization
-    (first_so (is_text ask.organization) (is_text ask.address) h)))
-    (needed-object_with item.Address (text_form is_text) ask.address (block_members ask) refl
-    (named_back is_text ask.address (second_so (is_text ask.organization) (is_text ask.address) h)))
-    (only-object_with block_items (block_members ask) refl refl)
+    let ms = block_members ask in
+    read_on _ (needed-object_with item.Size size_form ask.size ms refl (size_back ask.size))
+    (read_on _
+    (text_read item.Organization is_text ask.organization ms refl refl
+    (first_so (is_text ask.organization) (is_text ask.address) h))
+    (read_on _
+    (text_read item.Address is_text ask.address ms refl refl
+    (second_so (is_text ask.organization) (is_text ask.address) h))
+    (read_on (λ others. Ok ask) (only-object_with block_items ms refl refl) refl)))
 
 -- an ask of a kind, which its word names
-of_kind_joined : {A : Type 0} (ask : A → Ask) (x : A) (reading : Reading A) → reading ≡ Ok x
-    → (reading >>= (λ y. Ok (ask y))) ≡ Ok (ask x)
-of_kind_joined ask x reading h = rw h refl
-
 kind_back : (k : AskKind) (ask : Ask) (ms : Listed) → ascends ms ≡ true
     → option_and_then ask_kind_form (find_listed (item_name item.Kind) ms) ≡ Some k
     → ask_of_kind k (object_with ms) ≡ Ok ask → ask_of (object_with ms) ≡ Ok ask
@@ -412,16 +315,16 @@ kind_back k ask ms h named read =
 pub ask_of-ask_tree : (ask : Ask) → has_ask_form ask ≡ true → ask_of (ask_tree ask) ≡ Ok ask
 ask_of-ask_tree (Code ask) h =
     kind_back kind.Code (Code ask) (code_members ask) refl refl
-    (of_kind_joined Code ask (code_of (code_tree ask)) (code_back ask h))
+    (read_on _ (code_back ask h) refl)
 ask_of-ask_tree (Early ask) h =
     kind_back kind.Early (Early ask) (early_members ask) refl refl
-    (of_kind_joined Early ask (early_of (early_tree ask)) (early_back ask h))
+    (read_on _ (early_back ask h) refl)
 ask_of-ask_tree (Renew ask) h =
     kind_back kind.Renew (Renew ask) (renewal_members ask) refl refl
-    (of_kind_joined Renew ask (renewal_of (renewal_tree ask)) (renewal_back ask h))
+    (read_on _ (renewal_back ask h) refl)
 ask_of-ask_tree (Permanent ask) h =
     kind_back kind.Permanent (Permanent ask) (permanence_members ask) refl refl
-    (of_kind_joined Permanent ask (permanence_of (permanence_tree ask)) (permanence_back ask h))
+    (read_on _ (permanence_back ask h) refl)
 ask_of-ask_tree (Block ask) h =
     kind_back kind.Block (Block ask) (block_members ask) refl refl
-    (of_kind_joined Block ask (block_of (block_tree ask)) (block_back ask h))
+    (read_on _ (block_back ask h) refl)

@@ -12,7 +12,7 @@ use Rattle.reg_wire.specs.declared.wire_fault.WireFault.TheVariants as fault
 use Rattle.reg_wire.specs.Exchange.{Call}
 use Rattle.reg_wire.specs.Script.Line.{line_of, most_bytes}
 use Rattle.reg_wire.specs.Script.Lines.{refusal, most_reads, Answered, Ran, IsOneLine, ended, Cut, rest_line, AreLines, BeginWith, LinesBefore, Wrote, AnswersAll, StopsAt}
-use Rattle.reg_wire.specs.Script.LineBuffer.{IsBuffered, CutShort, Progress, WroteSome, RanOver, Whole, Halted, HaltedLast}
+use Rattle.reg_wire.specs.Script.LineBuffer.{AnswersLine, IsBuffered, CutShort, Progress, WroteSome, RanOver, Whole, Halted, HaltedLast}
 
 -- ---- A line
 
@@ -130,9 +130,8 @@ module _ {S : Type 0} (Serves : S → Call → List ℕ → S → Type 0) (first
   pub progress_line : (bytes buffered none : List ℕ) (sent n : ℕ) (w v : S)
       (has now : Option (List ℕ))
       → Progress Serves first had bytes buffered sent w has
-      → ((line : List ℕ) → IsBuffered line buffered
-      → (answer : List ℕ) × Answered Serves w line answer v × Appends has now (ended answer)
-      × (n ≡ sent + length (ended answer)))
+      → AnswersLine Serves w buffered v
+      (λ answer. Appends has now (ended answer) × (n ≡ sent + length (ended answer)))
       → none ≡ []
       → Progress Serves first had (bytes ++ 10 ∷ []) none n v now
   progress_line bytes buffered none sent n w v has now p h empty =
@@ -144,9 +143,9 @@ module _ {S : Type 0} (Serves : S → Call → List ℕ → S → Type 0) (first
         cut = cut_line bytes p.lines p.rest p.cut;
         is_buffered = empty;
         ran = ran_more Serves p.lines p.rest first p.answers got.0 w v p.ran got.1;
-        wrote = rw (ended_more p.answers got.0) (Appends-trans had has now _ _ p.wrote got.2);
+        wrote = rw (ended_more p.answers got.0) (Appends-trans had has now _ _ p.wrote got.2.0);
         count = rw (ended_more p.answers got.0)
-            (omega (arith, got.3, p.count, length-append (flat_map ended p.answers) (ended got.0)));
+            (omega (arith, got.2.1, p.count, length-append (flat_map ended p.answers) (ended got.0)));
       }
 
   -- more bytes of a line come
@@ -173,8 +172,7 @@ module _ {S : Type 0} (Serves : S → Call → List ℕ → S → Type 0) (first
   pub halted_line : (why : WireFault) (bytes buffered : List ℕ) (sent : ℕ) (w v : S)
       (has now : Option (List ℕ))
       → Progress Serves first had bytes buffered sent w has
-      → ((line : List ℕ) → IsBuffered line buffered
-      → (answer : List ℕ) × Answered Serves w line answer v × CutShort why sent answer has now)
+      → AnswersLine Serves w buffered v (λ answer. CutShort why sent answer has now)
       → Halted Serves why first had (bytes ++ 10 ∷ []) v now
   halted_line why bytes buffered sent w v has now p h =
       let got = h p.rest p.is_buffered in
@@ -268,22 +266,20 @@ module _ {S : Type 0} (Serves : S → Call → List ℕ → S → Type 0) (first
   pub whole_line : (bytes buffered : List ℕ) (sent n : ℕ) (w v : S) (has now : Option (List ℕ))
       → length buffered ≢ 0
       → Progress Serves first had bytes buffered sent w has
-      → ((line : List ℕ) → IsBuffered line buffered
-      → (answer : List ℕ) × Answered Serves w line answer v × Appends has now (ended answer)
-      × (n ≡ sent + length (ended answer)))
+      → AnswersLine Serves w buffered v
+      (λ answer. Appends has now (ended answer) × (n ≡ sent + length (ended answer)))
       → Whole Serves first had bytes v now
   whole_line bytes buffered sent n w v has now some p h =
       let got = h p.rest p.is_buffered in
       last_answered (λ answers. Appends had now (flat_map ended answers)) bytes buffered sent w v has
       some p got.0 got.1
-      (rw (ended_more p.answers got.0) (Appends-trans had has now _ _ p.wrote got.2))
+      (rw (ended_more p.answers got.0) (Appends-trans had has now _ _ p.wrote got.2.0))
 
   pub halted_last : (why : WireFault) (bytes buffered : List ℕ) (sent : ℕ) (w v : S)
       (has now : Option (List ℕ))
       → length buffered ≢ 0
       → Progress Serves first had bytes buffered sent w has
-      → ((line : List ℕ) → IsBuffered line buffered
-      → (answer : List ℕ) × Answered Serves w line answer v × CutShort why sent answer has now)
+      → AnswersLine Serves w buffered v (λ answer. CutShort why sent answer has now)
       → HaltedLast Serves why first had bytes v now
   halted_last why bytes buffered sent w v has now some p h =
       let got = h p.rest p.is_buffered in

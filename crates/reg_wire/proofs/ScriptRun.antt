@@ -47,24 +47,22 @@ module _ (line text : List ℕ) (first now last : World) (pairs : Pairs)
   abbrev others : List (List ℕ)
   others = map (λ (p : List ℕ × List ℕ). p.0) pairs
 
+  -- by what the line asks
+  by_line : (o : Option Call) → line_of line ≡ o
+      → text ∷ texts
+      ≡ next_line o (answers_to first (cons_option o (calls_of others))) (lines_with others)
+      → last ≡ world_after_calls first (cons_option o (calls_of others))
+      → OfCalls first last ((line, text) ∷ pairs)
+  by_line o is answered world = record { answered = rw is answered; world = rw is world }
+
   -- a line that is none
   no_line : line_of line ≡ None → text ≡ refusal → now ≡ first
       → OfCalls first last ((line, text) ∷ pairs)
   no_line none is same =
       let rest_first : OfCalls first last pairs =
       subst (λ (w : World). OfCalls w last pairs) same rest in
-      record {
-        answered =
-            let P = λ (o : Option Call). text ∷ texts
-            ≡ next_line o (answers_to first (cons_option o (calls_of others)))
-            (lines_with others) in
-            subst P (sym none)
-            (ap (λ t. t ∷ texts) is ∙ ap (λ ts. refusal ∷ ts) rest_first.answered);
-        world =
-            let P = λ (o : Option Call). last
-            ≡ world_after_calls first (cons_option o (calls_of others)) in
-            subst P (sym none) rest_first.world;
-      }
+      by_line None none
+      (ap (λ t. t ∷ texts) is ∙ ap (λ ts. refusal ∷ ts) rest_first.answered) rest_first.world
 
   -- a line that is a call
   call_line : (call : Call) → line_of line ≡ Some call → text ≡ answer_line (answer_to first call)
@@ -72,19 +70,10 @@ module _ (line text : List ℕ) (first now last : World) (pairs : Pairs)
   call_line call some is moved =
       let rest_then : OfCalls (world_then first call) last pairs =
       subst (λ (w : World). OfCalls w last pairs) moved rest in
-      record {
-        answered =
-            let P = λ (o : Option Call). text ∷ texts
-            ≡ next_line o (answers_to first (cons_option o (calls_of others)))
-            (lines_with others) in
-            subst P (sym some)
-            (ap (λ t. t ∷ texts) is ∙ ap (λ ts. answer_line (answer_to first call) ∷ ts)
-            rest_then.answered);
-        world =
-            let P = λ (o : Option Call). last
-            ≡ world_after_calls first (cons_option o (calls_of others)) in
-            subst P (sym some) rest_then.world;
-      }
+      by_line (Some call) some
+      (ap (λ t. t ∷ texts) is
+      ∙ ap (λ ts. answer_line (answer_to first call) ∷ ts) rest_then.answered)
+      rest_then.world
 
 module _ (line text : List ℕ) (lines answers : List (List ℕ)) (first now last : World)
     (rest : OfCalls now last (without_faults lines answers)) where

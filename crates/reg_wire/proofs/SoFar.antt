@@ -6,7 +6,7 @@ use Rattle.reg_keeper.specs.Keeper.{GoesOn}
 use Rattle.reg_keeper.specs.declared.keeper.Fault.{Fault}
 use Rattle.reg_keeper.proofs.Premises.{goes_on_both, goes_on_there}
 use Rattle.reg_print.specs.declared.answer.Answer.{Answer}
-use Rattle.reg_wire.specs.Exchange.{Call, FaultOf, Gives, IsNotOfStore, PremiseGoesOn}
+use Rattle.reg_wire.specs.Exchange.{Call, FaultOf, GivesAnswer, IsNotOfStore, PremiseGoesOn}
 use Rattle.reg_wire.specs.Script.Answers.{Serves, ServesOver, answer_line, given_line}
 use Rattle.reg_wire.specs.Script.Laws.{LinesStandSoFar}
 use Rattle.reg_wire.specs.Script.Line.{line_of}
@@ -32,7 +32,7 @@ module _ {S : Type 0} (world : S → World) (Holds Sound : S → Type 0) (fails 
         × GoesOn Holds Sound before after (IsNotOfStore fault)
 
     given_goes_on : (call : Call) (result : Result Answer Fault) → answer ≡ given_line result
-        → Gives world Holds Sound fails before call result after → GoesOnBy
+        → GivesAnswer world Holds Sound fails before call result after → GoesOnBy
     given_goes_on call (Ok a) told gives =
         (None, λ same. answered_is_another a gives.is_answered (sym told ∙ same), gives.makes.premise)
     given_goes_on call (Err fault) told gives =
@@ -43,7 +43,7 @@ module _ {S : Type 0} (world : S → World) (Holds Sound : S → Type 0) (fails 
     line_goes_on (Some call) h = given_goes_on call h.result h.told h.gives
 
     given_served : (call : Call) (result : Result Answer Fault) → answer ≡ given_line result
-        → Gives world Holds Sound fails before call result after → Holds after
+        → GivesAnswer world Holds Sound fails before call result after → Holds after
         → Serves (world before) call answer (world after)
     given_served call (Ok a) told gives holds =
         inl (told ∙ ap answer_line (gives.answers holds), gives.makes.made holds)

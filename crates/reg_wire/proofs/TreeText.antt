@@ -66,8 +66,7 @@ comma_plain false = IsUtf8-nil
 
 number_plain : (n : Num) → IsPlainNumber n → IsUtf8 (compact_text (number n))
 number_plain (unsigned n) h = IsUtf8-from_ascii (decimal n) (IsAscii-decimal n h)
-number_plain (negative z) h = absurd h
-number_plain (float x) h = absurd h
+number_plain other h = absurd h
 
 boolean_plain : (b : Bool) → IsUtf8 (compact_text (boolean b))
 boolean_plain true = IsUtf8-are_ascii _ refl
@@ -149,36 +148,24 @@ infixr 5 ◌▸◌
 pub ◌▸◌ : {n : ℕ} {xs ys : Listed} → AreReadable n xs → AreReadable n ys → AreReadable n (xs ++ ys)
 ◌▸◌ {n} {xs} {ys} h more = record { all = all_readable n xs ys h.all more.all }
 
-plain_at : (n : ℕ) (k : List ℕ) (o : Option Data) (ms : Members) → IsUtf8 k → IfReadable n o
-    → ArePlain ms → ArePlain (some_member k o ms)
-plain_at n k None ms hk h hm = hm
-plain_at n k (Some d) ms hk h hm = (hk, h.plain, hm)
+-- members that are plain, have numbers and nest no deeper
+record AreSound (n : ℕ) (ms : Members) : Type 0 where
+  plain : ArePlain ms
+  numbers : MembersHaveNumbers (members_outline ms)
+  shallow : tree.members_depth (members_outline ms) ≤ n
 
-are_plain : (n : ℕ) (ms : Listed) → AllReadable n ms → ArePlain (as_listed ms)
-are_plain n [] h = tt
-are_plain n (m ∷ ms) h = plain_at n m.0 m.1 (as_listed ms) h.0 h.1 (are_plain n ms h.2)
+sound_at : (n : ℕ) (k : List ℕ) (o : Option Data) (ms : Members) → IsUtf8 k → IfReadable n o
+    → AreSound n ms → AreSound n (some_member k o ms)
+sound_at n k None ms hk h more = more
+sound_at n k (Some d) ms hk h more = record {
+  plain = (hk, h.plain, more.plain);
+  numbers = (h.numbers, more.numbers);
+  shallow = omega (arith, h.shallow, more.shallow);
+}
 
-numbers_at : (n : ℕ) (k : List ℕ) (o : Option Data) (ms : Members) → IfReadable n o
-    → MembersHaveNumbers (members_outline ms)
-    → MembersHaveNumbers (members_outline (some_member k o ms))
-numbers_at n k None ms h hm = hm
-numbers_at n k (Some d) ms h hm = (h.numbers, hm)
-
-have_numbers : (n : ℕ) (ms : Listed) → AllReadable n ms
-    → MembersHaveNumbers (members_outline (as_listed ms))
-have_numbers n [] h = tt
-have_numbers n (m ∷ ms) h = numbers_at n m.0 m.1 (as_listed ms) h.1 (have_numbers n ms h.2)
-
-shallow_at : (n : ℕ) (k : List ℕ) (o : Option Data) (ms : Members) → IfReadable n o
-    → tree.members_depth (members_outline ms) ≤ n
-    → tree.members_depth (members_outline (some_member k o ms)) ≤ n
-shallow_at n k None ms h hm = hm
-shallow_at n k (Some d) ms h hm = omega (arith, h.shallow)
-
-are_shallow : (n : ℕ) (ms : Listed) → AllReadable n ms
-    → tree.members_depth (members_outline (as_listed ms)) ≤ n
-are_shallow n [] h = omega arith
-are_shallow n (m ∷ ms) h = shallow_at n m.0 m.1 (as_listed ms) h.1 (are_shallow n ms h.2)
+are_sound : (n : ℕ) (ms : Listed) → AllReadable n ms → AreSound n (as_listed ms)
+are_sound n [] h = record { plain = tt; numbers = tt; shallow = omega arith }
+are_sound n (m ∷ ms) h = sound_at n m.0 m.1 (as_listed ms) h.0 h.1 (are_sound n ms h.2)
 
 if_reads : (n : ℕ) (o : Option Data) → IfReadable n o → IfReads o
 if_reads n None h = tt
@@ -190,12 +177,14 @@ all_read n (m ∷ ms) h = (if_reads n m.1 h.1, all_read n ms h.2)
 
 listed-readable : (n : ℕ) (ms : Listed) → ascends ms ≡ true → AllReadable n ms
     → Readable (suc n) (object (as_listed ms))
-listed-readable n ms h r = record {
-  plain = are_plain n ms r;
-  numbers = have_numbers n ms r;
-  shallow = let within = are_shallow n ms r in omega arith;
-  same = listed-reads ms h (all_read n ms r);
-}
+listed-readable n ms h r =
+    let sound = are_sound n ms r in
+    record {
+      plain = sound.plain;
+      numbers = sound.numbers;
+      shallow = let within = sound.shallow in omega arith;
+      same = listed-reads ms h (all_read n ms r);
+    }
 
 pub object_with-readable : (n : ℕ) (ms : Listed) → ascends ms ≡ true → AreReadable n ms
     → Readable (suc n) (object_with ms)

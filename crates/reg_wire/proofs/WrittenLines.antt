@@ -218,33 +218,25 @@ written_fields moment token method path body h t m p =
 not_long : (n most : ℕ) → n ≤ most → nat_lt most n ≡ false
 not_long n most h = grind (arith, nat_tests)
 
+-- the call with this token and this body
+abbrev call_with : Call → Option (List ℕ) → List ℕ → Call
+call_with asked token body = record {
+  moment = asked.moment;
+  token = token;
+  method = asked.method;
+  path = asked.path;
+  body = body;
+}
+
 pub written_reads : (bytes : List ℕ) (asked : Call) → IsWritten bytes asked
     → line_of bytes ≡ Some asked
 unfolding line_of
 written_reads bytes asked w =
     let by_token =
-    ap (λ (t : Option (List ℕ)).
-    Some (let l : Call =
-    record {
-      moment = asked.moment;
-      token = t;
-      method = asked.method;
-      path =
-          asked.path;
-      body = map line_feed_of (unwrap_or w.body []);
-    } in l))
+    ap (λ (t : Option (List ℕ)). Some (call_with asked t (map line_feed_of (unwrap_or w.body []))))
     (sym w.asks_by) in
     let by_body =
-    ap (λ (b : List ℕ). Some
-    (let l : Call =
-    record {
-      moment = asked.moment;
-      token = asked.token;
-      method = asked.method;
-      path =
-          asked.path;
-      body = b;
-    } in l)) (sym w.asks_with) in
+    ap (λ (b : List ℕ). Some (call_with asked asked.token b)) (sym w.asks_with) in
     rw (not_long (length bytes) most_bytes w.fits)
     (ap fields_of w.whole ∙ written_fields asked.moment w.token asked.method asked.path w.body
     w.moment_fits w.token_is w.method_is w.path_is ∙ by_token ∙ by_body)

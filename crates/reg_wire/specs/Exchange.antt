@@ -58,20 +58,20 @@ abbrev pub world_then : World → Call → World
 world_then w call = world_for w call (spelled call)
 
 -- an answer that is no fault of the store or of memory
-abbrev pub IsAnswered : Answer → Type 0
-IsAnswered (answer.Reply reply) = Unit {0}
-IsAnswered (answer.Wire refusal) = Unit {0}
-IsAnswered answer.Storage = ⊥
+abbrev pub IsNotStorage : Answer → Type 0
+IsNotStorage (answer.Reply reply) = Unit {0}
+IsNotStorage (answer.Wire refusal) = Unit {0}
+IsNotStorage answer.Storage = ⊥
 
 -- ---- Over the states of a keeper
 
 -- what the office gives to a call: under the premise right after it the answer of the model, with
 -- the content then; or a fault, with the content as it was; and what becomes of the premise
-pub record Gives {S : Type 0} (world : S → World) (Holds Sound : S → Type 0) (fails : Bool)
+pub record GivesAnswer {S : Type 0} (world : S → World) (Holds Sound : S → Type 0) (fails : Bool)
     (before : S) (call : Call) (result : Result Answer Fault) (after : S) : Type 0 where
   pub answers : Holds after → IfOk result (λ a. a ≡ answer_to (world before) call)
   pub makes : Makes world Holds Sound fails before after result (λ w. world_then w call)
-  pub is_answered : IfOk result IsAnswered
+  pub is_answered : IfOk result IsNotStorage
 
 -- the fault at which `storage` was told, where it was; the store's only if it can fail
 abbrev pub FaultOf : {A : Type 0} → A → Bool → A → Option Fault → Type 0

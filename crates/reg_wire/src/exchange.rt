@@ -2,7 +2,7 @@
 ghost use Rattle.std.specs.Prelude.{◌≡◌, IfOk};
 ghost use Rattle.reg_office.specs.Caller.{step_by};
 ghost use Rattle.reg_keeper.specs.Keeper.{Makes};
-ghost use Rattle.reg_wire.specs.Exchange.{call_view, answer_to, world_then, IsAnswered};
+ghost use Rattle.reg_wire.specs.Exchange.{call_view, answer_to, world_then, IsNotStorage};
 
 use reg_core::command::Command;
 use reg_core::reply::Reply;
@@ -41,7 +41,7 @@ pub fn answer_to<K: Keeper>(
         (λ a. a ≡ answer_to (K.world office.old) (call_view call.now)) }
     ensures world { Makes K.world K.Holds K.Sound K.FAILS office.old office.new result
         (λ w. world_then w (call_view call.now)) }
-    ensures is_answered { IfOk result IsAnswered }
+    ensures is_answered { IfOk result IsNotStorage }
 {
     match read_command(alloc, routes, call.method, call.path, call.body) {
         Ok(command) => Ok(Answer::Reply(handle(office, call, command)?)),

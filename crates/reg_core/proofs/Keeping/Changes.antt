@@ -215,15 +215,13 @@ module _ (entries others : FinMap place_cmp Registration) (blocks holdings : Fin
   stands_still : (account : List ℕ) (ask : Ask) (state : State)
       → stands_in entries blocks account ask state ≡ true
       → stands_in others holdings account ask state ≡ true
-  stands_still account ask Pending h = refl
   stands_still account ask (Approved (given.Value v)) h =
       registered_still account (registry_of ask) v h
   stands_still account ask (Approved (given.Block block)) h =
       both_true (first_so (is_size_asked ask block.size) (is_held_by account (get blocks block)) h)
       (each_block account block
       (second_so (is_size_asked ask block.size) (is_held_by account (get blocks block)) h))
-  stands_still account ask (Declined reason) h = refl
-  stands_still account ask Withdrawn h = refl
+  stands_still account ask state h = refl
 
 -- so each request stands by other entries, or other blocks, that leave what accounts have
 module _ (w : World) (kept : WellKept w) where

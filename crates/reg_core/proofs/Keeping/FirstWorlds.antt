@@ -1,6 +1,5 @@
 -- The first worlds are well kept.
-use Rattle.std.proofs.Common.{◌≡◌, refl, ap}
-use Rattle.std.specs.Prelude.{Option, Some, None, IsSome, is_some}
+use Rattle.std.proofs.Common.{◌≡◌, refl, ap, Option, Some, None, IsSome, is_some}
 use Rattle.std.specs.Cmp.Derive.{both_true}
 use Rattle.std.specs.FinMap.{get-empty}
 use Rattle.std.specs.Ordering.{nat_cmp}

@@ -1,31 +1,17 @@
 -- Gifts of blocks, and marks of holders, that fit a well kept world.
-use Rattle.std.proofs.Common.{◌≡◌, ℕ, Bool, true, false, List, sym, ap, subst, ◌∙◌}
-use Rattle.std.specs.Prelude.{Some, is_some}
-use Rattle.std.specs.Cmp.{first_so, second_so}
-use Rattle.std.specs.Cmp.Derive.{both_true}
+use Rattle.std.proofs.Common.{◌≡◌, ℕ, Bool, true, false, List, sym, ap, subst, ◌∙◌, Some, is_some}
+use Rattle.reg_decisions.proofs.Common.{first_so, second_so, both_true, SizedPrefix, is_block, leading_24}
+use Rattle.reg_decisions.proofs.Common.{is_text, same_size, holding_asked, holding_from, IsDueIn, holder_in}
+use Rattle.reg_decisions.proofs.Common.{with_mark, update, WellKept, CanApply, has_holding_form, is_held_by}
+use Rattle.reg_decisions.proofs.Common.{stands_in, World, RequestName, BlockAsk, Case, Holder, Approved}
+use Rattle.reg_decisions.proofs.Common.{block_keys, get-inserted, update_keeps, same_text-itself}
+use Rattle.reg_decisions.proofs.Common.{same_size-itself}
 use Rattle.std.specs.FinMap.{get, insert, contains_key}
-use Rattle.reg_blocks.specs.Block.{SizedPrefix, is_block, leading_24}
-use Rattle.reg_ranges.specs.Texts.{is_text}
-use Rattle.reg_core.specs.Ask.{same_size}
-use Rattle.reg_core.specs.Allowance.{holding_asked}
-use Rattle.reg_core.specs.Award.{holding_from}
-use Rattle.reg_core.specs.BlocksGiven.{IsDueIn}
-use Rattle.reg_core.specs.Holding.{holder_in, with_mark}
-use Rattle.reg_maps.specs.Maps.{update}
-use Rattle.reg_core.specs.WellKept.{WellKept, CanApply, has_holding_form, is_held_by, stands_in}
-use Rattle.reg_core.specs.World.{World, RequestName}
 use Rattle.reg_core.specs.declared.ask.Ask.TheVariants.{Block}
-use Rattle.reg_core.specs.declared.ask.BlockAsk.{BlockAsk}
 use Rattle.reg_core.specs.declared.change.Change.TheVariants.{GiveBlock, SetPrivate}
-use Rattle.reg_core.specs.declared.request.Case.{Case}
-use Rattle.reg_core.specs.declared.holding.Holder.{Holder}
 use Rattle.reg_core.specs.declared.request.Given.TheVariants as given
-use Rattle.reg_core.specs.declared.request.State.TheVariants.{Approved}
 use Rattle.reg_decisions.proofs.Blocks.{due_in_pool, due_apart, due_is_new}
 use Rattle.reg_maps.proofs.KeySets.{was_at, insert_passes, update_passes}
-use Rattle.reg_core.proofs.KeyOrders.{block_keys}
-use Rattle.reg_maps.proofs.MapLaws.{get-inserted, update_keeps}
-use Rattle.reg_core.proofs.SamenessIsDecided.{same_text-itself, same_size-itself}
 use Rattle.reg_core.proofs.Keeping.Changes.{asks_this, blocks_stand, forms_of, with_its_state}
 use Rattle.reg_core.proofs.Keeping.OtherMaps.{with_block, with_blocks}
 

@@ -1,11 +1,8 @@
 -- Every run from a well kept world ends in one.
 use Rattle.std.proofs.Common.{◌≡◌, true, List, [], ◌∷◌, ℕ}
-use Rattle.std.specs.Cmp.{first_so, second_so}
-use Rattle.reg_core.specs.Command.{has_command_form}
+use Rattle.reg_decisions.proofs.Common.{first_so, second_so, has_command_form, Event, have_forms, step_of}
+use Rattle.reg_decisions.proofs.Common.{WellKept, World, applied_if}
 use Rattle.reg_core.specs.Laws.{GivesDigests, RunsKeepWell}
-use Rattle.reg_core.specs.Run.{Event, have_forms, step_of}
-use Rattle.reg_core.specs.WellKept.{WellKept}
-use Rattle.reg_core.specs.World.{World, applied_if}
 use Rattle.reg_decisions.proofs.Fitting.{due_fits}
 use Rattle.reg_decisions.proofs.Outcomes.Dues.{each_step}
 

@@ -1,54 +1,34 @@
 -- What was so when a command was accepted: who gave it, the rows that were looked up, what the
 -- rule saw, and what the caller is told.
 use Rattle.std.proofs.Common.{◌≡◌, ℕ, ◌<◌, true, false, List, refl, ap, subst, arith}
-use Rattle.std.proofs.lemmas.Bool.Decides.{nat_tests}
+use Rattle.reg_decisions.proofs.Common.{nat_tests, first_so, second_so, get, contains_key, keys, is_in_clock}
+use Rattle.reg_decisions.proofs.Common.{utc_day, Outcome, Answer, change_by, by_rule, case_by, own_row}
+use Rattle.reg_decisions.proofs.Common.{made_row, item, public_answer, as_kind, own_answer, expert_answer}
+use Rattle.reg_decisions.proofs.Common.{answer_at, answer, begins_with, is_of, cap_list, caps_that, same_kind}
+use Rattle.reg_decisions.proofs.Common.{counts, file, waiting_files, was_advised, page_entry, with_hold}
+use Rattle.reg_decisions.proofs.Common.{holding_row, holding_rows, listed_rows, with_mark, agent_rows}
+use Rattle.reg_decisions.proofs.Common.{principal_names, page, queue_rows, with_advice, private_rule}
+use Rattle.reg_decisions.proofs.Common.{advise_rule, is_clerk, acts_as_clerk, desk_by, clerk_answer}
+use Rattle.reg_decisions.proofs.Common.{answer_to, as_queued, Personal, published, requests_of, holdings_of}
+use Rattle.reg_decisions.proofs.Common.{queue_of, agents_of, principals_of, personal, cap_at, with_personal}
+use Rattle.reg_decisions.proofs.Common.{view_of, World, RequestName, Cap, Kind, Command, ApplicantCommand}
+use Rattle.reg_decisions.proofs.Common.{ExpertCommand, ClerkCommand, PublicCommand, Told, Decision, Refusal}
+use Rattle.reg_decisions.proofs.Common.{SizedPrefix, Holder, Case, by_test, queued_found, own_agent}
+use Rattle.reg_decisions.proofs.Common.{own_principal, own_principal_rows}
 use Rattle.std.proofs.lemmas.Result.{IfOk-at_ok, IfOk-weaker}
-use Rattle.std.specs.Cmp.{first_so, second_so}
 use Rattle.std.specs.Prelude.{Option, Some, None, Result, Ok, Err, IfOk, is_some, option_map, nat_le, nat_lt, if◌then◌else◌}
-use Rattle.std.specs.FinMap.{get, contains_key, keys}
-use Rattle.reg_early.specs.Moment.{is_in_clock, utc_day}
 use Rattle.reg_core.specs.Allowance.{◌>>=◌, or_refusal, allowed, ground_of}
-use Rattle.reg_core.specs.Answer.{Outcome, Answer, change_by, by_rule, case_by, own_row, made_row, item, public_answer, as_kind, own_answer, expert_answer, answer_at, answer}
-use Rattle.reg_core.specs.CapRows.{begins_with, is_of, cap_list, caps_that}
-use Rattle.reg_core.specs.Capability.{same_kind}
-use Rattle.reg_core.specs.Counting.{counts}
-use Rattle.reg_core.specs.File.{file, waiting_files, was_advised}
-use Rattle.reg_core.specs.Entry.{page_entry, with_hold}
-use Rattle.reg_core.specs.Holding.{holding_row, holding_rows, listed_rows, with_mark}
-use Rattle.reg_core.specs.Link.{agent_rows, principal_names}
-use Rattle.reg_core.specs.Page.{page}
-use Rattle.reg_core.specs.Queue.{queue_rows, with_advice}
 use Rattle.reg_core.specs.Request.{request_rows, word_of}
-use Rattle.reg_core.specs.Rules.{private_rule, advise_rule}
-use Rattle.reg_core.specs.Step.{is_clerk, acts_as_clerk, desk_by, clerk_answer, answer_to}
-use Rattle.reg_core.specs.View.{as_queued, Personal, published, requests_of, holdings_of, queue_of, agents_of, principals_of, personal, cap_at, with_personal, view_of}
-use Rattle.reg_core.specs.World.{World, RequestName}
-use Rattle.reg_core.specs.declared.capability.Cap.{Cap}
-use Rattle.reg_core.specs.declared.capability.Kind.{Kind}
 use Rattle.reg_core.specs.declared.capability.Kind.TheVariants as kind
-use Rattle.reg_core.specs.declared.command.Command.{Command}
 use Rattle.reg_core.specs.declared.command.Command.TheVariants.{Public, Applicant, Expert, Clerk}
-use Rattle.reg_core.specs.declared.command.ApplicantCommand.{ApplicantCommand}
 use Rattle.reg_core.specs.declared.command.ApplicantCommand.TheVariants.{Own, OwnOne, Submit, Withdraw, Holdings, SetListing, SetAgent, Agents, Principals, PrincipalRows}
-use Rattle.reg_core.specs.declared.command.ExpertCommand.{ExpertCommand}
 use Rattle.reg_core.specs.declared.command.ExpertCommand.TheVariants.{Queue, Advise}
-use Rattle.reg_core.specs.declared.command.ClerkCommand.{ClerkCommand}
 use Rattle.reg_core.specs.declared.command.ClerkCommand.TheVariants.{AllRequests, OneRequest, AssignExpert, Approve, Decline, SetHold, Define, AddPool, Grant, Revoke, PendingRequests, AllCapabilities, RevokeDigits, RevokeAccount, CountRows}
-use Rattle.reg_core.specs.declared.command.PublicCommand.{PublicCommand}
 use Rattle.reg_core.specs.declared.command.PublicCommand.TheVariants.{Registries, Registry, RegistryListing, PoolList, BlockListing}
-use Rattle.reg_core.specs.declared.told.Told.{Told}
 use Rattle.reg_core.specs.declared.told.Told.TheVariants as tells
-use Rattle.reg_core.specs.declared.decide.Decision.{Decision}
-use Rattle.reg_core.specs.declared.refusal.Refusal.{Refusal}
 use Rattle.reg_core.specs.declared.refusal.Refusal.TheVariants as no
-use Rattle.reg_blocks.specs.Block.{SizedPrefix}
-use Rattle.reg_core.specs.declared.holding.Holder.{Holder}
-use Rattle.reg_core.specs.declared.request.Case.{Case}
-use Rattle.reg_core.proofs.Cases.{by_test}
 use Rattle.reg_decisions.proofs.Outcomes.Deciding.{Rule, Decides, Defines, Pools, Grants, Revokes, RevokesOne, RevokesAll, Submits, Withdraws, Lists, Links, Declines, HoldsEntry, Assigns, Advises, Approves, define_decides, pool_decides, grant_decides, revoke_decides, revoke_digits_decides, revoke_account_decides, submit_decides, withdraw_decides, listing_decides, agent_decides, decline_decides, hold_decides, assign_decides, advise_decides, approve_decides}
-use Rattle.reg_core.proofs.Queues.{queued_found}
 use Rattle.reg_decisions.proofs.Blocks.{holding_found}
-use Rattle.reg_core.proofs.Links.{own_agent, own_principal, own_principal_rows}
 use Rattle.reg_decisions.proofs.Stepping.{own_request}
 
 -- ---- The forms of an outcome
@@ -241,17 +221,14 @@ rule_so (Ok decision) rule told h = record { decision = decision; so = h; is = r
 module _ (w : World) (today : ℕ) where
   public_so : (command : PublicCommand)
       → IfOk (public_answer (published w) today command) (PublicSo w today command)
-  public_so Registries = refl
   public_so (Registry name) = row_so no.Registry (get w.registries name) _ _ (λ table is. refl)
   public_so (RegistryListing name) =
       row_so no.Registry (get w.registries name) _ _ (λ table is. refl)
-  public_so PoolList = refl
-  public_so BlockListing = refl
+  public_so command = refl
 
   own_so : (account : List ℕ) (command : ApplicantCommand)
       → IfOk (own_answer (published w) account (personal account w) command)
       (OwnSo w account command)
-  own_so account Own = refl
   own_so account (OwnOne reference) =
       rw own_request
       (row_so no.Request (get w.requests (account, reference)) _ _ (λ case is. refl))
@@ -266,7 +243,6 @@ module _ (w : World) (today : ℕ) where
       (row_so no.Request (get w.requests (account, reference)) _ _ (λ case is.
       rule_so _ (Withdraws (account, reference) case.state) _
       (withdraw_decides (account, reference) case.state)))
-  own_so account Holdings = refl
   own_so account (SetListing block private) =
       looked_up (OwnSo w account (SetListing block private)) no.Holding
       (get (holdings_of account w) block) _ (λ h mine.
@@ -285,13 +261,12 @@ module _ (w : World) (today : ℕ) where
       rw own_agent
       (rule_so _ (Links (account, agent) reads (contains_key w.agents (account, agent))) _
       (agent_decides (account, agent) reads (contains_key w.agents (account, agent))))
-  own_so account Agents = refl
-  own_so account Principals = refl
   own_so account (PrincipalRows principal) =
       rw own_principal
       (row_so no.Principal (get w.agents (principal, account)) _ _ (λ link is.
       ap (λ m. record { told = tells.Rows (request_rows m); change = None })
       (own_principal_rows account principal w (ap is_some is))))
+  own_so account command = refl
 
   expert_so : (account : List ℕ) (command : ExpertCommand)
       → IfOk (expert_answer account (personal account w) command) (ExpertSo w account command)
@@ -315,7 +290,6 @@ module _ (w : World) (today : ℕ) where
   clerk_so : (digest_of : List ℕ → List ℕ) (in_use : List ℕ) (moment : ℕ) (command : ClerkCommand)
       → IfOk (clerk_answer digest_of w in_use moment today command)
       (ClerkSo digest_of w in_use moment today command)
-  clerk_so digest_of in_use moment AllRequests = refl
   clerk_so digest_of in_use moment (OneRequest account reference) =
       row_so no.Request (get w.requests (account, reference)) _ _ (λ case is. refl)
   clerk_so digest_of in_use moment (AssignExpert account reference expert) =
@@ -343,13 +317,11 @@ module _ (w : World) (today : ℕ) where
       rule_so _ _ _ (grant_decides (get w.caps (digest_of token)) (digest_of token) cap)
   clerk_so digest_of in_use moment (Revoke token) =
       rule_so _ _ _ (revoke_decides in_use (get w.caps (digest_of token)) (digest_of token))
-  clerk_so digest_of in_use moment PendingRequests = refl
-  clerk_so digest_of in_use moment AllCapabilities = refl
   clerk_so digest_of in_use moment (RevokeDigits digits) =
       rule_so _ _ _ (revoke_digits_decides in_use (caps_that (begins_with digits) w.caps))
   clerk_so digest_of in_use moment (RevokeAccount account) =
       rule_so _ _ _ (revoke_account_decides in_use (caps_that (is_of account) w.caps))
-  clerk_so digest_of in_use moment CountRows = refl
+  clerk_so digest_of in_use moment command = refl
 
 -- ---- Who is served
 

@@ -2,44 +2,26 @@
 -- change is made.
 use Rattle.std.proofs.Common.{◌≡◌, ℕ, Bool, true, false, not, ◌&&◌, List, [], ◌∷◌, map, refl, sym, ap, subst, ◌∙◌}
 use Rattle.std.proofs.lemmas.Result.{IfOk-at_ok}
-use Rattle.std.proofs.lemmas.Slice.Eq.{bytes_eq-Decides}
+use Rattle.reg_decisions.proofs.Common.{not-false, bytes_eq-Decides, same_text, SizedPrefix, is_pool_prefix}
+use Rattle.reg_decisions.proofs.Common.{status_on, Term, same_table, Table, Ground, allowance_on}
+use Rattle.reg_decisions.proofs.Common.{needs_advice, Allowance, is_given, IsApproved, same_ask, same_cap}
+use Rattle.reg_decisions.proofs.Common.{withdraw_rule, private_rule, link_rule, agent_rule, new_hold_rule}
+use Rattle.reg_decisions.proofs.Common.{mark_rule, hold_rule, decline_rule, assign_rule, new_advice_rule}
+use Rattle.reg_decisions.proofs.Common.{advise_rule, change_to_give, give_rule, approve_rule, define_rule}
+use Rattle.reg_decisions.proofs.Common.{pool_rule, grant_rule, revoke_rule, has_token, one_rule}
+use Rattle.reg_decisions.proofs.Common.{revoke_digits_rule, all_rule, revoke_account_rule, submit_rule}
+use Rattle.reg_decisions.proofs.Common.{RequestName, Place, Link, Advice as AdviceOf, Ask, Cap, CapRow}
+use Rattle.reg_decisions.proofs.Common.{Change, Decision, Refusal, Case, Given, State, Pending, Approved}
+use Rattle.reg_decisions.proofs.Common.{Declined, Withdrawn, Make, Same, by_test, same_cap-is, same_ask-is}
+use Rattle.reg_decisions.proofs.Common.{same_table-is, is_given-is}
 use Rattle.std.specs.Prelude.{Option, Some, None, Result, Ok, Err, IfOk, IsSome, is_some, if◌then◌else◌}
-use Rattle.reg_maps.specs.Maps.{same_text}
-use Rattle.reg_blocks.specs.Block.{SizedPrefix}
-use Rattle.reg_blocks.specs.Pool.{is_pool_prefix}
-use Rattle.reg_early.specs.Terms.{status_on}
 use Rattle.reg_early.specs.declared.term.Status.{Status}
 use Rattle.reg_early.specs.declared.term.Status.TheVariants as status
-use Rattle.reg_early.specs.declared.term.Term.{Term}
-use Rattle.reg_ranges.specs.Sameness.{same_table}
-use Rattle.reg_ranges.specs.Tables.{Table}
-use Rattle.reg_core.specs.Allowance.{Ground, allowance_on, needs_advice}
-use Rattle.reg_core.specs.Award.{Allowance}
-use Rattle.reg_core.specs.Advice.{is_given}
-use Rattle.reg_core.specs.Laws.{IsApproved}
-use Rattle.reg_core.specs.Ask.{same_ask}
-use Rattle.reg_core.specs.Capability.{same_cap}
-use Rattle.reg_core.specs.Rules.{withdraw_rule, private_rule, link_rule, agent_rule, new_hold_rule, mark_rule, hold_rule, decline_rule, assign_rule, new_advice_rule, advise_rule, change_to_give, give_rule, approve_rule, define_rule, pool_rule, grant_rule, revoke_rule, has_token, one_rule, revoke_digits_rule, all_rule, revoke_account_rule, submit_rule}
-use Rattle.reg_core.specs.World.{RequestName, Place, Link}
-use Rattle.reg_core.specs.declared.advice.Advice.{Advice as AdviceOf}
-use Rattle.reg_core.specs.declared.ask.Ask.{Ask}
-use Rattle.reg_core.specs.declared.capability.Cap.{Cap}
-use Rattle.reg_core.specs.declared.capability.CapRow.{CapRow}
-use Rattle.reg_core.specs.declared.change.Change.{Change}
 use Rattle.reg_core.specs.declared.change.Change.TheVariants.{Grant, Revoke, RevokeAll, Define, AddPool, Submit, Close, Assign, Advise, SetPrivate, SetHold, SetAgent}
-use Rattle.reg_core.specs.declared.decide.Decision.{Decision}
-use Rattle.reg_core.specs.declared.decide.Decision.TheVariants.{Make, Same}
-use Rattle.reg_core.specs.declared.refusal.Refusal.{Refusal}
 use Rattle.reg_core.specs.declared.refusal.Refusal.TheVariants.{Ref, Closed, Permanent, Own, Exists, Bits, Advice as WithoutAdvice}
-use Rattle.reg_core.specs.declared.request.Case.{Case}
-use Rattle.reg_core.specs.declared.request.Given.{Given}
-use Rattle.reg_core.specs.declared.request.State.{State}
-use Rattle.reg_core.specs.declared.request.State.TheVariants.{Pending, Approved, Declined, Withdrawn}
 use Rattle.reg_core.specs.declared.request.StateWord.{StateWord}
 use Rattle.reg_core.specs.declared.request.StateWord.TheVariants as word
 use Rattle.reg_decisions.proofs.Allowances.{allowance_needs}
-use Rattle.reg_core.proofs.Cases.{by_test}
-use Rattle.reg_core.proofs.SamenessIsDecided.{same_cap-is, same_ask-is, same_table-is, is_given-is}
 
 -- what a rule decides: that all is there already, where this is so, or to make this change, where
 -- that is so
@@ -94,16 +76,12 @@ Pools there prefix = record {
   change = λ free. AddPool prefix;
 }
 
-is_clear : (b : Bool) → not b ≡ false → b ≡ true
-is_clear true h = refl
-is_clear false h = absurd (cc)
-
 pub pool_decides : (there : Bool) (prefix : ℕ)
     → IfOk (pool_rule there prefix) (Decides (Pools there prefix))
 pool_decides there prefix =
     branches (Pools there prefix) (not (is_pool_prefix prefix)) (Err Bits)
     (if there then Ok Same else Ok (Make (AddPool prefix))) (λ bits. tt) (λ clear.
-    let form = is_clear (is_pool_prefix prefix) clear in
+    let form = not-false (is_pool_prefix prefix) clear in
     branches (Pools there prefix) there (Ok Same) (Ok (Make (AddPool prefix)))
     (λ old. (form, old)) (λ new. ((form, new), refl)))
 
@@ -223,9 +201,8 @@ Withdraws name state = record {
 pub withdraw_decides : (name : RequestName) (state : State)
     → IfOk (withdraw_rule name state) (Decides (Withdraws name state))
 withdraw_decides name Pending = (refl, refl)
-withdraw_decides name (Approved given) = tt
-withdraw_decides name (Declined reason) = tt
 withdraw_decides name Withdrawn = refl
+withdraw_decides name state = tt
 
 -- a pending request is declined, and one that was for this reason is so already
 abbrev pub Declines : RequestName → List ℕ → State → Rule
@@ -238,11 +215,10 @@ Declines name reason state = record {
 pub decline_decides : (name : RequestName) (reason : List ℕ) (state : State)
     → IfOk (decline_rule name reason state) (Decides (Declines name reason state))
 decline_decides name reason Pending = (refl, refl)
-decline_decides name reason (Approved given) = tt
 decline_decides name reason (Declined old) =
     branches (Declines name reason (Declined old)) (same_text old reason) (Ok Same) (Err Closed)
     (λ same. ap Declined ((bytes_eq-Decides old reason).0 same)) (λ other. tt)
-decline_decides name reason Withdrawn = tt
+decline_decides name reason state = tt
 
 -- ---- Blocks of an account
 
@@ -258,8 +234,7 @@ pub listing_decides : (block : SizedPrefix) (private old : Bool)
     → Decides (Lists block private old) (private_rule block private old)
 listing_decides block true true = refl
 listing_decides block false false = refl
-listing_decides block true false = (refl, refl)
-listing_decides block false true = (refl, refl)
+listing_decides block private old = (refl, refl)
 
 -- ---- Agents of an account
 
@@ -299,11 +274,8 @@ HoldsEntry place held term today = record {
 held_decides : (place : Place) (term : Term) (today : ℕ) (now : Status)
     → is_some term.expires ≡ true → term.held ≡ false → status_on term today ≡ now
     → IfOk (new_hold_rule place now) (Decides (HoldsEntry place true term today))
-held_decides place term today status.Assigned expires is at =
-    ((expires, is, λ held h. absurd (cc)), refl)
-held_decides place term today status.Temporary expires is at =
-    ((expires, is, λ held h. absurd (cc)), refl)
 held_decides place term today status.Expired expires is at = tt
+held_decides place term today now expires is at = ((expires, is, λ held h. absurd (cc)), refl)
 
 mark_decides : (place : Place) (held old : Bool) (term : Term) (today : ℕ)
     → is_some term.expires ≡ true → term.held ≡ old
@@ -337,9 +309,7 @@ assign_decides name expert true state = refl
 assign_decides name expert false Pending =
     branches (Assigns name expert false Pending) (same_text expert name.0) (Err Own)
     (Ok (Make (Assign name.0 name.1 expert))) (λ own. tt) (λ other. ((refl, refl, other), refl))
-assign_decides name expert false (Approved given) = tt
-assign_decides name expert false (Declined reason) = tt
-assign_decides name expert false Withdrawn = tt
+assign_decides name expert false state = tt
 
 -- advice is given on a pending request, or was given already
 abbrev pub Advises : RequestName → List ℕ → AdviceOf → Option AdviceOf → StateWord → Rule
@@ -354,9 +324,7 @@ new_advice_decides : (name : RequestName) (expert : List ℕ) (advice : AdviceOf
     → IfOk (new_advice_rule name expert advice state)
     (Decides (Advises name expert advice old state))
 new_advice_decides name expert advice old word.Pending = (refl, refl)
-new_advice_decides name expert advice old word.Approved = tt
-new_advice_decides name expert advice old word.Declined = tt
-new_advice_decides name expert advice old word.Withdrawn = tt
+new_advice_decides name expert advice old state = tt
 
 pub advise_decides : (name : RequestName) (expert : List ℕ) (advice : AdviceOf)
     (old : Option AdviceOf) (state : StateWord)
@@ -387,8 +355,7 @@ approve_decides rows advised name ask today Pending = by (allowance_on rows name
     was_advised : (needed advised : Bool) → (needed && not advised) ≡ false → needed ≡ true
         → advised ≡ true
     was_advised needed true ready need = refl
-    was_advised true false ready need = absurd (cc)
-    was_advised false false ready need = absurd (cc)
+    was_advised needed false ready need = absurd (cc)
 
     by : (allowance : Result Allowance Refusal) → allowance_on rows name.0 ask ≡ allowance
         → IfOk (give_rule name today advised allowance)
@@ -409,5 +376,4 @@ approve_decides rows advised name ask today Pending = by (allowance_on rows name
           refl,
         ))
 approve_decides rows advised name ask today (Approved given) = (given, refl)
-approve_decides rows advised name ask today (Declined reason) = tt
-approve_decides rows advised name ask today Withdrawn = tt
+approve_decides rows advised name ask today state = tt

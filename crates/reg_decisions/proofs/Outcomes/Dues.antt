@@ -1,61 +1,30 @@
 -- What was so when a step made a change: who gave the command, and the rows that the change is
 -- about.
 use Rattle.std.proofs.Common.{◌≡◌, ℕ, Bool, true, false, ◌&&◌, not, List, [], refl, sym, ap, subst, ◌∙◌}
-use Rattle.std.specs.Cmp.{first_so, second_so}
-use Rattle.std.specs.Cmp.Derive.{both_true}
+use Rattle.reg_decisions.proofs.Common.{first_so, second_so, both_true, get, contains_key, same_text}
+use Rattle.reg_decisions.proofs.Common.{SizedPrefix, is_pool_prefix, is_in_clock, utc_day, status_on, is_text}
+use Rattle.reg_decisions.proofs.Common.{has_advice_form, allowance_on, allowed, ground_of, needs_advice}
+use Rattle.reg_decisions.proofs.Common.{holding_asked, Award, AwardedEntry, awarded_entry, new_holding}
+use Rattle.reg_decisions.proofs.Common.{entry_on, holding_from, Outcome, Answer, change_of, change_by}
+use Rattle.reg_decisions.proofs.Common.{has_ask_form, IsDueIn, begins_with, is_of, caps_that, has_cap_form}
+use Rattle.reg_decisions.proofs.Common.{was_advised, GivesDigests, IsOfAsk, is_name, is_token, change_to_give}
+use Rattle.reg_decisions.proofs.Common.{answer_to, published, cap_at, has_grant_form, has_registry_form}
+use Rattle.reg_decisions.proofs.Common.{World, Place, RequestName, Ask, BlockAsk, Cap, CapRow, Change}
+use Rattle.reg_decisions.proofs.Common.{Command, Told, Decision, Entry, Registration, Holder, Holding, Case}
+use Rattle.reg_decisions.proofs.Common.{Given, State, Pending, Approved, Declined, Withdrawn, Make, Same}
 use Rattle.std.specs.Prelude.{Option, Some, None, Ok, Err, IsSome, All}
-use Rattle.std.specs.FinMap.{get, contains_key}
 use Rattle.std.proofs.lemmas.List.Elements.{All-head, All-map}
-use Rattle.reg_maps.specs.Maps.{same_text}
-use Rattle.reg_blocks.specs.Block.{SizedPrefix}
-use Rattle.reg_blocks.specs.Pool.{is_pool_prefix}
-use Rattle.reg_early.specs.Moment.{is_in_clock, utc_day}
-use Rattle.reg_early.specs.Terms.{status_on}
 use Rattle.reg_early.specs.declared.term.Status.TheVariants as status
-use Rattle.reg_ranges.specs.Texts.{is_text}
-use Rattle.reg_core.specs.Advice.{has_advice_form}
-use Rattle.reg_core.specs.Allowance.{allowance_on, allowed, ground_of, needs_advice, holding_asked}
-use Rattle.reg_core.specs.Award.{Award, AwardedEntry, awarded_entry, new_holding, entry_on, holding_from}
-use Rattle.reg_core.specs.Answer.{Outcome, Answer, change_of, change_by}
-use Rattle.reg_core.specs.Ask.{has_ask_form}
-use Rattle.reg_core.specs.BlocksGiven.{IsDueIn}
-use Rattle.reg_core.specs.CapRows.{begins_with, is_of, caps_that}
-use Rattle.reg_core.specs.Capability.{has_cap_form}
 use Rattle.reg_core.specs.Command.{own_name, about, has_command_form}
-use Rattle.reg_core.specs.File.{was_advised}
-use Rattle.reg_core.specs.Laws.{GivesDigests, IsOfAsk}
-use Rattle.reg_core.specs.Names.{is_name, is_token}
 use Rattle.reg_core.specs.Request.{word_of}
-use Rattle.reg_core.specs.Rules.{change_to_give}
-use Rattle.reg_core.specs.Step.{answer_to}
-use Rattle.reg_core.specs.View.{published, cap_at}
-use Rattle.reg_core.specs.WellKept.{has_grant_form, has_registry_form}
-use Rattle.reg_core.specs.World.{World, Place, RequestName}
-use Rattle.reg_core.specs.declared.ask.Ask.{Ask}
 use Rattle.reg_core.specs.declared.ask.Ask.TheVariants.{Block}
-use Rattle.reg_core.specs.declared.ask.BlockAsk.{BlockAsk}
-use Rattle.reg_core.specs.declared.capability.Cap.{Cap}
-use Rattle.reg_core.specs.declared.capability.CapRow.{CapRow}
 use Rattle.reg_core.specs.declared.capability.Kind.TheVariants as kind
-use Rattle.reg_core.specs.declared.change.Change.{Change}
 use Rattle.reg_core.specs.declared.change.Change.TheVariants.{Grant, Revoke, RevokeAll, Define, AddPool, Submit, Close, Assign, Advise, GiveValue, GiveBlock, SetPrivate, SetHold, SetAgent}
-use Rattle.reg_core.specs.declared.command.Command.{Command}
 use Rattle.reg_core.specs.declared.command.Command.TheVariants.{Public, Applicant, Expert, Clerk}
 use Rattle.reg_core.specs.declared.command.ApplicantCommand.TheVariants as applicant
 use Rattle.reg_core.specs.declared.command.ExpertCommand.TheVariants as expert
 use Rattle.reg_core.specs.declared.command.ClerkCommand.TheVariants as clerk
 use Rattle.reg_core.specs.declared.command.PublicCommand.TheVariants as public
-use Rattle.reg_core.specs.declared.told.Told.{Told}
-use Rattle.reg_core.specs.declared.decide.Decision.{Decision}
-use Rattle.reg_core.specs.declared.decide.Decision.TheVariants.{Make, Same}
-use Rattle.reg_core.specs.declared.entry.Entry.{Entry}
-use Rattle.reg_core.specs.declared.entry.Registration.{Registration}
-use Rattle.reg_core.specs.declared.holding.Holder.{Holder}
-use Rattle.reg_core.specs.declared.holding.Holding.{Holding}
-use Rattle.reg_core.specs.declared.request.Case.{Case}
-use Rattle.reg_core.specs.declared.request.Given.{Given}
-use Rattle.reg_core.specs.declared.request.State.{State}
-use Rattle.reg_core.specs.declared.request.State.TheVariants.{Pending, Approved, Declined, Withdrawn}
 use Rattle.reg_core.specs.declared.request.StateWord.TheVariants as word
 use Rattle.reg_decisions.proofs.Outcomes.Deciding.{Rule, Decides}
 use Rattle.reg_decisions.proofs.Allowances.{allowed_of_ask, allows_block}
@@ -281,9 +250,7 @@ module _ (digest_of : List ℕ → List ℕ) (w : World) (caller : Option (List 
 
   pending_word : (state : State) → word_of state ≡ word.Pending → state ≡ Pending
   pending_word Pending h = refl
-  pending_word (Approved given) h = absurd (cc)
-  pending_word (Declined reason) h = absurd (cc)
-  pending_word Withdrawn h = absurd (cc)
+  pending_word state h = absurd (cc)
 
   -- a line for each award
   gives_due : ClerkServes w caller moment → {name : RequestName} (was : WasPending w name)
@@ -318,7 +285,6 @@ module _ (digest_of : List ℕ → List ℕ) (w : World) (caller : Option (List 
           → Due w caller moment (GiveBlock name.0 name.1 (holding_from h))
       at (Block ask) asks allows of =
           let is = allows_block (ground_of (published w) (Block ask)) name.0 ask _ allows in
-          let awards = is.awards in
           let same : holding_asked name.0 ask is.block ≡ h = cc in
           subst (λ x. Due w caller moment (GiveBlock name.0 name.1 (holding_from x))) same (
             by,
@@ -351,12 +317,10 @@ module _ (digest_of : List ℕ → List ℕ) (w : World) (caller : Option (List 
   due_so : (command : Command) (o : Outcome) (change : Change)
       → IsAccepted digest_of w caller moment command o → o.change ≡ Some change
       → IsDue digest_of w caller moment command change
-  due_so (Public public.Registries) o change a made = absurd (nothing_made a.so made)
   due_so (Public (public.Registry name)) o change a made = absurd (nothing_made a.so.so made)
   due_so (Public (public.RegistryListing name)) o change a made =
       absurd (nothing_made a.so.so made)
-  due_so (Public public.PoolList) o change a made = absurd (nothing_made a.so made)
-  due_so (Public public.BlockListing) o change a made = absurd (nothing_made a.so made)
+  due_so (Public command) o change a made = absurd (nothing_made a.so made)
   due_so (Applicant (applicant.OwnOne reference)) o change a made =
       absurd (nothing_made a.so.1.so made)
   due_so (Applicant (applicant.Submit reference ask)) o change a made =

@@ -1,20 +1,13 @@
 -- New entries, and entries that stand, are checked in turn.
 use Rattle.std.proofs.Common.{◌≡◌, ◌<◌, ◌≤◌, ℕ, Bool, true, false, not, ◌&&◌, List, refl, sym, ap, ◌∙◌, arith}
 use Rattle.std.specs.Prelude.{Option, Some, None, Ok, Err, is_some, if◌then◌else◌}
-use Rattle.std.proofs.lemmas.Slice.Eq.{bytes_eq-Decides}
-use Rattle.reg_maps.specs.Maps.{same_text}
-use Rattle.reg_early.specs.Terms.{renewable, settleable}
+use Rattle.reg_decisions.proofs.Common.{bytes_eq-Decides, same_text, renewable, settleable, Table, Policy}
+use Rattle.reg_decisions.proofs.Common.{Ground, or_refusal, value_for, own_entry, may_renew, may_settle, Ask}
+use Rattle.reg_decisions.proofs.Common.{Want, Registration, Refusal}
 use Rattle.reg_early.specs.declared.term.RenewFault.TheVariants as renew_fault
 use Rattle.reg_early.specs.declared.term.SettleFault.TheVariants as settle_fault
-use Rattle.reg_ranges.specs.Tables.{Table}
-use Rattle.reg_ranges.specs.declared.policy.Policy.{Policy}
-use Rattle.reg_core.specs.Allowance.{Ground, or_refusal, value_for, own_entry, may_renew, may_settle}
 use Rattle.reg_core.specs.FirstRefusals.{IsForEntry, IsPlainRenewal, IsForValue, IsExhausted, Applies, line_of}
-use Rattle.reg_core.specs.declared.ask.Ask.{Ask}
-use Rattle.reg_core.specs.declared.ask.Want.{Want}
 use Rattle.reg_core.specs.declared.ask.Want.TheVariants.{Value, Least}
-use Rattle.reg_core.specs.declared.entry.Registration.{Registration}
-use Rattle.reg_core.specs.declared.refusal.Refusal.{Refusal}
 use Rattle.reg_core.specs.declared.refusal.Refusal.TheVariants as no
 use Rattle.reg_laws.proofs.FirstRefusals.Turns.{Clear, IsFair, refuses, passes, clear_on}
 
@@ -29,10 +22,7 @@ module _ (rows : Ground) (account : List ℕ) (ask : Ask) (table : Table)
       old : (other : Refusal) → Applies rows account ask other → 12 ≤ line_of other
           → line_of other < 16 → ⊥
       old no.Entry applies low high = no_entry applies.0
-      old no.Permanent applies low high = no_entry applies.0
-      old no.Renewed applies low high = no_renewal applies.0
-      old no.Expired applies low high = applies
-      old other applies low high = omega arith
+      old other applies low high = grind (arith, no_entry, no_renewal)
 
   pub value_check : (want : Want) → ((v : ℕ) → want ≡ Value v → IsForValue ask)
       → (IsForValue ask → (v : ℕ) × (want ≡ Value v))
@@ -85,7 +75,6 @@ module _ (rows : Ground) (account : List ℕ) (ask : Ask) (its : IsForEntry ask)
       foreign : (a : Registration) → rows.entry ≡ Some a → same_text a.assignee account ≡ false
           → (b : Registration) → rows.entry ≡ Some b → ¬ (b.assignee ≡ account)
       foreign a is other b at own =
-          let both = sym is ∙ at in
           let same : a ≡ b = cc in
           let mine = (bytes_eq-Decides a.assignee account).1
           (ap (λ (r : Registration). r.assignee) same ∙ own) in absurd (cc)
@@ -129,10 +118,7 @@ module _ (rows : Ground) (account : List ℕ) (ask : Ask) (its : IsForEntry ask)
         let same = one applies.1 applies.2 in
         let again = ap (λ (r : Registration). r.term.renewed) same ∙ applies.3 in
         let first = fresh applies.0 in absurd (cc)
-    may expiry at fresh no.Expired applies low high = applies
-    may expiry at fresh no.Taken applies low high = no_value applies.0
-    may expiry at fresh no.Exhausted applies low high = no_least applies
-    may expiry at fresh other applies low high = omega arith
+    may expiry at fresh other applies low high = grind (arith, no_value, no_least)
 
     expires_there : (expiry : ℕ) → a.term.expires ≡ Some expiry → (other : Refusal)
         → Applies rows account ask other → 13 ≤ line_of other → line_of other < 14 → ⊥

@@ -3,22 +3,16 @@ use Rattle.std.proofs.Common.{◌≡◌, ◌<◌, ◌≤◌, ℕ, Bool, true, fa
 use Rattle.std.specs.Prelude.{Option, Some, None, Result, Ok, Err, Contains, filter, is_some, nat_lt, if◌then◌else◌}
 use Rattle.std.specs.List.{list_any}
 use Rattle.std.proofs.lemmas.Bool.Decides.{nat_tests}
+use Rattle.std.proofs.lemmas.List.Elements.{All-contains, filter_passes}
 use Rattle.reg_early.specs.EarlyRequirements.{is_eligible, early_items, early_unmet, is_early_met}
-use Rattle.reg_early.specs.declared.evidence.EarlyEvidence.{EarlyEvidence}
-use Rattle.reg_ranges.specs.Requirements.{first_item, is_closed_policy}
-use Rattle.reg_ranges.specs.Sameness.{same_treatment}
-use Rattle.reg_ranges.specs.Tables.{Table, treatment_of}
-use Rattle.reg_ranges.specs.declared.evidence.EvidenceItem.{EvidenceItem}
+use Rattle.reg_decisions.proofs.Common.{not-true, EarlyEvidence, first_item, is_closed_policy, same_treatment}
+use Rattle.reg_decisions.proofs.Common.{Table, treatment_of, EvidenceItem, Policy, Ground, or_refusal}
+use Rattle.reg_decisions.proofs.Common.{open_policy, policy_for, is_met, is_met_early, Ask, Want, Refusal}
 use Rattle.reg_ranges.specs.declared.evidence.EvidenceItem.TheVariants as item
-use Rattle.reg_ranges.specs.declared.policy.Policy.{Policy}
 use Rattle.reg_ranges.specs.declared.policy.Treatment.{Treatment}
 use Rattle.reg_ranges.specs.declared.policy.Treatment.TheVariants.{Under, Reserved}
-use Rattle.reg_core.specs.Allowance.{Ground, or_refusal, open_policy, policy_for, is_met, is_met_early}
 use Rattle.reg_core.specs.FirstRefusals.{want_of, Decides, InTable, UnderPolicy, IsAbove, IsShut, IsNotEarly, Lacks, Applies, line_of}
-use Rattle.reg_core.specs.declared.ask.Ask.{Ask}
-use Rattle.reg_core.specs.declared.ask.Want.{Want}
 use Rattle.reg_core.specs.declared.ask.Want.TheVariants.{Value, Least}
-use Rattle.reg_core.specs.declared.refusal.Refusal.{Refusal}
 use Rattle.reg_core.specs.declared.refusal.Refusal.TheVariants as no
 use Rattle.reg_laws.proofs.FirstRefusals.Turns.{IsFair, refuses, passes, clear_on}
 
@@ -105,19 +99,17 @@ policy_comes table (Least asked) =
     at false t =
         inr (inl (refl, (λ policy its. let there = its.1 in absurd (cc)), (λ above. above)))
 
--- the policy that was found decides
-pub policy_decides : (table : Table) (want : Want) (policy : Policy) → policy_for table want ≡ Ok policy
-    → Decides table want policy
-policy_decides table want policy h =
+-- the policy that was found decides, and is one under which values are assigned
+pub policy_found : (table : Table) (want : Want) (policy : Policy) → policy_for table want ≡ Ok policy
+    → Decides table want policy × (is_closed_policy policy ≡ false)
+policy_found table want policy h =
     elim (policy_comes table want) [
       | inl above ↦ let both = sym h ∙ above.0 in absurd (cc)
-      | inr more ↦
-          elim more [
-            | inl shut ↦ let both = sym h ∙ shut.0 in absurd (cc)
-            | inr is ↦
-                let both = sym is.1 ∙ h in
-                let same : is.0 ≡ policy = cc in subst (Decides table want) same is.2
-          ]
+      | inr (inl shut) ↦ let both = sym h ∙ shut.0 in absurd (cc)
+      | inr (inr is) ↦
+          let both = sym is.1 ∙ h in
+          let same : is.0 ≡ policy = cc in
+          subst (λ p. Decides table want p × (is_closed_policy p ≡ false)) same (is.2, is.3)
     ]
 
 -- ---- Evidence
@@ -136,28 +128,18 @@ none_is_in [] i h has = let below = has.1 in omega arith
 none_is_in (j ∷ rest) i h has = absurd (cc)
 
 -- the first that is kept passes the test
-first_kept : (test : EvidenceItem → Bool) (j : EvidenceItem) (kept : List EvidenceItem) (i : EvidenceItem)
-    → (first_item kept ≡ Some i → test i ≡ true) → (b : Bool) → test j ≡ b
-    → first_item (cond b (j ∷ kept) kept) ≡ Some i → test i ≡ true
-first_kept test j kept i more true t h = let same : j ≡ i = cc in ap test (sym same) ∙ t
-first_kept test j kept i more false t h = more h
-
 first_passes : (test : EvidenceItem → Bool) (items : List EvidenceItem) (i : EvidenceItem)
     → first_item (filter test items) ≡ Some i → test i ≡ true
-first_passes test [] i h = absurd (cc)
-first_passes test (j ∷ rest) i h =
-    first_kept test j (filter test rest) i (first_passes test rest i) (test j) refl h
+first_passes test items i h =
+    All-contains (λ i. test i ≡ true) (filter test items) i (filter_passes test items)
+    (first_is_in (filter test items) i h)
 
 -- that nothing is allocated early is the first that is missing of the evidence
 pub not_eligible : (policy : Policy) (e : EarlyEvidence) → first_item (early_unmet policy e) ≡ Some item.Policy
     → is_eligible policy e.will_be_rfc ≡ false
 not_eligible policy e h =
-    not_true (is_eligible policy e.will_be_rfc)
+    not-true (is_eligible policy e.will_be_rfc)
     (first_passes (λ i. not (is_early_met policy e i)) early_items item.Policy h)
-  where
-    not_true : (b : Bool) → not b ≡ true → b ≡ false
-    not_true true t = absurd (cc)
-    not_true false t = refl
 
 -- the items after it
 abbrev other_items : List EvidenceItem
@@ -179,17 +161,14 @@ module _ (rows : Ground) (account : List ℕ) (ask : Ask) (want : Want) (table :
             refuses rows account ask 8 10 no.Range
             (in_table rows account ask want table wants is_there IsAbove above.1) (λ clear. clear)
             (policy_for table want) above.0
-        | inr more ↦
-            elim more [
-              | inl shut ↦
-                  refuses rows account ask 8 10 no.Policy
-                  (in_table rows account ask want table wants is_there IsShut shut.1)
-                  (clear_on rows account ask 8 9 (not_above shut.2)) (policy_for table want) shut.0
-              | inr is ↦
-                  passes rows account ask 8 10 is.0
-                  (clear_on rows account ask 8 10 (not_shut is.4 is.0 is.2 is.3))
-                  (policy_for table want) is.1
-            ]
+        | inr (inl shut) ↦
+            refuses rows account ask 8 10 no.Policy
+            (in_table rows account ask want table wants is_there IsShut shut.1)
+            (clear_on rows account ask 8 9 (not_above shut.2)) (policy_for table want) shut.0
+        | inr (inr is) ↦
+            passes rows account ask 8 10 is.0
+            (clear_on rows account ask 8 10 (not_shut is.4 is.0 is.2 is.3))
+            (policy_for table want) is.1
       ]
     where
       not_above : ¬ (IsAbove table want) → (other : Refusal) → Applies rows account ask other

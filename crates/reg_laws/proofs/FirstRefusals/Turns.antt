@@ -1,11 +1,8 @@
 -- Checks in turn, each of which refuses by the first refusal of its lines that applies.
 use Rattle.std.proofs.Common.{◌≡◌, ◌<◌, ◌≤◌, ℕ, List, inl, inr, refl, sym, ap, subst, ◌∙◌, arith}
 use Rattle.std.specs.Prelude.{Result, Ok, Err}
-use Rattle.std.proofs.lemmas.Bool.{cases_lt}
+use Rattle.reg_decisions.proofs.Common.{cases_lt, Applies, line_of, Ask, Refusal}
 use Rattle.reg_core.specs.Allowance.{Ground, ◌>>=◌}
-use Rattle.reg_core.specs.FirstRefusals.{Applies, line_of}
-use Rattle.reg_core.specs.declared.ask.Ask.{Ask}
-use Rattle.reg_core.specs.declared.refusal.Refusal.{Refusal}
 use Rattle.reg_core.specs.declared.refusal.Refusal.TheVariants as no
 
 module _ (rows : Ground) (account : List ℕ) (ask : Ask) where
@@ -25,7 +22,6 @@ module _ (rows : Ground) (account : List ℕ) (ask : Ask) where
       → IsFair n m check
   refuses n m r applies clear check is = record {
     refused = λ refusal h.
-        let both = sym is ∙ h in
         let same : r ≡ refusal = cc in
         subst (λ s. Applies rows account ask s × (Clear n → Clear (line_of s))) same
         (applies, clear);
@@ -66,19 +62,9 @@ module _ (rows : Ground) (account : List ℕ) (ask : Ask) where
   -- the lines before the registry's are of no ask
   pub outset : Clear 7
   outset no.Clock applies = absurd applies
-  outset no.Token applies = absurd applies
-  outset no.Kind applies = absurd applies
-  outset no.Ref applies = absurd applies
-  outset no.Request applies = absurd applies
-  outset no.Principal applies = absurd applies
-  outset no.Closed applies = absurd applies
-  outset other applies = omega arith
+  outset other applies = grind arith
 
   -- and so are those after the last of an allowance
   pub over : Clear 18 → (other : Refusal) → ¬ (Applies rows account ask other)
   over clear no.Advice applies = applies
-  over clear no.Own applies = applies
-  over clear no.Holding applies = applies
-  over clear no.Exists applies = applies
-  over clear no.Bits applies = applies
-  over clear other applies = let late = clear other applies in omega arith
+  over clear other applies = let late = clear other applies in grind arith

@@ -1,63 +1,29 @@
 -- An ask goes by its lines.
 use Rattle.std.proofs.Common.{◌≡◌, ℕ, Bool, true, false, not, ◌&&◌, List, inl, inr, refl, sym, ap, subst, ◌∙◌}
 use Rattle.std.specs.Prelude.{Option, Some, None, IsNone, Result, Ok, Err, is_some, option_and_then, ◌↔◌, if◌then◌else◌}
-use Rattle.std.specs.Cmp.{second_so}
-use Rattle.std.specs.FinMap.{get}
-use Rattle.reg_blocks.specs.Block.{SizedPrefix}
-use Rattle.reg_blocks.specs.declared.size.Size.{Size}
-use Rattle.reg_early.specs.EarlyRequirements.{early_unmet}
-use Rattle.reg_early.specs.Terms.{renewable, settleable}
-use Rattle.reg_early.specs.declared.term.Term.{Term}
+use Rattle.reg_decisions.proofs.Common.{second_so, get, SizedPrefix, Size, early_unmet, renewable, settleable}
+use Rattle.reg_decisions.proofs.Common.{Term, same_text, first_item, is_expert_policy, unmet, Table, Policy}
+use Rattle.reg_decisions.proofs.Common.{Answer, Allowance, is_name, has_table_form, published, WellKept}
+use Rattle.reg_decisions.proofs.Common.{World, Ask, Want, Registration, Refusal, table_partition}
 use Rattle.reg_early.specs.declared.term.RenewFault.TheVariants as renew_fault
 use Rattle.reg_early.specs.declared.term.SettleFault.TheVariants as settle_fault
-use Rattle.reg_maps.specs.Maps.{same_text}
 use Rattle.reg_ranges.specs.FreeValues.{IsLeastFree, least_value}
-use Rattle.reg_ranges.specs.Requirements.{first_item, is_closed_policy, is_expert_policy, unmet}
-use Rattle.reg_ranges.specs.Tables.{Table}
 use Rattle.reg_ranges.proofs.LeastFree.{least_value_is_least}
-use Rattle.reg_ranges.specs.declared.policy.Policy.{Policy}
 use Rattle.reg_core.specs.Allowance.{◌>>=◌, or_refusal, policy_for, is_met, is_met_early, value_for, own_entry, may_renew, may_settle, allowance_on, ground_of, value_ground}
-use Rattle.reg_core.specs.Answer.{Answer}
-use Rattle.reg_core.specs.Award.{Allowance}
 use Rattle.reg_core.specs.BlockDue.{due_in}
 use Rattle.reg_core.specs.BlocksGiven.{NoneIsFreeIn}
 use Rattle.reg_core.specs.FirstRefusals.{Decides, IsShut}
 use Rattle.reg_core.specs.LeastFree.{values_in, least_free_in}
-use Rattle.reg_core.specs.Names.{is_name}
-use Rattle.reg_core.specs.Registry.{has_table_form}
-use Rattle.reg_core.specs.View.{published}
-use Rattle.reg_core.specs.WellKept.{WellKept}
-use Rattle.reg_core.specs.World.{World}
-use Rattle.reg_core.specs.declared.ask.Ask.{Ask}
 use Rattle.reg_core.specs.declared.ask.Ask.TheVariants.{Code, Early, Renew, Permanent, Block}
-use Rattle.reg_core.specs.declared.ask.Want.{Want}
 use Rattle.reg_core.specs.declared.ask.Want.TheVariants.{Value, Least}
-use Rattle.reg_core.specs.declared.entry.Registration.{Registration}
-use Rattle.reg_core.specs.declared.refusal.Refusal.{Refusal}
 use Rattle.reg_core.specs.declared.refusal.Refusal.TheVariants as no
-use Rattle.reg_core.proofs.Checks.{table_partition}
 use Rattle.reg_core.proofs.ValuesIn.{has_entry}
 use Rattle.reg_decisions.proofs.Blocks.{blocks_due_are_least, due_published}
-use Rattle.reg_laws.proofs.FirstRefusals.Policies.{policy_comes, policy_decides}
+use Rattle.reg_laws.proofs.FirstRefusals.Policies.{policy_comes, policy_found}
 use Rattle.reg_laws.proofs.Lines.Evidence.{open_is, reviewed_is, under_is, evidence_fair, early_fair}
 use Rattle.reg_laws.proofs.Lines.Turns.{IsFair, Goes, fair_refused, fair_passed, turn, row_turn, fails, other_text, same_texts}
 use Rattle.reg_laws.specs.AnswerLines.{Lines, refuses, ◌or_else◌, of_row}
 use Rattle.reg_laws.specs.AskLines.{assigns_values, is_reviewed, IsUnderSuch, want_lines, evidence_lines, early_lines, free_lines, ask_lines, IsReviewedIn, IsReviewed}
-
--- a policy that was found is one under which values are assigned
-found_open : (table : Table) (want : Want) (policy : Policy) → policy_for table want ≡ Ok policy
-    → is_closed_policy policy ≡ false
-found_open table want policy h =
-    elim (policy_comes table want) [
-      | inl above ↦ let both = sym h ∙ above.0 in absurd (cc)
-      | inr more ↦
-          elim more [
-            | inl shut ↦ let both = sym h ∙ shut.0 in absurd (cc)
-            | inr is ↦
-                let both = sym is.1 ∙ h in
-                let same : is.0 ≡ policy = cc in sym (ap is_closed_policy same) ∙ is.3
-          ]
-    ]
 
 module _ (w : World) where
   -- ---- What is wanted of a registry
@@ -73,16 +39,13 @@ module _ (w : World) where
         | inl above ↦
             fair_refused w (want_lines table want) (policy_for table want) no.Range above.0
             (λ more. inl (above.1, refl))
-        | inr comes ↦
-            elim comes [
-              | inl shut ↦
-                  fair_refused w (want_lines table want) (policy_for table want) no.Policy shut.0
-                  (λ more. inr (shut.2, inl (none_assigns table want shut.1, refl)))
-              | inr is ↦
-                  let opens = sym (open_is is.0) ∙ ap not is.3 in
-                  fair_passed w (want_lines table want) (policy_for table want) is.0 is.1
-                  (λ more a by. inr (is.4, inr ((λ none. none (is.0, is.2, opens)), by)))
-            ]
+        | inr (inl shut) ↦
+            fair_refused w (want_lines table want) (policy_for table want) no.Policy shut.0
+            (λ more. inr (shut.2, inl (none_assigns table want shut.1, refl)))
+        | inr (inr is) ↦
+            let opens = sym (open_is is.0) ∙ ap not is.3 in
+            fair_passed w (want_lines table want) (policy_for table want) is.0 is.1
+            (λ more a by. inr (is.4, inr ((λ none. none (is.0, is.2, opens)), by)))
       ]
 
   module _ (kept : WellKept w) (registry : List ℕ) (table : Table)
@@ -225,11 +188,11 @@ module _ (w : World) where
         row_turn w no.Registry (get w.registries ask.registry) _ _ f (λ table there.
         turn w (want_lines table ask.want) (policy_for table ask.want) (want_fair table ask.want)
         _ _ f (λ policy found.
-        let decides = policy_decides table ask.want policy found in
+        let decides = (policy_found table ask.want policy found).0 in
         turn w (evidence_lines table ask.want ask.evidence)
         (is_met (first_item (unmet policy ask.evidence)))
         (evidence_fair w table ask.want policy decides ask.evidence
-        (found_open table ask.want policy found)) _ _ f (λ met is.
+        (policy_found table ask.want policy found).1) _ _ f (λ met is.
         turn w (free_lines w ask.registry table ask.want)
         (value_for (value_ground (published w) ask.registry ask.want) table ask.want)
         (free_fair kept ask.registry table there ask.want) _ _ f (λ v chosen.
@@ -239,7 +202,7 @@ module _ (w : World) where
         row_turn w no.Registry (get w.registries ask.registry) _ _ f (λ table there.
         turn w (want_lines table ask.want) (policy_for table ask.want) (want_fair table ask.want)
         _ _ f (λ policy found.
-        let decides = policy_decides table ask.want policy found in
+        let decides = (policy_found table ask.want policy found).0 in
         turn w (early_lines table ask.want ask.evidence)
         (is_met_early (first_item (early_unmet policy ask.evidence)))
         (early_fair w table ask.want policy decides ask.evidence) _ _ f (λ met is.
@@ -252,7 +215,7 @@ module _ (w : World) where
         row_turn w no.Registry (get w.registries ask.registry) _ _ f (λ table there.
         turn w (want_lines table (Value ask.value)) (policy_for table (Value ask.value))
         (want_fair table (Value ask.value)) _ _ f (λ policy found.
-        let decides = policy_decides table (Value ask.value) policy found in
+        let decides = (policy_found table (Value ask.value) policy found).0 in
         turn w (early_lines table (Value ask.value) ask.evidence)
         (is_met_early (first_item (early_unmet policy ask.evidence)))
         (early_fair w table (Value ask.value) policy decides ask.evidence) _ _ f (λ met is.
@@ -264,11 +227,11 @@ module _ (w : World) where
         row_turn w no.Registry (get w.registries ask.registry) _ _ f (λ table there.
         turn w (want_lines table (Value ask.value)) (policy_for table (Value ask.value))
         (want_fair table (Value ask.value)) _ _ f (λ policy found.
-        let decides = policy_decides table (Value ask.value) policy found in
+        let decides = (policy_found table (Value ask.value) policy found).0 in
         turn w (evidence_lines table (Value ask.value) ask.evidence)
         (is_met (first_item (unmet policy ask.evidence)))
         (evidence_fair w table (Value ask.value) policy decides ask.evidence
-        (found_open table (Value ask.value) policy found)) _ _ f (λ met is.
+        (policy_found table (Value ask.value) policy found).1) _ _ f (λ met is.
         own_turn account (get w.entries (ask.registry, ask.value)) _ _ f (λ a stands.
         turn w _ (may_settle (settleable a.term)) (settle_fair a.term.expires) more _ f (λ may moves.
         each _ (reviews kept ask.registry table there (Value ask.value) policy decides)

@@ -1,27 +1,15 @@
 -- Each command of each caller goes by its lines.
 use Rattle.std.proofs.Common.{◌≡◌, ◌<◌, ◌≤◌, ℕ, Bool, true, false, ◌&&◌, List, inl, inr, refl, ap, ◌∙◌, arith}
 use Rattle.std.specs.Prelude.{Option, Some, None, Ok, Err, option_map, nat_le, nat_lt, if◌then◌else◌}
-use Rattle.std.specs.Cmp.{first_so, second_so}
-use Rattle.std.specs.Cmp.Derive.{both_true}
-use Rattle.std.specs.FinMap.{get}
-use Rattle.std.proofs.lemmas.Bool.Decides.{nat_tests}
-use Rattle.reg_early.specs.Moment.{is_in_clock, utc_day}
+use Rattle.reg_decisions.proofs.Common.{first_so, second_so, both_true, get, nat_tests, is_in_clock, utc_day}
+use Rattle.reg_decisions.proofs.Common.{Answer, as_kind, answer_at, answer, same_kind, is_clerk}
+use Rattle.reg_decisions.proofs.Common.{acts_as_clerk, clerk_answer, answer_to, Personal, personal}
+use Rattle.reg_decisions.proofs.Common.{with_personal, cap_at, view_of, WellKept, World, Cap, Kind, Command}
+use Rattle.reg_decisions.proofs.Common.{ClerkCommand, same_kind-decides, by_test}
 use Rattle.reg_core.specs.Allowance.{◌>>=◌}
-use Rattle.reg_core.specs.Answer.{Answer, as_kind, answer_at, answer}
-use Rattle.reg_core.specs.Capability.{same_kind}
-use Rattle.reg_core.specs.Step.{is_clerk, acts_as_clerk, clerk_answer, answer_to}
-use Rattle.reg_core.specs.View.{Personal, personal, with_personal, cap_at, view_of}
-use Rattle.reg_core.specs.WellKept.{WellKept}
-use Rattle.reg_core.specs.World.{World}
-use Rattle.reg_core.specs.declared.capability.Cap.{Cap}
-use Rattle.reg_core.specs.declared.capability.Kind.{Kind}
 use Rattle.reg_core.specs.declared.capability.Kind.TheVariants as kind
-use Rattle.reg_core.specs.declared.command.Command.{Command}
 use Rattle.reg_core.specs.declared.command.Command.TheVariants.{Public, Applicant, Expert, Clerk}
-use Rattle.reg_core.specs.declared.command.ClerkCommand.{ClerkCommand}
 use Rattle.reg_core.specs.declared.refusal.Refusal.TheVariants as no
-use Rattle.reg_core.proofs.SamenessIsDecided.{same_kind-decides}
-use Rattle.reg_core.proofs.Cases.{by_test}
 use Rattle.reg_laws.proofs.Lines.Commands.{public_goes, own_goes, expert_goes, clerk_goes}
 use Rattle.reg_laws.proofs.Lines.Turns.{By, fails}
 use Rattle.reg_laws.specs.AnswerLines.{Lines, refuses, ◌or_else◌}

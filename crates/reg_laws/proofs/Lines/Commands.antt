@@ -1,60 +1,33 @@
 -- Each command of a caller who may give it goes by its lines.
 use Rattle.std.proofs.Common.{◌≡◌, ◌<◌, ◌≤◌, ◌/◌, ◌%◌, ◌^◌, ℕ, Bool, true, false, not, ◌&&◌, List, inl, inr, refl, sym, ap, subst, ◌∙◌, arith}
 use Rattle.std.specs.Prelude.{Option, Some, None, Result, Ok, Err, IsSome, is_some, nat_lt, nat_eq, option_and_then, if◌then◌else◌}
-use Rattle.std.specs.FinMap.{get, contains_key}
-use Rattle.std.proofs.lemmas.Bool.Decides.{nat_tests}
-use Rattle.reg_maps.specs.Maps.{same_text, only_if}
-use Rattle.reg_maps.proofs.MapLaws.{get-select}
-use Rattle.reg_blocks.specs.Block.{SizedPrefix}
+use Rattle.reg_decisions.proofs.Common.{get, contains_key, nat_tests, same_text, only_if, get-select}
+use Rattle.reg_decisions.proofs.Common.{SizedPrefix, Term, same_table, Table, is_given, Answer, by_rule, item}
+use Rattle.reg_decisions.proofs.Common.{public_answer, own_answer, expert_answer, same_ask, Allowance}
+use Rattle.reg_decisions.proofs.Common.{given_in, begins_with, is_of, same_cap, was_advised, holding_row}
+use Rattle.reg_decisions.proofs.Common.{with_mark, IsApproved, IsAdvised, with_advice, submit_rule}
+use Rattle.reg_decisions.proofs.Common.{withdraw_rule, private_rule, link_rule, new_hold_rule, hold_rule}
+use Rattle.reg_decisions.proofs.Common.{decline_rule, assign_rule, new_advice_rule, advise_rule}
+use Rattle.reg_decisions.proofs.Common.{change_to_give, give_rule, approve_rule, define_rule, pool_rule}
+use Rattle.reg_decisions.proofs.Common.{grant_rule, revoke_rule, clerk_answer, published, personal, queued_to}
+use Rattle.reg_decisions.proofs.Common.{as_queued, WellKept, World, RequestName, Place, Advice, Ask, Cap}
+use Rattle.reg_decisions.proofs.Common.{ApplicantCommand, ExpertCommand, ClerkCommand, PublicCommand}
+use Rattle.reg_decisions.proofs.Common.{Decision, Holder, Refusal, Case, State, Pending, Approved, Declined}
+use Rattle.reg_decisions.proofs.Common.{Withdrawn, Told, block_keys, Make, Same, by_test, own_agent}
+use Rattle.reg_decisions.proofs.Common.{own_principal, get-queue_of, same_ask-is, same_ask-itself}
+use Rattle.reg_decisions.proofs.Common.{same_cap-is, same_cap-itself, same_table-is, same_table-itself}
+use Rattle.reg_decisions.proofs.Common.{is_given-is, same_advice-itself}
 use Rattle.reg_blocks.specs.Pool.{first_octet, is_pool_prefix}
 use Rattle.reg_early.specs.declared.term.Status.TheVariants as status
-use Rattle.reg_early.specs.declared.term.Term.{Term}
-use Rattle.reg_ranges.specs.Sameness.{same_table}
-use Rattle.reg_ranges.specs.Tables.{Table}
-use Rattle.reg_core.specs.Advice.{is_given}
 use Rattle.reg_core.specs.Allowance.{◌>>=◌, or_refusal, allowance_on, allowed, ground_of}
-use Rattle.reg_core.specs.Answer.{Answer, by_rule, item, public_answer, own_answer, expert_answer}
-use Rattle.reg_core.specs.Ask.{same_ask}
-use Rattle.reg_core.specs.Award.{Allowance, given_in}
-use Rattle.reg_core.specs.CapRows.{begins_with, is_of}
-use Rattle.reg_core.specs.Capability.{same_cap}
-use Rattle.reg_core.specs.File.{was_advised}
-use Rattle.reg_core.specs.Holding.{holding_row, with_mark}
-use Rattle.reg_core.specs.Laws.{IsApproved, IsAdvised}
-use Rattle.reg_core.specs.Queue.{with_advice}
 use Rattle.reg_core.specs.Request.{word_of}
-use Rattle.reg_core.specs.Rules.{submit_rule, withdraw_rule, private_rule, link_rule, new_hold_rule, hold_rule, decline_rule, assign_rule, new_advice_rule, advise_rule, change_to_give, give_rule, approve_rule, define_rule, pool_rule, grant_rule, revoke_rule}
-use Rattle.reg_core.specs.Step.{clerk_answer}
-use Rattle.reg_core.specs.View.{published, personal, queued_to, as_queued}
-use Rattle.reg_core.specs.WellKept.{WellKept}
-use Rattle.reg_core.specs.World.{World, RequestName, Place}
-use Rattle.reg_core.specs.declared.advice.Advice.{Advice}
-use Rattle.reg_core.specs.declared.ask.Ask.{Ask}
-use Rattle.reg_core.specs.declared.capability.Cap.{Cap}
-use Rattle.reg_core.specs.declared.command.ApplicantCommand.{ApplicantCommand}
-use Rattle.reg_core.specs.declared.command.ApplicantCommand.TheVariants.{Own, OwnOne, Submit, Withdraw, Holdings, SetListing, SetAgent, Agents, Principals, PrincipalRows}
-use Rattle.reg_core.specs.declared.command.ExpertCommand.{ExpertCommand}
+use Rattle.reg_core.specs.declared.command.ApplicantCommand.TheVariants.{Own, OwnOne, Submit, Withdraw, SetListing, SetAgent, PrincipalRows}
 use Rattle.reg_core.specs.declared.command.ExpertCommand.TheVariants.{Queue, Advise}
-use Rattle.reg_core.specs.declared.command.ClerkCommand.{ClerkCommand}
-use Rattle.reg_core.specs.declared.command.ClerkCommand.TheVariants.{AllRequests, OneRequest, AssignExpert, Approve, Decline, SetHold, Define, AddPool, Grant, Revoke, PendingRequests, AllCapabilities, RevokeDigits, RevokeAccount, CountRows}
-use Rattle.reg_core.specs.declared.command.PublicCommand.{PublicCommand}
-use Rattle.reg_core.specs.declared.command.PublicCommand.TheVariants.{Registries, Registry, RegistryListing, PoolList, BlockListing}
+use Rattle.reg_core.specs.declared.command.ClerkCommand.TheVariants.{OneRequest, AssignExpert, Approve, Decline, SetHold, Define, AddPool, Grant, Revoke, RevokeDigits, RevokeAccount}
+use Rattle.reg_core.specs.declared.command.PublicCommand.TheVariants.{Registry, RegistryListing}
 use Rattle.reg_core.specs.declared.change.Change.TheVariants as change
-use Rattle.reg_core.specs.declared.decide.Decision.{Decision}
-use Rattle.reg_core.specs.declared.decide.Decision.TheVariants.{Make, Same}
-use Rattle.reg_core.specs.declared.holding.Holder.{Holder}
-use Rattle.reg_core.specs.declared.refusal.Refusal.{Refusal}
 use Rattle.reg_core.specs.declared.refusal.Refusal.TheVariants as no
-use Rattle.reg_core.specs.declared.request.Case.{Case}
-use Rattle.reg_core.specs.declared.request.State.{State}
-use Rattle.reg_core.specs.declared.request.State.TheVariants.{Pending, Approved, Declined, Withdrawn}
-use Rattle.reg_core.specs.declared.told.Told.{Told}
 use Rattle.reg_core.specs.declared.told.Told.TheVariants as tells
-use Rattle.reg_core.proofs.Cases.{by_test}
-use Rattle.reg_core.proofs.KeyOrders.{block_keys}
-use Rattle.reg_core.proofs.Links.{own_agent, own_principal}
-use Rattle.reg_core.proofs.Queues.{get-queue_of}
-use Rattle.reg_core.proofs.SamenessIsDecided.{same_ask-is, same_ask-itself, same_cap-is, same_cap-itself, same_table-is, same_table-itself, is_given-is, same_advice-itself}
 use Rattle.reg_decisions.proofs.Files.{advised_by, advised_is}
 use Rattle.reg_decisions.proofs.Stepping.{own_request}
 use Rattle.reg_laws.proofs.Lines.Asks.{asks}
@@ -73,13 +46,11 @@ module _ (w : World) where
 
   pub public_goes : (today : ℕ) (command : PublicCommand)
       → By w (public_lines w command) (public_answer (published w) today command)
-  public_goes today Registries = (refl, refl)
   public_goes today (Registry name) =
       row w no.Registry (get w.registries name) _ _ (λ table is. (refl, refl))
   public_goes today (RegistryListing name) =
       row w no.Registry (get w.registries name) _ _ (λ table is. (refl, refl))
-  public_goes today PoolList = (refl, refl)
-  public_goes today BlockListing = (refl, refl)
+  public_goes today command = (refl, refl)
 
   -- ---- What is decided about a row that is there
 
@@ -89,26 +60,21 @@ module _ (w : World) where
       (withdraw_rule name state)
   withdraw_goes name Pending told =
       inr ((λ is. absurd (cc)), inr ((λ other. other refl), refl))
-  withdraw_goes name (Approved given) told =
-      inr ((λ is. absurd (cc)), inl ((λ is. absurd (cc)), refl))
-  withdraw_goes name (Declined reason) told =
-      inr ((λ is. absurd (cc)), inl ((λ is. absurd (cc)), refl))
   withdraw_goes name Withdrawn told = inl (refl, refl, refl)
+  withdraw_goes name state told = inr ((λ is. absurd (cc)), inl ((λ is. absurd (cc)), refl))
 
   listing_goes : (block : SizedPrefix) (private old : Bool) (told : Decision → Told)
       → Ruled w (is_there (old ≡ private) or_else accepted) told
       (Ok (private_rule block private old))
   listing_goes block true true told = inl (refl, refl, refl)
   listing_goes block false false told = inl (refl, refl, refl)
-  listing_goes block true false told = inr ((λ is. absurd (cc)), refl)
-  listing_goes block false true told = inr ((λ is. absurd (cc)), refl)
+  listing_goes block private old told = inr ((λ is. absurd (cc)), refl)
 
   link_goes : (link : RequestName) (reads old : Bool) (told : Decision → Told)
       → Ruled w (is_there (old ≡ reads) or_else accepted) told (Ok (link_rule link reads old))
   link_goes link true true told = inl (refl, refl, refl)
   link_goes link false false told = inl (refl, refl, refl)
-  link_goes link true false told = inr ((λ is. absurd (cc)), refl)
-  link_goes link false true told = inr ((λ is. absurd (cc)), refl)
+  link_goes link reads old told = inr ((λ is. absurd (cc)), refl)
 
   agent_goes : (account agent : List ℕ) (reads old : Bool) (told : Decision → Told)
       → Ruled w (refuses no.Own (agent ≡ account)
@@ -127,8 +93,6 @@ module _ (w : World) where
       (decline_rule name reason state)
   decline_goes name reason Pending told =
       inr ((λ is. absurd (cc)), inr ((λ other. other refl), refl))
-  decline_goes name reason (Approved given) told =
-      inr ((λ is. absurd (cc)), inl ((λ is. absurd (cc)), refl))
   decline_goes name reason (Declined old) told =
       by_test (λ r. Ruled w (is_there (Declined old ≡ Declined reason)
       or_else refuses no.Closed (¬ (Declined old ≡ Pending)) or_else accepted) told r)
@@ -138,8 +102,7 @@ module _ (w : World) where
         (λ is. let same : old ≡ reason = cc in other_text old reason other same),
         inl ((λ is. absurd (cc)), refl),
       ))
-  decline_goes name reason Withdrawn told =
-      inr ((λ is. absurd (cc)), inl ((λ is. absurd (cc)), refl))
+  decline_goes name reason state told = inr ((λ is. absurd (cc)), inl ((λ is. absurd (cc)), refl))
 
   assign_goes : (name : RequestName) (expert : List ℕ) (old : Bool) (state : State)
       (told : Decision → Told)
@@ -165,11 +128,7 @@ module _ (w : World) where
           inr (other_text expert name.0 other, refl),
         ),
       ))
-  assign_goes name expert false (Approved given) told =
-      inr ((λ is. absurd (cc)), inl ((λ is. absurd (cc)), refl))
-  assign_goes name expert false (Declined reason) told =
-      inr ((λ is. absurd (cc)), inl ((λ is. absurd (cc)), refl))
-  assign_goes name expert false Withdrawn told =
+  assign_goes name expert false state told =
       inr ((λ is. absurd (cc)), inl ((λ is. absurd (cc)), refl))
 
   new_advice_goes : (name : RequestName) (expert : List ℕ) (advice : Advice) (state : State)
@@ -177,9 +136,7 @@ module _ (w : World) where
       → Ruled w (refuses no.Closed (¬ (state ≡ Pending)) or_else accepted) told
       (new_advice_rule name expert advice (word_of state))
   new_advice_goes name expert advice Pending told = inr ((λ other. other refl), refl)
-  new_advice_goes name expert advice (Approved given) told = inl ((λ is. absurd (cc)), refl)
-  new_advice_goes name expert advice (Declined reason) told = inl ((λ is. absurd (cc)), refl)
-  new_advice_goes name expert advice Withdrawn told = inl ((λ is. absurd (cc)), refl)
+  new_advice_goes name expert advice state told = inl ((λ is. absurd (cc)), refl)
 
   given_itself : (old : Option Advice) (advice : Advice) → old ≡ Some advice
       → is_given old advice ≡ true
@@ -452,9 +409,7 @@ module _ (w : World) where
               ),
             )
         by (Approved given) = inl ((given, refl), refl, refl)
-        by (Declined reason) =
-            inr ((λ is. let never = is.1 in absurd (cc)), inl ((λ is. absurd (cc)), refl))
-        by Withdrawn =
+        by state =
             inr ((λ is. let never = is.1 in absurd (cc)), inl ((λ is. absurd (cc)), refl))
 
     -- ---- An applicant
@@ -476,7 +431,6 @@ module _ (w : World) where
     pub own_goes : (account : List ℕ) (command : ApplicantCommand)
         → By w (own_lines w account command)
         (own_answer (published w) account (personal account w) command)
-    own_goes account Own = (refl, refl)
     own_goes account (OwnOne reference) =
         rw (own_request account reference w)
         (row w no.Request (get w.requests (account, reference)) _ _ (λ case is. (refl, refl)))
@@ -487,7 +441,6 @@ module _ (w : World) where
         rw (own_request account reference w)
         (row w no.Request (get w.requests (account, reference)) _ _
         (λ case is. withdraw_goes (account, reference) case.state _))
-    own_goes account Holdings = (refl, refl)
     own_goes account (SetListing block private) =
         rw (get-select block_keys (λ block h. only_if (same_text h.account account) h) w.blocks block)
         (held_by account (get w.blocks block) _ _
@@ -496,11 +449,10 @@ module _ (w : World) where
     own_goes account (SetAgent agent reads) =
         rw (own_agent account agent w)
         (agent_goes account agent reads (contains_key w.agents (account, agent)) _)
-    own_goes account Agents = (refl, refl)
-    own_goes account Principals = (refl, refl)
     own_goes account (PrincipalRows principal) =
         rw (own_principal account principal w)
         (row w no.Principal (get w.agents (principal, account)) _ _ (λ link is. (refl, refl)))
+    own_goes account command = (refl, refl)
 
   -- ---- An expert
 
@@ -546,7 +498,6 @@ module _ (w : World) where
     pub clerk_goes : (in_use : List ℕ) (moment today : ℕ) (command : ClerkCommand)
         → By w (clerk_lines digest_of w (Some in_use) today command)
         (clerk_answer digest_of w in_use moment today command)
-    clerk_goes in_use moment today AllRequests = (refl, refl)
     clerk_goes in_use moment today (OneRequest account reference) =
         row w no.Request (get w.requests (account, reference)) _ _ (λ case is. (refl, refl))
     clerk_goes in_use moment today (AssignExpert account reference expert) =
@@ -569,10 +520,8 @@ module _ (w : World) where
         grant_goes (get w.caps (digest_of token)) (digest_of token) cap _
     clerk_goes in_use moment today (Revoke token) =
         revoke_goes in_use (get w.caps (digest_of token)) (digest_of token) _
-    clerk_goes in_use moment today PendingRequests = (refl, refl)
-    clerk_goes in_use moment today AllCapabilities = (refl, refl)
     clerk_goes in_use moment today (RevokeDigits digits) =
         revoke_digits_goes w (begins_with digits) in_use _
     clerk_goes in_use moment today (RevokeAccount account) =
         revoke_account_goes w (is_of account) in_use _
-    clerk_goes in_use moment today CountRows = (refl, refl)
+    clerk_goes in_use moment today command = (refl, refl)

@@ -1,27 +1,16 @@
 -- The first item of evidence that is wanting is named.
 use Rattle.std.proofs.Common.{◌≡◌, Bool, true, false, cond, not, ◌&&◌, List, [], ◌∷◌, ◌⊎◌, inl, inr, refl, sym, ap, subst, ◌∙◌}
 use Rattle.std.specs.Prelude.{Option, Some, None, Result, Ok, Err, filter, is_some}
-use Rattle.reg_early.specs.EarlyRequirements.{is_eligible, early_unmet, is_early_met}
-use Rattle.reg_early.specs.declared.evidence.EarlyEvidence.{EarlyEvidence}
+use Rattle.reg_decisions.proofs.Common.{is_eligible, early_unmet, is_early_met, EarlyEvidence, PublishedRfc}
+use Rattle.reg_decisions.proofs.Common.{Table, Evidence, EvidenceItem, Stream, Track, Policy, is_met}
+use Rattle.reg_decisions.proofs.Common.{is_met_early, World, Want, Refusal, Refused}
 use Rattle.reg_ranges.specs.Requirements.{first_item, is_closed_policy, is_expert_policy, asked_items, is_ietf, is_standards_or_bcp, has_rfc, is_met as meets, unmet}
-use Rattle.reg_ranges.specs.Rfcs.{PublishedRfc}
-use Rattle.reg_ranges.specs.Tables.{Table}
-use Rattle.reg_ranges.specs.declared.evidence.Evidence.{Evidence}
-use Rattle.reg_ranges.specs.declared.evidence.EvidenceItem.{EvidenceItem}
 use Rattle.reg_ranges.specs.declared.evidence.EvidenceItem.TheVariants as item
-use Rattle.reg_ranges.specs.declared.evidence.Stream.{Stream}
 use Rattle.reg_ranges.specs.declared.evidence.Stream.TheVariants as stream
-use Rattle.reg_ranges.specs.declared.evidence.Track.{Track}
 use Rattle.reg_ranges.specs.declared.evidence.Track.TheVariants as track
-use Rattle.reg_ranges.specs.declared.policy.Policy.{Policy}
 use Rattle.reg_ranges.specs.declared.policy.Policy.TheVariants as policy
-use Rattle.reg_core.specs.Allowance.{is_met, is_met_early}
 use Rattle.reg_core.specs.FirstRefusals.{Decides}
-use Rattle.reg_core.specs.World.{World}
-use Rattle.reg_core.specs.declared.ask.Want.{Want}
-use Rattle.reg_core.specs.declared.refusal.Refusal.{Refusal}
 use Rattle.reg_core.specs.declared.refusal.Refusal.TheVariants as no
-use Rattle.reg_core.specs.declared.reply.Reply.TheVariants.{Refused}
 use Rattle.reg_laws.proofs.FirstRefusals.Policies.{decides_one}
 use Rattle.reg_laws.proofs.Lines.Turns.{IsFair, fails}
 use Rattle.reg_laws.specs.AskLines.{assigns_values, is_reviewed, allocates_early, asks_for, IsUnderSuch, NamesRfc, IsMissing, IsMissingEarly, items, early_items, item_lines, IsWantingFor, evidence_lines, early_lines}
@@ -30,39 +19,15 @@ use Rattle.reg_laws.specs.AskLines.{assigns_values, is_reviewed, allocates_early
 
 pub open_is : (policy : Policy) → not (is_closed_policy policy) ≡ assigns_values policy
 open_is policy.PrivateUse = refl
-open_is policy.ExperimentalUse = refl
-open_is policy.HierarchicalAllocation = refl
-open_is policy.FirstComeFirstServed = refl
-open_is policy.ExpertReview = refl
-open_is policy.SpecificationRequired = refl
-open_is policy.RfcRequired = refl
-open_is policy.IetfReview = refl
-open_is policy.StandardsAction = refl
-open_is policy.IesgApproval = refl
+open_is policy = refl
 
 pub reviewed_is : (policy : Policy) → is_expert_policy policy ≡ is_reviewed policy
 reviewed_is policy.PrivateUse = refl
-reviewed_is policy.ExperimentalUse = refl
-reviewed_is policy.HierarchicalAllocation = refl
-reviewed_is policy.FirstComeFirstServed = refl
-reviewed_is policy.ExpertReview = refl
-reviewed_is policy.SpecificationRequired = refl
-reviewed_is policy.RfcRequired = refl
-reviewed_is policy.IetfReview = refl
-reviewed_is policy.StandardsAction = refl
-reviewed_is policy.IesgApproval = refl
+reviewed_is policy = refl
 
 eligible_is : (policy : Policy) (rfc : Bool) → is_eligible policy rfc ≡ allocates_early rfc policy
 eligible_is policy.PrivateUse rfc = refl
-eligible_is policy.ExperimentalUse rfc = refl
-eligible_is policy.HierarchicalAllocation rfc = refl
-eligible_is policy.FirstComeFirstServed rfc = refl
-eligible_is policy.ExpertReview rfc = refl
-eligible_is policy.SpecificationRequired rfc = refl
-eligible_is policy.RfcRequired rfc = refl
-eligible_is policy.IetfReview rfc = refl
-eligible_is policy.StandardsAction rfc = refl
-eligible_is policy.IesgApproval rfc = refl
+eligible_is policy rfc = refl
 
 -- what a policy asks for are those of all items that it asks for, in their order
 asked_in_order : (policy : Policy) → is_closed_policy policy ≡ false
@@ -70,13 +35,7 @@ asked_in_order : (policy : Policy) → is_closed_policy policy ≡ false
 asked_in_order policy.PrivateUse h = absurd (cc)
 asked_in_order policy.ExperimentalUse h = absurd (cc)
 asked_in_order policy.HierarchicalAllocation h = absurd (cc)
-asked_in_order policy.FirstComeFirstServed h = refl
-asked_in_order policy.ExpertReview h = refl
-asked_in_order policy.SpecificationRequired h = refl
-asked_in_order policy.RfcRequired h = refl
-asked_in_order policy.IetfReview h = refl
-asked_in_order policy.StandardsAction h = refl
-asked_in_order policy.IesgApproval h = refl
+asked_in_order policy h = refl
 
 -- ---- Items
 
@@ -115,10 +74,7 @@ named_is e test So each = by e.rfc refl
 
 ietf_is : (s : Stream) → Tells (not (is_ietf s)) (¬ (s ≡ stream.Ietf))
 ietf_is stream.Ietf = inr (refl, λ other. other refl)
-ietf_is stream.Irtf = inl (refl, λ is. absurd (cc))
-ietf_is stream.Iab = inl (refl, λ is. absurd (cc))
-ietf_is stream.Independent = inl (refl, λ is. absurd (cc))
-ietf_is stream.Editorial = inl (refl, λ is. absurd (cc))
+ietf_is s = inl (refl, λ is. absurd (cc))
 
 abbrev IsOnTrack : Track → Type 0
 IsOnTrack t = (t ≡ track.Standards) ⊎ (t ≡ track.Bcp)
@@ -212,12 +168,7 @@ module _ (w : World) where
         wanting_is e item.Track (named_is e (λ rfc. is_standards_or_bcp rfc.track)
         (λ rfc. IsOnTrack rfc.track) (λ rfc. track_is rfc.track))
     each_item e item.Minute = wanting_is e item.Minute (none_is e.minute)
-    each_item e item.Policy = inr (refl, λ both. both.1)
-    each_item e item.Draft = inr (refl, λ both. both.1)
-    each_item e item.Stable = inr (refl, λ both. both.1)
-    each_item e item.Interest = inr (refl, λ both. both.1)
-    each_item e item.Chair = inr (refl, λ both. both.1)
-    each_item e item.Director = inr (refl, λ both. both.1)
+    each_item e i = inr (refl, λ both. both.1)
 
     unmet_is : (e : Evidence) → is_closed_policy policy ≡ false
         → unmet policy e ≡ filter (λ i. asks_for i policy && not (meets e i)) items
@@ -253,28 +204,12 @@ module _ (w : World) where
     each_early e item.Interest = false_is e.interest
     each_early e item.Chair = none_is e.chair
     each_early e item.Director = none_is e.director
-    each_early e item.Policy = inr (refl, λ none. none)
-    each_early e item.Contact = inr (refl, λ none. none)
-    each_early e item.Specification = inr (refl, λ none. none)
-    each_early e item.Rfc = inr (refl, λ none. none)
-    each_early e item.Stream = inr (refl, λ none. none)
-    each_early e item.Track = inr (refl, λ none. none)
-    each_early e item.Minute = inr (refl, λ none. none)
+    each_early e i = inr (refl, λ none. none)
 
     named_early : (e : EarlyEvidence) (i : EvidenceItem) → missing_early e i ≡ true
         → is_met_early (Some i) ≡ Err (no.Evidence i)
     named_early e item.Policy t = absurd (cc)
-    named_early e item.Contact t = refl
-    named_early e item.Specification t = refl
-    named_early e item.Rfc t = refl
-    named_early e item.Stream t = refl
-    named_early e item.Track t = refl
-    named_early e item.Minute t = refl
-    named_early e item.Draft t = refl
-    named_early e item.Stable t = refl
-    named_early e item.Interest t = refl
-    named_early e item.Chair t = refl
-    named_early e item.Director t = refl
+    named_early e i t = refl
 
     early_items_fair : (e : EarlyEvidence)
         → IsFair w (item_lines (IsMissingEarly e) early_items)

@@ -1,24 +1,14 @@
 -- Commands that take away capabilities that a test chooses go by their lines.
 use Rattle.std.proofs.Common.{◌≡◌, ℕ, Bool, true, false, List, [], ◌∷◌, inl, inr, refl, sym, ap, subst, ◌∙◌, arith}
 use Rattle.std.specs.Prelude.{Some, Ok, Err, Contains}
-use Rattle.std.specs.Cmp.{eq_by_cmp_equiv}
+use Rattle.reg_decisions.proofs.Common.{eq_by_cmp_equiv, eq_by_cmp, both_ways, bytes_eq-Decides, text_cmp}
+use Rattle.reg_decisions.proofs.Common.{same_text, text_keys, cap_row, caps_that, has_token, one_rule}
+use Rattle.reg_decisions.proofs.Common.{all_rule, revoke_digits_rule, revoke_account_rule, World, CapRow}
+use Rattle.reg_decisions.proofs.Common.{Decision, Told, by_rule, by_test}
 use Rattle.std.specs.List.{AllPairs}
-use Rattle.std.specs.Ordering.{eq_by_cmp}
-use Rattle.std.proofs.lemmas.Bool.{both_ways}
 use Rattle.std.proofs.lemmas.List.Elements.{All-nil, All-cons, All-contains}
 use Rattle.std.proofs.lemmas.List.Folds.{Any-from_list_any}
-use Rattle.std.proofs.lemmas.Slice.Eq.{bytes_eq-Decides}
-use Rattle.reg_maps.specs.Maps.{text_cmp, same_text}
-use Rattle.reg_maps.proofs.MapLaws.{text_keys}
-use Rattle.reg_core.specs.CapRows.{cap_row, caps_that}
-use Rattle.reg_core.specs.Rules.{has_token, one_rule, all_rule, revoke_digits_rule, revoke_account_rule}
-use Rattle.reg_core.specs.World.{World}
-use Rattle.reg_core.specs.declared.capability.CapRow.{CapRow}
-use Rattle.reg_core.specs.declared.decide.Decision.{Decision}
 use Rattle.reg_core.specs.declared.refusal.Refusal.TheVariants as no
-use Rattle.reg_core.specs.declared.told.Told.{Told}
-use Rattle.reg_core.proofs.Cases.{by_test}
-use Rattle.reg_core.specs.Answer.{by_rule}
 use Rattle.reg_laws.proofs.Capabilities.{IsOne, each_is, is_one, is_in_use, apart}
 use Rattle.reg_laws.proofs.Lines.Turns.{By, fails}
 use Rattle.reg_laws.specs.AnswerLines.{refuses, is_there, ◌or_else◌, accepted}

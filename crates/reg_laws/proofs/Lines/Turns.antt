@@ -1,13 +1,9 @@
 -- An answer goes by lines, check after check.
 use Rattle.std.proofs.Common.{◌≡◌, ℕ, Bool, true, false, List, refl, sym, subst, ◌∙◌}
 use Rattle.std.specs.Prelude.{Option, Some, None, Result, Ok, Err}
-use Rattle.std.proofs.lemmas.Slice.Eq.{bytes_eq-Decides}
-use Rattle.reg_maps.specs.Maps.{same_text}
+use Rattle.reg_decisions.proofs.Common.{bytes_eq-Decides, same_text, Answer, World, Refusal}
 use Rattle.reg_core.specs.Allowance.{◌>>=◌, or_refusal}
-use Rattle.reg_core.specs.Answer.{Answer}
 use Rattle.reg_core.specs.Step.{stepped}
-use Rattle.reg_core.specs.World.{World}
-use Rattle.reg_core.specs.declared.refusal.Refusal.{Refusal}
 use Rattle.reg_laws.specs.AnswerLines.{Lines, of_row, GoesBy}
 
 -- the step of an answer goes by the lines
@@ -64,7 +60,6 @@ module _ (w : World) where
       → check ≡ Err r → ((more : Lines) → By w (lines more) (Err r)) → IsFair lines check
   fair_refused lines check r is by = record {
     refused = λ refusal h more.
-        let both = sym is ∙ h in
         let same : r ≡ refusal = cc in subst (λ s. By w (lines more) (Err s)) same (by more);
     passed = λ x h. let both = sym is ∙ h in absurd (cc);
   }

@@ -1,48 +1,30 @@
 -- The world after a command has what its reply says.
 use Rattle.std.proofs.Common.{◌≡◌, ℕ, Bool, false, List, map, refl, sym, ap, subst, ◌∙◌}
 use Rattle.std.specs.Prelude.{Option, Some, None, Ok, Err, is_some, option_map}
-use Rattle.std.specs.FinMap.{get}
-use Rattle.std.proofs.lemmas.Slice.Eq.{bytes_eq-Decides}
-use Rattle.reg_maps.specs.Maps.{same_text, update}
-use Rattle.reg_maps.proofs.MapLaws.{number_keys, text_keys, get-inserted, get-updated, get-removed}
+use Rattle.reg_decisions.proofs.Common.{get, update, number_keys, text_keys, get-inserted, get-updated}
+use Rattle.reg_decisions.proofs.Common.{get-removed, utc_day, held_term, Award, awarded_entry, new_holding}
+use Rattle.reg_decisions.proofs.Common.{begins_with, is_of, caps_that, page_entry, with_hold, with_mark}
+use Rattle.reg_decisions.proofs.Common.{World, RequestName, in_state, without, applied, applied_if, pending}
+use Rattle.reg_decisions.proofs.Common.{Seat, CapRow, Change, Command, Decision, Registration, Holder, Case}
+use Rattle.reg_decisions.proofs.Common.{State, Approved, Declined, Withdrawn, name_keys, place_keys}
+use Rattle.reg_decisions.proofs.Common.{seat_keys, block_keys, Outcome, Answer, reply_of, change_of}
+use Rattle.reg_decisions.proofs.Common.{change_by, made_row, has_token, change_to_give, desk_by, answer_to}
+use Rattle.reg_decisions.proofs.Common.{HaveGone, cap_at, Told, Make, Same, link_is, agent_list}
+use Rattle.reg_decisions.proofs.Common.{principal_list}
 use Rattle.reg_maps.proofs.KeySets.{is_inserted}
-use Rattle.reg_early.specs.Moment.{utc_day}
-use Rattle.reg_early.specs.Terms.{held_term}
-use Rattle.reg_core.specs.Award.{Award, awarded_entry, new_holding}
-use Rattle.reg_core.specs.CapRows.{begins_with, is_of, caps_that}
-use Rattle.reg_core.specs.Entry.{page_entry, with_hold}
-use Rattle.reg_core.specs.Holding.{with_mark}
-use Rattle.reg_core.specs.World.{World, RequestName, in_state, without, applied, applied_if, pending, Seat}
-use Rattle.reg_core.specs.declared.capability.CapRow.{CapRow}
-use Rattle.reg_core.specs.declared.change.Change.{Change}
-use Rattle.reg_core.specs.declared.command.Command.{Command}
 use Rattle.reg_core.specs.declared.command.Command.TheVariants.{Public, Applicant, Expert, Clerk}
 use Rattle.reg_core.specs.declared.command.ApplicantCommand.TheVariants.{Own, OwnOne, Submit, Withdraw, Holdings, SetListing, SetAgent, Agents, Principals, PrincipalRows}
 use Rattle.reg_core.specs.declared.command.ExpertCommand.TheVariants.{Queue, Advise}
 use Rattle.reg_core.specs.declared.command.ClerkCommand.TheVariants.{AllRequests, OneRequest, AssignExpert, Approve, Decline, SetHold, Define, AddPool, Grant, Revoke, PendingRequests, AllCapabilities, RevokeDigits, RevokeAccount, CountRows}
 use Rattle.reg_core.specs.declared.command.PublicCommand.TheVariants.{Registries, Registry, RegistryListing, PoolList, BlockListing}
-use Rattle.reg_core.specs.declared.decide.Decision.{Decision}
-use Rattle.reg_core.specs.declared.decide.Decision.TheVariants.{Make, Same}
-use Rattle.reg_core.specs.declared.entry.Registration.{Registration}
-use Rattle.reg_core.specs.declared.holding.Holder.{Holder}
-use Rattle.reg_core.specs.declared.request.Case.{Case}
 use Rattle.reg_core.specs.declared.request.Given.TheVariants.{Value, Block}
-use Rattle.reg_core.specs.declared.request.State.{State}
-use Rattle.reg_core.specs.declared.request.State.TheVariants.{Approved, Declined, Withdrawn}
-use Rattle.reg_core.proofs.Links.{link_is, agent_list, principal_list}
-use Rattle.reg_core.proofs.KeyOrders.{name_keys, place_keys, seat_keys, block_keys}
-use Rattle.reg_core.specs.Answer.{Outcome, Answer, reply_of, change_of, change_by, made_row}
-use Rattle.reg_core.specs.Rules.{has_token, change_to_give}
-use Rattle.reg_core.specs.Step.{desk_by, answer_to}
 use Rattle.reg_core.specs.Laws.{IsDone, WasDone, AnswersAreDone, TakesJust, is_refused}
-use Rattle.reg_core.specs.Lists.{HaveGone}
-use Rattle.reg_core.specs.View.{cap_at}
-use Rattle.reg_core.specs.declared.told.Told.{Told}
 use Rattle.reg_core.specs.declared.told.Told.TheVariants as tells
 use Rattle.reg_decisions.proofs.Outcomes.Deciding.{Rule, Decides, RevokesOne, RevokesAll}
 use Rattle.reg_core.specs.declared.change.Change.TheVariants as change
 use Rattle.reg_decisions.proofs.Outcomes.Accepted.{Comes, CommandSo, accepted}
 use Rattle.reg_laws.proofs.Capabilities.{takes_just, have_gone}
+use Rattle.reg_laws.proofs.Lines.Turns.{other_text}
 use Rattle.reg_laws.proofs.Outcomes.ClerkLists.{pending_list, cap_list_whole}
 use Rattle.reg_laws.proofs.Outcomes.WholeLists.{entry_list, block_list, own_list, holding_list, queue_list}
 
@@ -111,10 +93,6 @@ same_mark h private is i = record h { private = is i }
 -- and so does an entry
 same_hold : (a : Registration) (held : Bool) → a.term.held ≡ held → a ≡ with_hold held a
 same_hold a held is i = record a { term = held_term (is i) a.term }
-
--- a text that is told from another is not that one
-other_text : (a b : List ℕ) → same_text a b ≡ false → ¬ (a ≡ b)
-other_text a b other = λ e. let same = (bytes_eq-Decides a b).1 e in cc
 
 module _ (digest_of : List ℕ → List ℕ) (w : World) (caller : Option (List ℕ)) (moment : ℕ) where
   -- after the command and its outcome all is as the caller is told

@@ -1,21 +1,11 @@
 -- What goes with an approval that changes something.
-use Rattle.std.proofs.Common.{◌≡◌, ℕ, true, List, sym, ap, subst, ◌∙◌}
-use Rattle.std.specs.Prelude.{Option, Some, Ok}
-use Rattle.std.specs.FinMap.{get}
+use Rattle.std.proofs.Common.{◌≡◌, ℕ, true, List, sym, ap, subst, Option, Some, Ok}
+use Rattle.reg_decisions.proofs.Common.{get, Allowance, given_in, utc_day, change_of, was_advised, answer_to}
+use Rattle.reg_decisions.proofs.Common.{published, World, Change, Case, Make}
 use Rattle.reg_core.specs.Allowance.{◌>>=◌, ground_of, needs_advice}
-use Rattle.reg_core.specs.Award.{Allowance, given_in}
-use Rattle.reg_early.specs.Moment.{utc_day}
-use Rattle.reg_core.specs.Answer.{change_of}
-use Rattle.reg_core.specs.File.{was_advised}
 use Rattle.reg_core.specs.Laws.{ApprovalsGiveWhatIsAllowed, ApprovalsAreAdvised}
-use Rattle.reg_core.specs.Step.{answer_to}
-use Rattle.reg_core.specs.View.{published}
-use Rattle.reg_core.specs.World.{World}
-use Rattle.reg_core.specs.declared.change.Change.{Change}
 use Rattle.reg_core.specs.declared.command.Command.TheVariants.{Clerk}
 use Rattle.reg_core.specs.declared.command.ClerkCommand.TheVariants.{Approve}
-use Rattle.reg_core.specs.declared.decide.Decision.TheVariants.{Make}
-use Rattle.reg_core.specs.declared.request.Case.{Case}
 use Rattle.reg_decisions.proofs.Allowances.{allowed_of_ask}
 use Rattle.reg_decisions.proofs.Files.{advised_by}
 use Rattle.reg_decisions.proofs.Outcomes.Accepted.{Row, accepted}
@@ -57,7 +47,6 @@ approvals_give digest_of w caller moment account reference change made =
 pub approvals_advised : (digest_of : List ℕ → List ℕ) → ApprovalsAreAdvised digest_of
 approvals_advised digest_of w caller moment account reference change case made is_there needed =
     let is = approval digest_of w caller moment account reference change made in
-    let both : Some case ≡ Some is.row = sym is_there ∙ is.is in
     let same : case ≡ is.row = cc in
     advised_by w (account, reference)
     (is.so.0.1 (subst

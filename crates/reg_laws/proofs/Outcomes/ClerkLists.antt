@@ -1,25 +1,19 @@
 -- What a clerk lists is whole: the requests that wait, and all capabilities by account and digest.
 use Rattle.std.proofs.Common.{◌≡◌, ℕ, suc, Bool, true, false, cond, List, [], ◌∷◌, map, refl, sym, ap, subst, ◌∙◌, arith}
-use Rattle.std.specs.Prelude.{Option, Some, None, option_and_then, All, Contains}
+use Rattle.std.specs.Prelude.{Option, Some, option_and_then, All, Contains}
 use Rattle.std.specs.FinMap.{FinMap, get, entries, find, get-entries, get-from_entries}
 use Rattle.std.specs.List.Sorted.{IsStrictlySortedBy}
-use Rattle.std.specs.Cmp.{eq_by_cmp_equiv}
-use Rattle.std.specs.Ordering.{eq_by_cmp}
-use Rattle.std.proofs.lemmas.Bool.{both_ways}
+use Rattle.reg_decisions.proofs.Common.{false_from_ne_true, eq_by_cmp_equiv, eq_by_cmp, both_ways, text_cmp}
+use Rattle.reg_decisions.proofs.Common.{only_if, IsKeyOrder, text_keys, pair_keys, tied, get-select}
+use Rattle.reg_decisions.proofs.Common.{All-entries, Contains-map, Contains-entries, ascending-entries}
+use Rattle.reg_decisions.proofs.Common.{ascending-keys, CapPlace, cap_place, cap_place_cmp, cap_row, cap_list}
+use Rattle.reg_decisions.proofs.Common.{file, name_of, waiting, waiting_files, is_pending, World, RequestName}
+use Rattle.reg_decisions.proofs.Common.{name_cmp, Cap, CapRow, Case, name_keys, get-chosen}
 use Rattle.std.proofs.lemmas.List.Elements.{All-head, All-tail, All-map, All-contains}
 use Rattle.std.proofs.lemmas.Simd.{map-map}
-use Rattle.reg_maps.specs.Maps.{text_cmp, only_if}
-use Rattle.reg_maps.proofs.MapLaws.{IsKeyOrder, text_keys, pair_keys, tied, get-select, All-entries, Contains-map, Contains-entries, ascending-entries, ascending-keys}
-use Rattle.reg_core.specs.CapRows.{CapPlace, cap_place, cap_place_cmp, cap_row, by_account, cap_list}
-use Rattle.reg_core.specs.File.{file, name_of, waiting, waiting_files}
+use Rattle.reg_core.specs.CapRows.{by_account}
 use Rattle.reg_core.specs.Lists.{IsWaiting, PendingList, CapList}
-use Rattle.reg_core.specs.Request.{is_pending}
-use Rattle.reg_core.specs.World.{World, RequestName, name_cmp}
-use Rattle.reg_core.specs.declared.capability.Cap.{Cap}
-use Rattle.reg_core.specs.declared.capability.CapRow.{CapRow}
 use Rattle.reg_core.specs.declared.case_file.CaseFile.{CaseFile}
-use Rattle.reg_core.specs.declared.request.Case.{Case}
-use Rattle.reg_core.proofs.KeyOrders.{name_keys}
 
 -- ---- The requests that wait
 
@@ -33,22 +27,8 @@ module _ (w : World) where
   is_waiting : (name : RequestName) (case : Case) → get (waiting w) name ≡ Some case
       → IsWaiting w (file w name case)
   is_waiting name case found =
-      from (get w.requests name) refl
-      (sym (get-select name_keys (λ name. if_pending) w.requests name) ∙ found)
-    where
-      from : (there : Option Case) → get w.requests name ≡ there
-          → option_and_then if_pending there ≡ Some case → IsWaiting w (file w name case)
-      from None is e = absurd (cc)
-      from (Some old) is e = by (is_pending old.state) refl e
-        where
-          by : (b : Bool) → is_pending old.state ≡ b → only_if b old ≡ Some case
-              → IsWaiting w (file w name case)
-          by true pends e =
-              let same : old ≡ case = cc in
-              let pending : is_pending case.state ≡ true =
-              ap (λ (c : Case). is_pending c.state) (sym same) ∙ pends in
-              (((refl, refl, is ∙ ap Some same), refl, refl), pending)
-          by false pends e = absurd (cc)
+      let is = get-chosen name_keys (λ name case. is_pending case.state) w.requests name case found in
+      (((refl, refl, is.0), refl, refl), is.1)
 
   pub pending_list : PendingList w (waiting_files w)
   pending_list = record {
@@ -113,15 +93,13 @@ found_placed (e ∷ es) digest cap is =
     Found : List (List ℕ × Cap) → Type 0
     Found es = find cap_place_cmp (cap.account, digest) (map placed es) ≡ Some cap
 
-    other : (b : Bool) → eq_by_cmp cap_place_cmp (cap.account, digest) (e.1.account, e.0) ≡ b
-        → eq_by_cmp text_cmp digest e.0 ≡ false → b ≡ false
-    other false u t = refl
-    other true u t =
+    other : eq_by_cmp text_cmp digest e.0 ≡ false
+        → eq_by_cmp cap_place_cmp (cap.account, digest) (e.1.account, e.0) ≡ false
+    other t = false_from_ne_true _ (λ u.
         let key = tied cap_places (cap.account, digest) (e.1.account, e.0) u in
-        let same : eq_by_cmp text_cmp digest e.0 ≡ true =
-        ap (λ (p : CapPlace). eq_by_cmp text_cmp p.1 e.0) key
-        ∙ (eq_by_cmp_equiv text_keys.total).refl e.0 in
-        absurd (both_ways (eq_by_cmp text_cmp digest e.0) t same)
+        both_ways (eq_by_cmp text_cmp digest e.0) t
+        (ap (λ (p : CapPlace). eq_by_cmp text_cmp p.1 e.0) key
+        ∙ (eq_by_cmp_equiv text_keys.total).refl e.0))
 
     by : (find text_cmp digest es ≡ Some cap → Found es) → (b : Bool)
         → eq_by_cmp text_cmp digest e.0 ≡ b
@@ -136,7 +114,7 @@ found_placed (e ∷ es) digest cap is =
         ∙ is
     by later false t is =
         ap (λ b. cond b (Some e.1) (find cap_place_cmp (cap.account, digest) (map placed es)))
-        (other (eq_by_cmp cap_place_cmp (cap.account, digest) (e.1.account, e.0)) refl t)
+        (other t)
         ∙ later is
 
 get-by_account : (caps : FinMap text_cmp Cap) (place : CapPlace)

@@ -1,11 +1,7 @@
 -- A refusal changes nothing.
-use Rattle.std.proofs.Common.{◌≡◌, List, ℕ, refl}
-use Rattle.std.specs.Prelude.{Ok, Err}
-use Rattle.reg_core.specs.Answer.{Answer, reply_of, change_of}
+use Rattle.std.proofs.Common.{◌≡◌, List, ℕ, refl, Ok, Err}
+use Rattle.reg_decisions.proofs.Common.{Answer, reply_of, change_of, answer_to, World, applied_if, Refusal}
 use Rattle.reg_core.specs.Laws.{RefusalsChangeNothing}
-use Rattle.reg_core.specs.Step.{answer_to}
-use Rattle.reg_core.specs.World.{World, applied_if}
-use Rattle.reg_core.specs.declared.refusal.Refusal.{Refusal}
 use Rattle.reg_core.specs.declared.reply.Reply.TheVariants.{Refused}
 
 -- no accepted answer is a refusal, and a refusal has no change

@@ -1,33 +1,23 @@
 -- Pages and listings, an account's own list, its holdings and an expert's queue are whole.
 use Rattle.std.proofs.Common.{◌≡◌, ℕ, List, not, refl, sym, ap, subst, ◌∙◌}
 use Rattle.std.specs.Prelude.{Option, Some, None, option_and_then}
-use Rattle.std.specs.FinMap.{FinMap, get, entries}
+use Rattle.reg_decisions.proofs.Common.{FinMap, get, entries, only_if, get-select, All-entries, Contains-map}
+use Rattle.reg_decisions.proofs.Common.{Contains-entries, ascending-entries, page_entry, SizedPrefix}
+use Rattle.reg_decisions.proofs.Common.{block_cmp, Holder, Holding, queue_row, queue_rows, request_row}
+use Rattle.reg_decisions.proofs.Common.{request_rows, published, entries_of, Queued, as_queued, requests_of}
+use Rattle.reg_decisions.proofs.Common.{holdings_of, queue_of, World, Place, RequestName, name_cmp, place_cmp}
+use Rattle.reg_decisions.proofs.Common.{PageEntry, Registration, Case, Request, name_keys, place_keys}
+use Rattle.reg_decisions.proofs.Common.{block_keys, IsQueued, queued_found, found_queued}
 use Rattle.std.proofs.lemmas.List.Elements.{All-map}
-use Rattle.reg_maps.specs.Maps.{only_if}
-use Rattle.reg_maps.proofs.MapLaws.{get-select, All-entries, Contains-map, Contains-entries, ascending-entries}
 use Rattle.reg_core.specs.Lists.{EntryList, ShowsEntry, ShowsStanding, BlockList, ShowsHolder, ShowsHeld, HasRowOf, HasHoldingOf, HoldingList, IsItem, OwnList, QueueList}
 use Rattle.reg_early.proofs.TermsInWords.{assigned, temporary, held as held_term, expired}
-use Rattle.reg_core.specs.Entry.{page_entry}
 use Rattle.reg_core.specs.Page.{page_entries}
-use Rattle.reg_core.specs.Holding.{Shown, masked, masked_blocks, listed_row, listed_rows, holding_row, holding_rows}
-use Rattle.reg_blocks.specs.Block.{SizedPrefix, block_cmp}
-use Rattle.reg_core.specs.declared.holding.Holder.{Holder}
-use Rattle.reg_core.specs.declared.holding.Holding.{Holding}
-use Rattle.reg_core.specs.Queue.{queue_row, queue_rows}
-use Rattle.reg_core.specs.Request.{request_row, request_rows}
-use Rattle.reg_core.specs.View.{published, entries_of, Queued, as_queued, requests_of, holdings_of, queue_of}
-use Rattle.reg_core.specs.World.{World, Place, RequestName, name_cmp, place_cmp}
-use Rattle.reg_core.specs.declared.entry.PageEntry.{PageEntry}
-use Rattle.reg_core.specs.declared.entry.Registration.{Registration}
+use Rattle.reg_core.specs.Holding.{ShownHolding, masked, masked_blocks, listed_row, listed_rows, holding_row, holding_rows}
 use Rattle.reg_core.specs.declared.holding.Listed.{Listed}
 use Rattle.reg_core.specs.declared.queue.QueueRow.{QueueRow}
-use Rattle.reg_core.specs.declared.request.Case.{Case}
-use Rattle.reg_core.specs.declared.request.Request.{Request}
 use Rattle.reg_decisions.proofs.Blocks.{holding_found, own_holding}
 use Rattle.reg_core.proofs.ValuesIn.{own_found, found_own, page_ascends}
-use Rattle.reg_core.proofs.Queues.{IsQueued, queued_found, found_queued}
-use Rattle.reg_core.proofs.KeyOrders.{name_keys, place_keys, block_keys}
-use Rattle.reg_decisions.proofs.Stepping.{own_request, own_row_found, own_row_is_own}
+use Rattle.reg_decisions.proofs.Stepping.{own_request, own_row_found}
 
 -- ---- Registers
 
@@ -66,10 +56,10 @@ module _ (w : World) (name : List ℕ) (today : ℕ) where
   }
 
 module _ (w : World) where
-  abbrev given : FinMap block_cmp Shown
+  abbrev given : FinMap block_cmp ShownHolding
   given = masked_blocks w.blocks
 
-  abbrev given_row : SizedPrefix × Shown → Listed
+  abbrev given_row : SizedPrefix × ShownHolding → Listed
   given_row e = listed_row e.0 e.1
 
   shows_holder : (block : SizedPrefix) (h : Holder) → ShowsHolder h (listed_row block (masked h))
@@ -85,7 +75,7 @@ module _ (w : World) where
   }
 
   -- what is shown at a block is its holder, as the public sees it
-  held_there : (block : SizedPrefix) (shown : Shown) (existing : Option Holder)
+  held_there : (block : SizedPrefix) (shown : ShownHolding) (existing : Option Holder)
       → get w.blocks block ≡ existing
       → option_and_then (λ h. Some (masked h)) existing ≡ Some shown
       → ShowsHeld w (listed_row block shown)
@@ -131,7 +121,7 @@ module _ (w : World) (account : List ℕ) where
     own = All-map (HasRowOf w account) own_row (entries own)
         (All-entries name_keys.total (λ e. HasRowOf w account (own_row e)) own
         (λ name case is_there.
-        (own_row_is_own account w name case is_there, own_row_found account w name case is_there)));
+        let is = own_row_found account w name case is_there in (is.1, is.0)));
     every = λ reference case is_there. (
       request_row (account, reference) case,
       Contains-map own_row (entries own) ((account, reference), case)

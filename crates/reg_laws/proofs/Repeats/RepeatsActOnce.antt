@@ -2,61 +2,33 @@
 -- was told is so.
 use Rattle.std.proofs.Common.{◌≡◌, ℕ, Bool, true, false, List, [], refl, sym, ap, subst, ◌∙◌, arith}
 use Rattle.std.specs.Prelude.{Option, Some, None, IsSome, is_some, Ok, nat_le, nat_lt}
-use Rattle.std.specs.FinMap.{get, contains_key, keys}
-use Rattle.std.proofs.lemmas.Bool.Decides.{nat_tests}
-use Rattle.std.proofs.lemmas.Slice.Eq.{bytes_eq-Decides}
-use Rattle.reg_maps.specs.Maps.{same_text}
-use Rattle.reg_early.specs.Moment.{is_in_clock, utc_day}
-use Rattle.reg_early.specs.Terms.{status_on}
+use Rattle.reg_decisions.proofs.Common.{false_from_ne_true, get, contains_key, keys, nat_tests}
+use Rattle.reg_decisions.proofs.Common.{bytes_eq-Decides, same_text, is_in_clock, utc_day, status_on}
+use Rattle.reg_decisions.proofs.Common.{page_entry, with_hold, holder_in, holding_row, listed_rows, with_mark}
+use Rattle.reg_decisions.proofs.Common.{page, same_ask, Answer, Outcome, reply_of, change_of, unchanged}
+use Rattle.reg_decisions.proofs.Common.{own_answer, own_row, desk_row, item, begins_with, is_of, same_kind}
+use Rattle.reg_decisions.proofs.Common.{kind_of, file, queue_rows, IsRow, IsOwnRow, SizedPrefix, case_of}
+use Rattle.reg_decisions.proofs.Common.{request_rows, private_rule, link_rule, mark_rule, clerk_answer}
+use Rattle.reg_decisions.proofs.Common.{answer_to, step, Queued, as_queued, published, personal, requests_by}
+use Rattle.reg_decisions.proofs.Common.{queue_of, agents_of, principals_of, principal_rows_of, cap_at, World}
+use Rattle.reg_decisions.proofs.Common.{RequestName, Place, Link, in_state, applied_if, Ask, Cap, Kind}
+use Rattle.reg_decisions.proofs.Common.{Command, ApplicantCommand, ExpertCommand, ClerkCommand, PublicCommand}
+use Rattle.reg_decisions.proofs.Common.{Told, Case, Given, Request, Approved, Same, same_text-itself}
+use Rattle.reg_decisions.proofs.Common.{same_advice-itself, same_cap-itself, same_ask-itself}
+use Rattle.reg_decisions.proofs.Common.{same_table-itself, own_agent, own_principal, found_queued}
 use Rattle.reg_early.specs.declared.term.Status.{Status}
-use Rattle.reg_core.specs.Entry.{page_entry, with_hold}
-use Rattle.reg_core.specs.Link.{agent_rows, principal_names}
-use Rattle.reg_core.specs.Holding.{holder_in, holding_row, holding_rows, listed_rows, with_mark}
-use Rattle.reg_core.specs.Page.{page}
-use Rattle.reg_core.specs.Ask.{same_ask}
-use Rattle.reg_core.specs.Answer.{Answer, Outcome, reply_of, change_of, unchanged, own_answer, own_row, desk_row, item}
-use Rattle.reg_core.specs.CapRows.{begins_with, is_of, cap_list}
-use Rattle.reg_core.specs.Capability.{same_kind}
-use Rattle.reg_core.specs.Command.{kind_of}
-use Rattle.reg_core.specs.Counting.{counts}
-use Rattle.reg_core.specs.File.{file, waiting_files}
-use Rattle.reg_core.specs.Queue.{queue_rows}
 use Rattle.reg_core.specs.Laws.{is_refused, IsStillValid, MayRepeat, IsDone, RepeatsActOnce}
-use Rattle.reg_core.specs.Lists.{IsRow, IsOwnRow}
-use Rattle.reg_blocks.specs.Block.{SizedPrefix}
-use Rattle.reg_core.specs.Request.{case_of, request_rows}
-use Rattle.reg_core.specs.Rules.{private_rule, link_rule, mark_rule}
-use Rattle.reg_core.specs.Step.{answer_to, step}
-use Rattle.reg_core.specs.View.{Queued, as_queued, published, personal, requests_by, requests_of, holdings_of, queue_of, agents_of, principals_of, principal_rows_of, cap_at}
-use Rattle.reg_core.specs.World.{World, RequestName, Place, Link, in_state, applied_if}
-use Rattle.reg_core.specs.declared.ask.Ask.{Ask}
-use Rattle.reg_core.specs.declared.capability.Cap.{Cap}
-use Rattle.reg_core.specs.declared.capability.Kind.{Kind}
 use Rattle.reg_core.specs.declared.capability.Kind.TheVariants as kind
-use Rattle.reg_core.specs.declared.command.Command.{Command}
 use Rattle.reg_core.specs.declared.command.Command.TheVariants.{Public, Applicant, Expert, Clerk}
-use Rattle.reg_core.specs.declared.command.ApplicantCommand.{ApplicantCommand}
 use Rattle.reg_core.specs.declared.command.ApplicantCommand.TheVariants.{Own, OwnOne, Submit, Withdraw, Holdings, SetListing, SetAgent, Agents, Principals, PrincipalRows}
-use Rattle.reg_core.specs.declared.command.ExpertCommand.{ExpertCommand}
 use Rattle.reg_core.specs.declared.command.ExpertCommand.TheVariants.{Queue, Advise}
-use Rattle.reg_core.specs.declared.command.ClerkCommand.{ClerkCommand}
 use Rattle.reg_core.specs.declared.command.ClerkCommand.TheVariants.{AllRequests, OneRequest, AssignExpert, Approve, Decline, SetHold, Define, AddPool, Grant, Revoke, PendingRequests, AllCapabilities, RevokeDigits, RevokeAccount, CountRows}
-use Rattle.reg_core.specs.declared.command.PublicCommand.{PublicCommand}
 use Rattle.reg_core.specs.declared.command.PublicCommand.TheVariants.{Registries, Registry, RegistryListing, PoolList, BlockListing}
-use Rattle.reg_core.specs.declared.told.Told.{Told}
 use Rattle.reg_core.specs.declared.told.Told.TheVariants as tells
-use Rattle.reg_core.specs.declared.decide.Decision.TheVariants.{Same}
-use Rattle.reg_core.specs.declared.request.Case.{Case}
-use Rattle.reg_core.specs.declared.request.Given.{Given}
-use Rattle.reg_core.specs.declared.request.Request.{Request}
-use Rattle.reg_core.specs.declared.request.State.TheVariants.{Approved}
-use Rattle.reg_core.proofs.SamenessIsDecided.{same_text-itself, same_advice-itself, same_cap-itself, same_ask-itself, same_table-itself}
 use Rattle.reg_decisions.proofs.Outcomes.Accepted.{Serves, ClerkServes, CommandSo}
 use Rattle.reg_laws.proofs.Capabilities.{none_are}
 use Rattle.reg_laws.proofs.Outcomes.AnswersAreDone.{Done, accepted_done}
-use Rattle.reg_core.proofs.Links.{own_agent, own_principal}
 use Rattle.reg_decisions.proofs.Blocks.{own_holding}
-use Rattle.reg_core.proofs.Queues.{found_queued}
 use Rattle.reg_decisions.proofs.Stepping.{own_request}
 
 -- ---- A caller who may act as before
@@ -75,7 +47,6 @@ pub acts : (w v : World) (caller : Option (List ℕ)) (first second : ℕ) (kind
     → Serves w caller first kind → IsStillValid w v caller second
     → Acts v caller second (cap_at w caller) kind
 acts w v caller first second kind serves may =
-    let both : Some serves.cap ≡ Some may.before = sym serves.is_there ∙ may.had in
     let same : serves.cap ≡ may.before = cc in
     let valid = may.valid in
     record {
@@ -85,8 +56,7 @@ acts w v caller first second kind serves may =
           ∙ serves.of_kind;
       late = grind (arith, nat_tests, valid);
       early = grind (arith, nat_tests, valid);
-      account = λ old is. let again : Some old ≡ Some may.before = sym is ∙ may.had in
-          let itself : old ≡ may.before = cc in
+      account = λ old is. let itself : old ≡ may.before = cc in
           ap (λ (c : Cap). c.account) itself ∙ sym may.account;
     }
 
@@ -103,32 +73,25 @@ marked_already : (block : SizedPrefix) (private old : Bool) → old ≡ private
     → private_rule block private old ≡ Same
 marked_already block true true is = refl
 marked_already block false false is = refl
-marked_already block true false is = absurd (cc)
-marked_already block false true is = absurd (cc)
+marked_already block private old is = absurd (cc)
 
 -- and so is an entry with the mark that is asked for
 held_already : (place : Place) (held old : Bool) (now : Status) → old ≡ held
     → mark_rule place held old now ≡ Ok Same
 held_already place true true now is = refl
 held_already place false false now is = refl
-held_already place true false now is = absurd (cc)
-held_already place false true now is = absurd (cc)
+held_already place held old now is = absurd (cc)
 
 -- and a link that is there, or is not, as is said
 said_already : (link : Link) (reads there : Bool) → there ≡ reads
     → link_rule link reads there ≡ Same
 said_already link true true is = refl
 said_already link false false is = refl
-said_already link true false is = absurd (cc)
-said_already link false true is = absurd (cc)
+said_already link reads there is = absurd (cc)
 
 -- other texts are not the same
 apart : (a b : List ℕ) → ¬ (a ≡ b) → same_text a b ≡ false
-apart a b other = by (same_text a b) refl
-  where
-    by : (t : Bool) → same_text a b ≡ t → t ≡ false
-    by false t = refl
-    by true t = absurd (other ((bytes_eq-Decides a b).0 t))
+apart a b other = false_from_ne_true (same_text a b) (λ t. other ((bytes_eq-Decides a b).0 t))
 
 -- a row that is there
 row_of : {X : Type 0} (existing : Option X) → IsSome existing → (x : X) × (existing ≡ Some x)
@@ -156,10 +119,8 @@ module _ (digest_of : List ℕ → List ℕ) (v : World) (moment : ℕ) (now : i
         rw now (tells.Names (keys v.registries), refl)
     public_again (Registry name) (tells.Page shown) so =
         (tells.Page (page (published v) name shown.table (utc_day moment)), rw (now, so.1) refl)
-    public_again (RegistryListing name) (tells.Listing shown) so = (
-      tells.Listing (page (published v) name shown.table (utc_day moment)),
-      rw (now, so.1) refl,
-    )
+    public_again (RegistryListing name) (tells.Listing shown) so =
+        (tells.Listing (page (published v) name shown.table (utc_day moment)), rw (now, so.1) refl)
     public_again PoolList (tells.Pool prefixes) so = rw now (tells.Pool (keys v.pool), refl)
     public_again BlockListing (tells.Blocks rows) so =
         rw now (tells.Blocks (listed_rows (published v).blocks), refl)
@@ -192,32 +153,22 @@ module _ (digest_of : List ℕ → List ℕ) (v : World) (moment : ℕ) (now : i
       own_again : (command : ApplicantCommand) (told : Told)
           → IsDone digest_of v by first (Applicant command) told
           → OnlyTells (answer_to digest_of v caller moment (Applicant command))
-      own_again Own (tells.Rows rows) so = (
-        tells.Rows (request_rows (requests_of may.cap.account v)),
-        acting Own,
-      )
+      own_again Own (tells.Rows rows) so = (_, acting Own)
       own_again (OwnOne reference) (tells.Row row) so = (
         own_row (may.cap.account, reference) (case_of row),
         acting (OwnOne reference)
             ∙ rw (own_request may.cap.account reference v, mine reference row so) refl,
       )
-      own_again (Submit reference ask) (tells.Made row) so = (
-        own_row (may.cap.account, reference) (case_of row),
-        submit_again reference ask (case_of row) (mine reference row so.1) so.0,
-      )
-      own_again (Submit reference ask) (tells.Row row) so = (
-        own_row (may.cap.account, reference) (case_of row),
-        submit_again reference ask (case_of row) (mine reference row so.1) so.0,
-      )
+      own_again (Submit reference ask) (tells.Made row) so =
+          (_, submit_again reference ask (case_of row) (mine reference row so.1) so.0)
+      own_again (Submit reference ask) (tells.Row row) so =
+          (_, submit_again reference ask (case_of row) (mine reference row so.1) so.0)
       own_again (Withdraw reference) (tells.Row row) so = (
         own_row (may.cap.account, reference) (case_of row),
         acting (Withdraw reference)
             ∙ rw (own_request may.cap.account reference v, mine reference row so.1, so.0) refl,
       )
-      own_again Holdings (tells.Holdings rows) so = (
-        tells.Holdings (holding_rows (holdings_of may.cap.account v)),
-        acting Holdings,
-      )
+      own_again Holdings (tells.Holdings rows) so = (_, acting Holdings)
       own_again (SetListing block private) (tells.Held row) so =
           let h = holder_in row in
           let at = subst (λ b. get v.blocks b ≡ Some h) so.0 so.4.1 in
@@ -241,14 +192,8 @@ module _ (digest_of : List ℕ → List ℕ) (v : World) (moment : ℕ) (now : i
                       (contains_key (agents_of may.cap.account v) (may.cap.account, agent)) there,
                 ) refl,
           )
-      own_again Agents (tells.Accounts names) so = (
-        tells.Accounts (agent_rows (agents_of may.cap.account v)),
-        acting Agents,
-      )
-      own_again Principals (tells.Accounts names) so = (
-        tells.Accounts (principal_names (principals_of may.cap.account v)),
-        acting Principals,
-      )
+      own_again Agents (tells.Accounts names) so = (_, acting Agents)
+      own_again Principals (tells.Accounts names) so = (_, acting Principals)
       own_again (PrincipalRows principal) (tells.Rows rows) so =
           let there =
           subst (λ a. contains_key v.agents (principal, a) ≡ true) (may.account so.0 so.1) so.2 in
@@ -287,6 +232,12 @@ module _ (digest_of : List ℕ → List ℕ) (v : World) (moment : ℕ) (now : i
       expert_again command told so = absurd so
 
   module _ (digest : List ℕ) (may : Acts v (Some digest) moment by kind.Clerk) where
+    -- who may act is answered by the rules for clerks
+    serving : (command : ClerkCommand)
+        → answer_to digest_of v (Some digest) moment (Clerk command)
+        ≡ clerk_answer digest_of v digest moment (utc_day moment) command
+    serving command = rw (now, may.is_there, may.of_kind, may.early) refl
+
     -- an approved request is answered as it is
     pub approve_again : (account reference : List ℕ) (case : Case) (given : Given)
         → get v.requests (account, reference) ≡ Some case → case.state ≡ Approved given
@@ -297,94 +248,60 @@ module _ (digest_of : List ℕ → List ℕ) (v : World) (moment : ℕ) (now : i
 
     -- a token that has no capability is not the caller's
     other_token : (token : List ℕ) → get v.caps token ≡ None → same_text digest token ≡ false
-    other_token token none = by_sameness (same_text digest token) refl
-      where
-        by_sameness : (b : Bool) → same_text digest token ≡ b → b ≡ false
-        by_sameness false is = refl
-        by_sameness true is =
-            let same : digest ≡ token = (bytes_eq-Decides digest token).0 is in
-            let gone : get v.caps digest ≡ None = ap (get v.caps) same ∙ none in
-            let has = may.is_there in
-            absurd (cc)
+    other_token token none = false_from_ne_true (same_text digest token) (λ is.
+        let gone = ap (get v.caps) ((bytes_eq-Decides digest token).0 is) ∙ none in
+        cc)
 
     clerk_again : (command : ClerkCommand) (told : Told)
         → IsDone digest_of v by first (Clerk command) told
         → OnlyTells (answer_to digest_of v (Some digest) moment (Clerk command))
-    clerk_again AllRequests (tells.Desks rows) so = (
-      tells.Desks (request_rows v.requests),
-      rw (now, may.is_there, may.of_kind, may.early) refl,
+    clerk_again AllRequests (tells.Desks rows) so = (_, serving AllRequests)
+    clerk_again (OneRequest account reference) (tells.Filed of) so = (
+      tells.Filed (file v (account, reference) (case_of of.request)),
+      serving (OneRequest account reference) ∙ rw (row_at v account reference of.request so.0) refl,
     )
-    clerk_again (OneRequest account reference) (tells.Filed of) so =
-        let is = row_at v account reference of.request so.0 in (
-          tells.Filed (file v (account, reference) (case_of of.request)),
-          rw (now, may.is_there, may.of_kind, may.early, is) refl,
-        )
-    clerk_again (AssignExpert account reference expert) (tells.Desk row) so =
-        let is = row_at v account reference row so.1 in (
-          desk_row (account, reference) (case_of row),
-          rw (now, may.is_there, may.of_kind, may.early, is, so.0) refl,
-        )
-    clerk_again (Approve account reference) (tells.Desk row) so = (
-      desk_row (account, reference) (in_state (Approved so.0.0) (case_of row)),
-      approve_again account reference (case_of row) so.0.0
-          (row_at v account reference row so.1) so.0.1,
+    clerk_again (AssignExpert account reference expert) (tells.Desk row) so = (
+      desk_row (account, reference) (case_of row),
+      serving (AssignExpert account reference expert)
+          ∙ rw (row_at v account reference row so.1, so.0) refl,
     )
-    clerk_again (Decline account reference reason) (tells.Desk row) so =
-        let is = row_at v account reference row so.1 in (
-          desk_row (account, reference) (case_of row),
-          rw (now, may.is_there, may.of_kind, may.early, is, so.0, same_text-itself reason) refl,
-        )
+    clerk_again (Approve account reference) (tells.Desk row) so =
+        let is = row_at v account reference row so.1 in
+        (_, approve_again account reference (case_of row) so.0.0 is so.0.1)
+    clerk_again (Decline account reference reason) (tells.Desk row) so = (
+      desk_row (account, reference) (case_of row),
+      serving (Decline account reference reason)
+          ∙ rw (row_at v account reference row so.1, so.0, same_text-itself reason) refl,
+    )
     clerk_again (SetHold name value held) (tells.Marked row) so =
         let table = row_of (get v.registries name) so.registry in (
           tells.Marked (page_entry (utc_day moment) value (with_hold held so.entry)),
-          rw (
-            now,
-            may.is_there,
-            may.of_kind,
-            may.early,
-            table.1,
-            so.standing,
-            so.expires,
-            held_already (name, value) held so.entry.term.held
-                (status_on so.entry.term (utc_day moment)) so.mark,
-          ) refl,
+          serving (SetHold name value held)
+              ∙ rw (
+                table.1,
+                so.standing,
+                so.expires,
+                held_already (name, value) held
+                    so.entry.term.held (status_on so.entry.term (utc_day moment)) so.mark,
+              ) refl,
         )
-    clerk_again (Define name table) (tells.Defined given) so = (
-      tells.Defined name,
-      rw (now, may.is_there, may.of_kind, may.early, so.1, same_table-itself table) refl,
-    )
+    clerk_again (Define name table) (tells.Defined given) so =
+        (tells.Defined name, serving (Define name table) ∙ rw (so.1, same_table-itself table) refl)
     clerk_again (AddPool prefix) (tells.Pooled given) so =
         (tells.Pooled prefix, rw (now, may.is_there, may.of_kind, may.early, so.1, so.2) refl)
-    clerk_again (Grant token cap) (tells.Granted given) so = (
-      tells.Granted cap,
-      rw (now, may.is_there, may.of_kind, may.early, so.1, same_cap-itself cap) refl,
-    )
-    clerk_again (Revoke token) tells.Revoked so = (
-      tells.Revoked,
-      rw (now, may.is_there, may.of_kind, may.early, other_token (digest_of token) so, so) refl,
-    )
-    clerk_again PendingRequests (tells.Cases files) so = (
-      tells.Cases (waiting_files v),
-      rw (now, may.is_there, may.of_kind, may.early) refl,
-    )
-    clerk_again AllCapabilities (tells.Capabilities rows) so = (
-      tells.Capabilities (cap_list v.caps),
-      rw (now, may.is_there, may.of_kind, may.early) refl,
-    )
+    clerk_again (Grant token cap) (tells.Granted given) so =
+        (tells.Granted cap, serving (Grant token cap) ∙ rw (so.1, same_cap-itself cap) refl)
+    clerk_again (Revoke token) tells.Revoked so =
+        (tells.Revoked, serving (Revoke token) ∙ rw (other_token (digest_of token) so, so) refl)
+    clerk_again PendingRequests (tells.Cases files) so = (_, serving PendingRequests)
+    clerk_again AllCapabilities (tells.Capabilities rows) so = (_, serving AllCapabilities)
     clerk_again (RevokeDigits digits) (tells.Capabilities rows) so =
-        let none = none_are (begins_with digits) v.caps so.none in (
-          tells.Capabilities [],
-          rw (now, may.is_there, may.of_kind, may.early, none) refl,
-        )
+        let none = none_are (begins_with digits) v.caps so.none in
+        (tells.Capabilities [], serving (RevokeDigits digits) ∙ rw none refl)
     clerk_again (RevokeAccount account) (tells.Capabilities rows) so =
-        let none = none_are (is_of account) v.caps so.none in (
-          tells.Capabilities [],
-          rw (now, may.is_there, may.of_kind, may.early, none) refl,
-        )
-    clerk_again CountRows (tells.Counts given) so = (
-      tells.Counts (counts moment (utc_day moment) v),
-      rw (now, may.is_there, may.of_kind, may.early) refl,
-    )
+        let none = none_are (is_of account) v.caps so.none in
+        (tells.Capabilities [], serving (RevokeAccount account) ∙ rw none refl)
+    clerk_again CountRows (tells.Counts given) so = (_, serving CountRows)
     clerk_again command told so = absurd so
 
 -- ---- The law

@@ -1,39 +1,24 @@
 -- What stays is answered alike in two worlds that agree but for requests unseen by an account.
 use Rattle.std.proofs.Common.{◌≡◌, ℕ, Bool, true, false, ◌||◌, not, List, refl, ap, subst}
 use Rattle.std.specs.Prelude.{Option, Some, None, Result, Ok, Err, option_map, nat_lt, if◌then◌else◌}
-use Rattle.std.specs.Cmp.{first_so, second_so}
-use Rattle.std.specs.FinMap.{get}
-use Rattle.std.proofs.lemmas.Bool.{and_left, and_right, both_ways, not-false}
-use Rattle.reg_maps.specs.Maps.{same_text}
+use Rattle.reg_decisions.proofs.Common.{first_so, second_so, get, and_left, and_right, both_ways, not-false}
+use Rattle.reg_decisions.proofs.Common.{same_text, is_in_clock, utc_day, Answer, reply_of, change_of}
+use Rattle.reg_decisions.proofs.Common.{admitted, as_kind, own_answer, expert_answer, same_kind, seats_of}
+use Rattle.reg_decisions.proofs.Common.{Event, is_clerk, acts_as_clerk, clerk_answer, answer_to, about}
+use Rattle.reg_decisions.proofs.Common.{is_outside, speaks_for, is_hidden, Personal, published, personal}
+use Rattle.reg_decisions.proofs.Common.{cap_at, with_personal, requests_of, queue_of, principals_of, World}
+use Rattle.reg_decisions.proofs.Common.{RequestName, Cap, Kind, Command, ApplicantCommand, ExpertCommand}
+use Rattle.reg_decisions.proofs.Common.{ClerkCommand, Refusal, Accepted, same_kind-is}
 use Rattle.reg_maps.proofs.HiddenKeys.{AgreeBut}
-use Rattle.reg_early.specs.Moment.{is_in_clock, utc_day}
 use Rattle.reg_core.specs.Allowance.{◌>>=◌, or_refusal}
-use Rattle.reg_core.specs.Answer.{Answer, reply_of, change_of, admitted, as_kind, own_answer, expert_answer}
-use Rattle.reg_core.specs.Capability.{same_kind}
-use Rattle.reg_core.specs.File.{seats_of}
-use Rattle.reg_core.specs.Run.{Event}
-use Rattle.reg_core.specs.Step.{is_clerk, acts_as_clerk, clerk_answer, answer_to}
 use Rattle.reg_core.specs.Striking.{is_others, reply_lists_others, reply_without}
-use Rattle.reg_core.specs.Command.{about}
-use Rattle.reg_core.specs.Unseen.{is_outside, speaks_for, is_hidden}
-use Rattle.reg_core.specs.View.{Personal, published, personal, cap_at, with_personal, requests_of, queue_of, principals_of}
-use Rattle.reg_core.specs.World.{World, RequestName}
-use Rattle.reg_core.specs.declared.capability.Cap.{Cap}
-use Rattle.reg_core.specs.declared.capability.Kind.{Kind}
 use Rattle.reg_core.specs.declared.capability.Kind.TheVariants as kind
-use Rattle.reg_core.specs.declared.command.Command.{Command}
 use Rattle.reg_core.specs.declared.command.Command.TheVariants as command
-use Rattle.reg_core.specs.declared.command.ApplicantCommand.{ApplicantCommand}
 use Rattle.reg_core.specs.declared.command.ApplicantCommand.TheVariants.{Own, OwnOne, Submit, Withdraw, PrincipalRows}
-use Rattle.reg_core.specs.declared.command.ExpertCommand.{ExpertCommand}
 use Rattle.reg_core.specs.declared.command.ExpertCommand.TheVariants.{Queue, Advise}
-use Rattle.reg_core.specs.declared.command.ClerkCommand.{ClerkCommand}
 use Rattle.reg_core.specs.declared.command.ClerkCommand.TheVariants.{AllRequests, OneRequest, AssignExpert, Approve, Decline, PendingRequests}
 use Rattle.reg_core.specs.declared.told.Told.TheVariants as tells
-use Rattle.reg_core.specs.declared.refusal.Refusal.{Refusal}
 use Rattle.reg_core.specs.declared.refusal.Refusal.TheVariants as no
-use Rattle.reg_core.specs.declared.reply.Reply.TheVariants.{Accepted}
-use Rattle.reg_core.proofs.SamenessIsDecided.{same_kind-is}
 use Rattle.reg_laws.proofs.Striking.Lists.{same_requests, same_queue, same_files}
 use Rattle.reg_laws.proofs.Striking.Views.{own_agree, queue_agree, rows_agree, seats_same, personal_same}
 use Rattle.reg_laws.proofs.Striking.Worlds.{with_requests_of, agree_rest, Unaware}

@@ -1,37 +1,22 @@
 -- Lists of requests without the hidden ones: maps that agree but for those, and where none is.
 use Rattle.std.proofs.Common.{◌≡◌, ℕ, Bool, true, false, cond, not, List, [], ◌∷◌, map, refl, sym, ap, subst, ◌∙◌}
 use Rattle.std.specs.Prelude.{Option, Some, None, Ok, Err, option_and_then}
-use Rattle.std.specs.FinMap.{FinMap, get, entries}
-use Rattle.reg_maps.proofs.MapLaws.{get-select}
+use Rattle.reg_decisions.proofs.Common.{FinMap, get, entries, get-select, utc_day, Answer, Outcome, reply_of}
+use Rattle.reg_decisions.proofs.Common.{made_row, file, name_of, waiting, waiting_files, queue_row}
+use Rattle.reg_decisions.proofs.Common.{queue_rows, request_row, request_rows, Event, answer_to, Queued}
+use Rattle.reg_decisions.proofs.Common.{queued_to, requests_of, queue_of, World, RequestName, name_cmp, Ask}
+use Rattle.reg_decisions.proofs.Common.{Command, ApplicantCommand, ExpertCommand, ClerkCommand, PublicCommand}
+use Rattle.reg_decisions.proofs.Common.{Case, Request, name_keys, Accepted}
 use Rattle.reg_maps.proofs.HiddenKeys.{AgreeBut, IsBare, both_select, plain_rows, same_rows}
-use Rattle.reg_early.specs.Moment.{utc_day}
-use Rattle.reg_core.specs.Answer.{Answer, Outcome, reply_of, made_row}
-use Rattle.reg_core.specs.File.{file, name_of, waiting, waiting_files}
-use Rattle.reg_core.specs.Queue.{queue_row, queue_rows}
-use Rattle.reg_core.specs.Request.{request_row, request_rows}
-use Rattle.reg_core.specs.Run.{Event}
-use Rattle.reg_core.specs.Step.{answer_to}
-use Rattle.reg_core.specs.Striking.{HasNone, requests_without, queue_without, files_without, told_without, reply_without}
-use Rattle.reg_core.specs.View.{Queued, queued_to, requests_of, queue_of}
-use Rattle.reg_core.specs.World.{World, RequestName, name_cmp}
-use Rattle.reg_core.specs.declared.ask.Ask.{Ask}
-use Rattle.reg_core.specs.declared.command.Command.{Command}
+use Rattle.reg_core.specs.Striking.{HasNoneUnseen, requests_without, queue_without, files_without, told_without, reply_without}
 use Rattle.reg_core.specs.declared.command.Command.TheVariants.{Public, Applicant, Expert, Clerk}
-use Rattle.reg_core.specs.declared.command.ApplicantCommand.{ApplicantCommand}
-use Rattle.reg_core.specs.declared.command.ApplicantCommand.TheVariants.{Own, OwnOne, Submit, Withdraw, Holdings, SetListing, SetAgent, Agents, Principals, PrincipalRows}
-use Rattle.reg_core.specs.declared.command.ExpertCommand.{ExpertCommand}
+use Rattle.reg_core.specs.declared.command.ApplicantCommand.TheVariants.{Own, OwnOne, Submit, Withdraw, Holdings, SetListing, Agents, Principals, PrincipalRows}
 use Rattle.reg_core.specs.declared.command.ExpertCommand.TheVariants.{Queue, Advise}
-use Rattle.reg_core.specs.declared.command.ClerkCommand.{ClerkCommand}
 use Rattle.reg_core.specs.declared.command.ClerkCommand.TheVariants.{AllRequests, OneRequest, AssignExpert, Approve, Decline, SetHold, PendingRequests, AllCapabilities, CountRows}
-use Rattle.reg_core.specs.declared.command.PublicCommand.{PublicCommand}
-use Rattle.reg_core.specs.declared.command.PublicCommand.TheVariants.{Registries, Registry, RegistryListing, PoolList, BlockListing}
+use Rattle.reg_core.specs.declared.command.PublicCommand.TheVariants.{Registry, RegistryListing}
 use Rattle.reg_core.specs.declared.told.Told.TheVariants as tells
 use Rattle.reg_core.specs.declared.case_file.CaseFile.{CaseFile}
 use Rattle.reg_core.specs.declared.queue.QueueRow.{QueueRow}
-use Rattle.reg_core.specs.declared.reply.Reply.TheVariants.{Accepted}
-use Rattle.reg_core.specs.declared.request.Case.{Case}
-use Rattle.reg_core.specs.declared.request.Request.{Request}
-use Rattle.reg_core.proofs.KeyOrders.{name_keys}
 use Rattle.reg_decisions.proofs.Outcomes.Accepted.{PublicSo, OwnSo, ExpertSo, ClerkSo, CommandSo, accepted}
 
 module _ (hidden : RequestName → Bool) where
@@ -88,7 +73,7 @@ module _ (hidden : RequestName → Bool) where
 
 -- ---- No hidden request
 
-module _ (hidden : RequestName → Bool) (v : World) (none : HasNone hidden v) where
+module _ (hidden : RequestName → Bool) (v : World) (none : HasNoneUnseen hidden v) where
   own_bare : (account : List ℕ) → IsBare hidden (requests_of account v)
   own_bare account name h =
       get-select name_keys _ v.requests name ∙ ap (option_and_then _) (none name h)
@@ -115,11 +100,9 @@ module _ (hidden : RequestName → Bool) (v : World) (none : HasNone hidden v) w
 
   public_plain : (today : ℕ) (given : PublicCommand) (o : Outcome)
       → PublicSo v today given o → IsPlain o
-  public_plain today Registries o so = plain so refl
   public_plain today (Registry name) o so = plain so.so refl
   public_plain today (RegistryListing name) o so = plain so.so refl
-  public_plain today PoolList o so = plain so refl
-  public_plain today BlockListing o so = plain so refl
+  public_plain today given o so = plain so refl
 
   made_plain : (name : RequestName) (ask : Ask) (existing : Option Case)
       → told_without hidden (made_row name ask existing) ≡ made_row name ask existing
@@ -136,11 +119,11 @@ module _ (hidden : RequestName → Bool) (v : World) (none : HasNone hidden v) w
   own_plain of (Withdraw reference) o so = plain so.so.is refl
   own_plain of Holdings o so = plain so refl
   own_plain of (SetListing block private) o so = plain so.so.is refl
-  own_plain of (SetAgent agent reads) o so = plain so.is refl
   own_plain of Agents o so = plain so refl
   own_plain of Principals o so = plain so refl
   own_plain of (PrincipalRows principal) o so =
       plain so.so (ap tells.Rows (plain_requests (requests_of principal v) (own_bare principal)))
+  own_plain of given o so = plain so.is refl
 
   expert_plain : (of : List ℕ) (given : ExpertCommand) (o : Outcome)
       → ExpertSo v of given o → IsPlain o

@@ -2,27 +2,17 @@
 use Rattle.std.proofs.Common.{◌≡◌, ℕ, Bool, true, false, not, List, refl, sym, ap, ◌∙◌, inl, inr}
 use Rattle.std.specs.Prelude.{Option, Some, None, is_some}
 use Rattle.std.specs.FinMap.{FinMap, get, insert, contains_key}
-use Rattle.std.proofs.lemmas.Bool.{and_parts, or_cases, both_ways, not-true, cases_Bool}
-use Rattle.std.proofs.lemmas.Slice.Eq.{bytes_eq-Decides}
-use Rattle.reg_maps.specs.Maps.{same_text, update}
+use Rattle.reg_decisions.proofs.Common.{and_parts, or_cases, both_ways, not-true, cases_Bool}
+use Rattle.reg_decisions.proofs.Common.{bytes_eq-Decides, same_text, update, change_of, Event, about}
+use Rattle.reg_decisions.proofs.Common.{is_outside, speaks_for, is_hidden, cap_at, World, RequestName}
+use Rattle.reg_decisions.proofs.Common.{name_cmp, in_state, pending, applied, applied_if, Kind, Change, Case}
+use Rattle.reg_decisions.proofs.Common.{Approved, Declined, Withdrawn, name_keys, same_kind-is}
 use Rattle.reg_maps.proofs.HiddenKeys.{one_insert, one_update}
-use Rattle.reg_core.specs.Answer.{change_of}
-use Rattle.reg_core.specs.Run.{Event}
-use Rattle.reg_core.specs.Command.{about}
-use Rattle.reg_core.specs.Unseen.{is_outside, speaks_for, is_hidden}
-use Rattle.reg_core.specs.View.{cap_at}
-use Rattle.reg_core.specs.World.{World, RequestName, name_cmp, in_state, pending, applied, applied_if}
-use Rattle.reg_core.specs.declared.capability.Kind.{Kind}
 use Rattle.reg_core.specs.declared.capability.Kind.TheVariants as kind
-use Rattle.reg_core.specs.declared.change.Change.{Change}
 use Rattle.reg_core.specs.declared.change.Change.TheVariants.{Submit, Close, Assign, Advise, GiveValue, GiveBlock}
-use Rattle.reg_core.specs.declared.request.Case.{Case}
-use Rattle.reg_core.specs.declared.request.State.TheVariants.{Pending, Approved, Declined, Withdrawn}
 use Rattle.reg_core.specs.declared.request.Given.TheVariants.{Value, Block}
 use Rattle.reg_decisions.proofs.Outcomes.Accepted.{Serves, ClerkServes}
 use Rattle.reg_decisions.proofs.Outcomes.Dues.{Due, IsApplicant, IsExpert, change_about, changes_due}
-use Rattle.reg_core.proofs.SamenessIsDecided.{same_kind-is}
-use Rattle.reg_core.proofs.KeyOrders.{name_keys}
 use Rattle.reg_laws.proofs.Striking.Answers.{Stays, answer_at}
 use Rattle.reg_laws.proofs.Striking.Worlds.{IsOfHidden, Unaware}
 
@@ -60,10 +50,9 @@ module _
   no_hidden : (change : Change) → Due w e.caller e.moment change
       → is_hidden hidden (change_about change) ≡ true → ⊥
   no_hidden (Submit applicant reference ask) due h = no_applicant (applicant, reference) h due.0
-  no_hidden (Close applicant reference Pending) due h = due.1
-  no_hidden (Close applicant reference (Approved given)) due h = due.1
   no_hidden (Close applicant reference (Declined reason)) due h = no_clerk due.1
   no_hidden (Close of reference Withdrawn) due h = no_applicant (of, reference) h due.1
+  no_hidden (Close applicant reference state) due h = due.1
   no_hidden (Assign applicant reference expert) due h = no_clerk due.0
   no_hidden (Advise applicant reference of advice) due h =
       no_expert (applicant, reference) of h due.0 due.2

@@ -1,18 +1,13 @@
 -- Two worlds that agree but for requests that an account does not see show the account the same.
 use Rattle.std.proofs.Common.{◌≡◌, ℕ, Bool, true, false, List, refl, sym, ap, ◌∙◌, inl, inr}
 use Rattle.std.specs.Prelude.{Option, Some, None, option_map, is_some}
-use Rattle.std.specs.FinMap.{FinMap, get, contains_key}
-use Rattle.std.proofs.lemmas.Bool.{or_cases, both_ways}
-use Rattle.std.proofs.lemmas.Slice.Eq.{bytes_eq-Decides}
-use Rattle.reg_maps.specs.Maps.{same_text, only_if}
+use Rattle.reg_decisions.proofs.Common.{FinMap, get, contains_key, or_cases, both_ways, bytes_eq-Decides}
+use Rattle.reg_decisions.proofs.Common.{same_text, only_if, same_name, seats_of, published, personal}
+use Rattle.reg_decisions.proofs.Common.{requests_of, requests_by, queue_of, principal_rows_of, queued_to}
+use Rattle.reg_decisions.proofs.Common.{as_queued, cap_at, with_personal, World, RequestName, Seat, seat_cmp}
+use Rattle.reg_decisions.proofs.Common.{Cap, Case, name_keys, seat_keys}
 use Rattle.reg_maps.proofs.HiddenKeys.{AgreeBut, NoneAt, ChooseAlike, both_select, same_select}
-use Rattle.reg_core.specs.File.{same_name, seats_of}
 use Rattle.reg_core.specs.Striking.{has_account, ShowSame}
-use Rattle.reg_core.specs.View.{published, personal, requests_of, requests_by, queue_of, principal_rows_of, queued_to, as_queued, cap_at, with_personal}
-use Rattle.reg_core.specs.World.{World, RequestName, Seat, seat_cmp}
-use Rattle.reg_core.specs.declared.capability.Cap.{Cap}
-use Rattle.reg_core.specs.declared.request.Case.{Case}
-use Rattle.reg_core.proofs.KeyOrders.{name_keys, seat_keys}
 use Rattle.reg_decisions.proofs.Files.{same_name-is}
 use Rattle.reg_laws.proofs.Striking.Worlds.{at_seat, Agree, Blind, Unaware}
 

@@ -5,39 +5,24 @@ use Rattle.std.specs.FinMap as map
 use Rattle.std.specs.FinMap.{get, contains_key, get-insert, get-empty}
 use Rattle.std.specs.List.{list_any}
 use Rattle.std.specs.Prelude.{Some, None, Ok, Err, codes, filter}
-use Rattle.reg_maps.specs.Maps.{same_text}
-use Rattle.reg_maps.proofs.MapLaws.{text_keys, get-inserted}
-use Rattle.reg_early.specs.Moment.{utc_day}
-use Rattle.reg_early.specs.Terms.{permanent_term}
-use Rattle.reg_ranges.specs.Tables.{Table}
+use Rattle.reg_decisions.proofs.Common.{same_text, text_keys, get-inserted, utc_day, permanent_term, Table}
+use Rattle.reg_decisions.proofs.Common.{Answer, reply_of, change_of, desk_row, clerk_cap, founded_world}
+use Rattle.reg_decisions.proofs.Common.{request_row, Event, run, answer_to, Stage, stages, reveals_if}
+use Rattle.reg_decisions.proofs.Common.{stays_in, struck, requests_of, World, RequestName, applied}
+use Rattle.reg_decisions.proofs.Common.{applied_if, pending, name_cmp, place_cmp, seat_cmp, link_cmp, Ask}
+use Rattle.reg_decisions.proofs.Common.{Cap, Command, Told, Entry, Approved, Declined, State, name_keys}
 use Rattle.reg_ranges.specs.declared.policy.Policy.TheVariants.{FirstComeFirstServed}
 use Rattle.reg_ranges.specs.declared.policy.Treatment.TheVariants.{Under}
-use Rattle.reg_core.specs.Answer.{Answer, reply_of, change_of, desk_row}
-use Rattle.reg_core.specs.Laws.{clerk_cap, founded_world}
-use Rattle.reg_core.specs.Request.{request_row}
-use Rattle.reg_core.specs.Run.{Event, run}
-use Rattle.reg_core.specs.Step.{answer_to}
-use Rattle.reg_core.specs.Unseen.{Stage, stages, reveals_if, stays_in, struck}
-use Rattle.reg_core.specs.View.{requests_of}
-use Rattle.reg_core.specs.World.{World, RequestName, applied, applied_if, pending, name_cmp, place_cmp, seat_cmp, link_cmp}
 use Rattle.reg_core.specs.declared.ask.Ask.TheVariants.{Code}
-use Rattle.reg_core.specs.declared.ask.Ask.{Ask}
 use Rattle.reg_core.specs.declared.ask.Want.TheVariants.{Value}
-use Rattle.reg_core.specs.declared.capability.Cap.{Cap}
 use Rattle.reg_core.specs.declared.capability.Kind.TheVariants as kind
 use Rattle.reg_core.specs.declared.change.Change.TheVariants as change
 use Rattle.reg_core.specs.declared.command.ApplicantCommand.TheVariants.{OwnOne, Submit}
 use Rattle.reg_core.specs.declared.command.ClerkCommand.TheVariants.{Approve, Decline}
 use Rattle.reg_core.specs.declared.command.Command.TheVariants.{Applicant, Clerk}
-use Rattle.reg_core.specs.declared.command.Command.{Command}
 use Rattle.reg_core.specs.declared.refusal.Refusal.TheVariants as no
-use Rattle.reg_core.specs.declared.told.Told.{Told}
 use Rattle.reg_core.specs.declared.told.Told.TheVariants.{Made}
-use Rattle.reg_core.specs.declared.entry.Entry.{Entry}
 use Rattle.reg_core.specs.declared.request.Given.TheVariants as given
-use Rattle.reg_core.specs.declared.request.State.TheVariants.{Approved, Declined}
-use Rattle.reg_core.specs.declared.request.State.{State}
-use Rattle.reg_core.proofs.KeyOrders.{name_keys}
 use Rattle.reg_decisions.proofs.Stepping.{own_request}
 
 abbrev clerk : List ℕ
@@ -55,8 +40,7 @@ cap_of account = record { account = account; kind = kind.Applicant; until = 1800
 abbrev colours : Table
 colours = record {
   max = 255;
-  ranges =
-      record { lo = 0; hi = 255; treatment = Under FirstComeFirstServed; note = None } ∷ [];
+  ranges = record { lo = 0; hi = 255; treatment = Under FirstComeFirstServed; note = None } ∷ [];
 }
 
 abbrev ask : Ask
@@ -159,8 +143,7 @@ answered w e a =
       event = e;
       reply = reply_of a;
       change = change_of a;
-      after =
-          applied_if w (change_of a);
+      after = applied_if w (change_of a);
     }
 
 -- the request in a state, as the desk sees it
@@ -171,8 +154,7 @@ abbrev submitted : Answer
 submitted = Ok
     (record {
       told = Made (request_row name (pending ask));
-      change =
-          Some (change.Submit (codes "alice") (codes "a-1") ask);
+      change = Some (change.Submit (codes "alice") (codes "a-1") ask);
     })
 
 submits_at : answers start submits ≡ submitted
@@ -189,8 +171,7 @@ abbrev declined : Answer
 declined = Ok
     (record {
       told = shown (Declined (codes "no"));
-      change =
-          Some (change.Close (codes "alice") (codes "a-1") (Declined (codes "no")));
+      change = Some (change.Close (codes "alice") (codes "a-1") (Declined (codes "no")));
     })
 
 declines_at : answers asked declines ≡ declined
@@ -210,8 +191,7 @@ abbrev approved : Answer
 approved = Ok
     (record {
       told = shown (Approved (given.Value 7));
-      change =
-          Some (change.GiveValue (codes "alice") (codes "a-1") red);
+      change = Some (change.GiveValue (codes "alice") (codes "a-1") red);
     })
 
 approves_at : answers asked approves ≡ approved

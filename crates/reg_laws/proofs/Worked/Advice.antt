@@ -2,36 +2,23 @@
 -- own digest here.
 use Rattle.std.proofs.Common.{◌≡◌, ℕ, true, false, List, [], ◌∷◌, refl, sym, ap, ◌∙◌}
 use Rattle.std.specs.Prelude.{Option, Some, None, Ok, Err, codes, is_some, option_and_then}
-use Rattle.std.specs.FinMap.{get}
-use Rattle.reg_maps.specs.Maps.{only_if}
-use Rattle.reg_core.specs.Advice.{is_advised}
-use Rattle.reg_core.specs.Allowance.{Ground, allowance_on, needs_advice}
-use Rattle.reg_core.specs.Award.{Allowance}
-use Rattle.reg_core.specs.Rules.{approve_rule}
-use Rattle.reg_core.specs.Step.{Stepped, step}
-use Rattle.reg_core.specs.View.{as_queued, queue_of, queued_to}
-use Rattle.reg_core.specs.World.{World, RequestName, applied, pending}
-use Rattle.reg_core.specs.declared.advice.Advice.{Advice}
+use Rattle.reg_decisions.proofs.Common.{get, only_if, is_advised, Ground, allowance_on, needs_advice}
+use Rattle.reg_decisions.proofs.Common.{Allowance, approve_rule, Stepped, step, as_queued, queue_of}
+use Rattle.reg_decisions.proofs.Common.{queued_to, World, RequestName, applied, pending, Advice, Ask, Cap}
+use Rattle.reg_decisions.proofs.Common.{Command, Told, Pending, Declined, clerk_cap, get-queue_of}
+use Rattle.reg_decisions.proofs.Common.{found_queued}
 use Rattle.reg_core.specs.declared.advice.Verdict.TheVariants.{For, Against}
-use Rattle.reg_core.specs.declared.ask.Ask.{Ask}
-use Rattle.reg_core.specs.declared.capability.Cap.{Cap}
 use Rattle.reg_core.specs.declared.capability.Kind.TheVariants.{Expert as ForExpert}
 use Rattle.reg_core.specs.declared.change.Change.TheVariants as change
-use Rattle.reg_core.specs.declared.command.Command.{Command}
 use Rattle.reg_core.specs.declared.command.Command.TheVariants.{Expert, Clerk}
 use Rattle.reg_core.specs.declared.command.ClerkCommand.TheVariants.{AssignExpert}
 use Rattle.reg_core.specs.declared.command.ExpertCommand.TheVariants.{Advise}
-use Rattle.reg_core.specs.declared.refusal.Refusal.{Refusal}
 use Rattle.reg_core.specs.declared.refusal.Refusal.TheVariants as no
-use Rattle.reg_core.specs.declared.told.Told.{Told}
 use Rattle.reg_core.specs.declared.told.Told.TheVariants.{Queued, Desk}
-use Rattle.reg_core.specs.declared.reply.Reply.TheVariants.{Accepted, Refused}
+use Rattle.reg_laws.proofs.Worked.FirstLines.{stays, tells}
 use Rattle.reg_decisions.proofs.Allowances.{allowance_needs}
-use Rattle.reg_core.specs.declared.request.State.TheVariants.{Pending, Declined}
 use Rattle.reg_core.specs.declared.request.StateWord.{StateWord}
 use Rattle.reg_core.specs.declared.request.StateWord.TheVariants as word
-use Rattle.reg_core.specs.Laws.{clerk_cap}
-use Rattle.reg_core.proofs.Queues.{get-queue_of, found_queued}
 
 abbrev alice : List ℕ
 alice = codes "alice"
@@ -59,12 +46,6 @@ xan_cap = record { account = xan; kind = ForExpert; until = 1800000000 }
 
 abbrev given : Command → World → Option (List ℕ) → Stepped
 given command w caller = step (λ token. token) w caller 1700000000 command
-
-abbrev stays : World → Refusal → Stepped
-stays w refusal = record { reply = Refused refusal; world = w }
-
-abbrev tells : World → Told → Stepped
-tells w told = record { reply = Accepted told; world = w }
 
 abbrev on_desk : Ask → Told
 on_desk ask =

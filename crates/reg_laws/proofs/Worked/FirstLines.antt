@@ -1,30 +1,22 @@
 -- The first lines of an office, worked out. A token stands for its own digest here.
-use Rattle.std.proofs.Common.{◌≡◌, ℕ, true, false, List, [], ◌∷◌, refl, sym, ap, ◌∙◌, length, arith}
+use Rattle.std.proofs.Common.{◌≡◌, ℕ, true, false, List, [], ◌∷◌, refl, sym, ap, ◌∙◌}
 use Rattle.std.specs.Prelude.{Option, Some, None, codes, filter_map}
 use Rattle.std.specs.FinMap as map
 use Rattle.std.specs.FinMap.{get, entries, entries-insert, put, get-insert, get-empty, len-entries, len-empty}
 use Rattle.std.specs.Ordering.{nat_cmp}
-use Rattle.reg_maps.specs.Maps.{text_cmp, keyed, same_text, only_if}
-use Rattle.reg_maps.proofs.MapLaws.{number_keys, text_keys, get-inserted, entries-select}
-use Rattle.reg_early.specs.Moment.{is_in_clock}
-use Rattle.reg_core.specs.Laws.{clerk_cap, founded_world}
-use Rattle.reg_core.specs.Run.{Event, run}
-use Rattle.reg_core.specs.Step.{Stepped, step}
-use Rattle.reg_core.specs.View.{requests_of}
-use Rattle.reg_core.specs.World.{World, name_cmp, applied}
-use Rattle.reg_core.specs.declared.capability.Cap.{Cap}
+use Rattle.std.proofs.lemmas.List.{nil_from_length}
+use Rattle.reg_decisions.proofs.Common.{text_cmp, keyed, same_text, only_if, number_keys, text_keys}
+use Rattle.reg_decisions.proofs.Common.{get-inserted, entries-select, is_in_clock, clerk_cap, founded_world}
+use Rattle.reg_decisions.proofs.Common.{Event, run, Stepped, step, requests_of, World, name_cmp, applied, Cap}
+use Rattle.reg_decisions.proofs.Common.{Command, Refusal, Told, Case, name_keys, Accepted, Refused}
 use Rattle.reg_core.specs.declared.capability.Kind.TheVariants.{Applicant}
 use Rattle.reg_core.specs.declared.change.Change.TheVariants as change
-use Rattle.reg_core.specs.declared.command.Command.{Command}
-use Rattle.reg_core.specs.declared.command.Command.TheVariants.{Public, Applicant, Expert, Clerk}
+use Rattle.reg_core.specs.declared.command.Command.TheVariants.{Public, Applicant, Clerk}
 use Rattle.reg_core.specs.declared.command.ApplicantCommand.TheVariants.{Own}
 use Rattle.reg_core.specs.declared.command.ClerkCommand.TheVariants.{AddPool, Grant, Revoke}
 use Rattle.reg_core.specs.declared.command.PublicCommand.TheVariants.{PoolList}
 use Rattle.reg_core.specs.declared.refusal.Refusal.TheVariants as no
 use Rattle.reg_core.specs.declared.told.Told.TheVariants.{Rows, Pool, Pooled, Granted}
-use Rattle.reg_core.specs.declared.reply.Reply.TheVariants.{Accepted, Refused}
-use Rattle.reg_core.specs.declared.request.Case.{Case}
-use Rattle.reg_core.proofs.KeyOrders.{name_keys}
 
 abbrev pub clerk : List ℕ
 clerk = codes "clerk-token-00001"
@@ -48,6 +40,13 @@ granted = applied office (change.Grant alice alice_cap)
 abbrev pub given : World → Option (List ℕ) → ℕ → Command → Stepped
 given = step (λ token. token)
 
+-- the world stays as it is after a refusal, and becomes this one after what the caller is told
+abbrev pub stays : World → Refusal → Stepped
+stays w refusal = record { reply = Refused refusal; world = w }
+
+abbrev pub tells : World → Told → Stepped
+tells w told = record { reply = Accepted told; world = w }
+
 -- ---- What the maps have
 
 office-clerk : get office.caps clerk ≡ Some clerk_cap
@@ -63,13 +62,9 @@ granted-clerk = get-insert text_keys.total office.caps alice alice_cap clerk ∙
 granted-alice : get granted.caps alice ≡ Some alice_cap
 granted-alice = get-inserted text_keys office.caps alice alice_cap
 
-pub none_long : {A : Type 0} (xs : List A) → length xs ≡ 0 → xs ≡ []
-none_long [] h = refl
-none_long (x ∷ xs) h = absurd (omega arith)
-
 no_requests : entries (requests_of (codes "alice") granted) ≡ []
 no_requests =
-    let none = none_long (entries granted.requests)
+    let none = nil_from_length (entries granted.requests)
     (sym (len-entries granted.requests) ∙ len-empty name_cmp Case) in
     entries-select name_keys
     (λ name case. only_if (same_text name.0 (codes "alice")) case) granted.requests
@@ -77,45 +72,38 @@ no_requests =
 
 -- ---- The lines
 
-without_a_token : given office None 1700000000 (Applicant Own)
-    ≡ record { reply = Refused no.Token; world = office }
+without_a_token : given office None 1700000000 (Applicant Own) ≡ stays office no.Token
 without_a_token = refl
 
 first_grant : given office (Some clerk) 1700000000 (Clerk (Grant alice alice_cap))
-    ≡ record { reply = Accepted (Granted alice_cap); world = granted }
+    ≡ tells granted (Granted alice_cap)
 first_grant = rw (office-clerk, office-alice) refl
 
-empty_list : given granted (Some alice) 1700000000 (Applicant Own)
-    ≡ record { reply = Accepted (Rows []); world = granted }
+empty_list : given granted (Some alice) 1700000000 (Applicant Own) ≡ tells granted (Rows [])
 empty_list = rw (granted-alice, no_requests) refl
 
 same_grant : given granted (Some clerk) 1700000000 (Clerk (Grant alice alice_cap))
-    ≡ record { reply = Accepted (Granted alice_cap); world = granted }
+    ≡ tells granted (Granted alice_cap)
 same_grant = rw (granted-clerk, granted-alice) refl
 
 other_grant : given granted (Some clerk) 1700000000 (Clerk (Grant alice bob_cap))
-    ≡ record { reply = Refused no.Exists; world = granted }
+    ≡ stays granted no.Exists
 other_grant = rw (granted-clerk, granted-alice) refl
 
-last_second : given granted (Some alice) 1799999999 (Applicant Own)
-    ≡ record { reply = Accepted (Rows []); world = granted }
+last_second : given granted (Some alice) 1799999999 (Applicant Own) ≡ tells granted (Rows [])
 last_second = rw (granted-alice, no_requests) refl
 
-too_late : given granted (Some alice) 1800000000 (Applicant Own)
-    ≡ record { reply = Refused no.Token; world = granted }
+too_late : given granted (Some alice) 1800000000 (Applicant Own) ≡ stays granted no.Token
 too_late = rw granted-alice refl
 
-clerks_own_list : given granted (Some clerk) 1700000000 (Applicant Own)
-    ≡ record { reply = Refused no.Kind; world = granted }
+clerks_own_list : given granted (Some clerk) 1700000000 (Applicant Own) ≡ stays granted no.Kind
 clerks_own_list = rw granted-clerk refl
 
 grant_by_an_applicant : given granted (Some alice) 1700000000
-    (Clerk (Grant (codes "other-token-00001") bob_cap))
-    ≡ record { reply = Refused no.Kind; world = granted }
+    (Clerk (Grant (codes "other-token-00001") bob_cap)) ≡ stays granted no.Kind
 grant_by_an_applicant = rw granted-alice refl
 
-token_in_use : given granted (Some clerk) 1700000000 (Clerk (Revoke clerk))
-    ≡ record { reply = Refused no.Own; world = granted }
+token_in_use : given granted (Some clerk) 1700000000 (Clerk (Revoke clerk)) ≡ stays granted no.Own
 token_in_use = rw granted-clerk refl
 
 clock : (is_in_clock 946684799 ≡ false) × (is_in_clock 946684800 ≡ true)
@@ -125,11 +113,9 @@ clock = (refl, refl, refl, refl)
 -- outside those years every command of every caller is refused, whatever the world
 closed : (w : World) (caller : Option (List ℕ)) (command : Command)
     → given w caller 946684799 command ≡ record { reply = Refused no.Clock; world = w }
-closed w caller (Public command) = refl
-closed w caller (Applicant command) = refl
-closed w caller (Expert command) = refl
 closed w None (Clerk command) = refl
 closed w (Some digest) (Clerk command) = refl
+closed w caller command = refl
 
 -- ---- The pool
 
@@ -158,7 +144,7 @@ pooled-low = get-insert number_keys.total office.pool high tt low ∙ no_prefix 
 
 no_prefixes : entries office.pool ≡ []
 no_prefixes =
-    none_long (entries office.pool) (sym (len-entries office.pool) ∙ len-empty nat_cmp (Unit {0}))
+    nil_from_length (entries office.pool) (sym (len-entries office.pool) ∙ len-empty nat_cmp (Unit {0}))
 
 high_alone : entries pooled.pool ≡ (high, tt) ∷ []
 high_alone =
@@ -168,42 +154,41 @@ low_and_high : entries both_pooled.pool ≡ (low, tt) ∷ (high, tt) ∷ []
 low_and_high =
     entries-insert number_keys.total pooled.pool low tt ∙ ap (put nat_cmp low tt) high_alone
 
-empty_pool : given office None 1700000000 (Public PoolList)
-    ≡ record { reply = Accepted (Pool []); world = office }
+empty_pool : given office None 1700000000 (Public PoolList) ≡ tells office (Pool [])
 empty_pool = rw no_prefixes refl
 
 first_prefix : given office (Some clerk) 1700000000 (Clerk (AddPool high))
-    ≡ record { reply = Accepted (Pooled high); world = pooled }
+    ≡ tells pooled (Pooled high)
 first_prefix = rw (office-clerk, no_prefix high) refl
 
 same_prefix : given pooled (Some clerk) 1700000000 (Clerk (AddPool high))
-    ≡ record { reply = Accepted (Pooled high); world = pooled }
+    ≡ tells pooled (Pooled high)
 same_prefix = rw (office-clerk, pooled-high) refl
 
 lower_prefix : given pooled (Some clerk) 1700000000 (Clerk (AddPool low))
-    ≡ record { reply = Accepted (Pooled low); world = both_pooled }
+    ≡ tells both_pooled (Pooled low)
 lower_prefix = rw (office-clerk, pooled-low) refl
 
 -- anybody is shown them ascending
 full_pool : given both_pooled None 1700000000 (Public PoolList)
-    ≡ record { reply = Accepted (Pool (low ∷ high ∷ [])); world = both_pooled }
+    ≡ tells both_pooled (Pool (low ∷ high ∷ []))
 full_pool = rw low_and_high refl
 
 -- 01-1A-2B has the I/G bit, 02-1A-2B the U/L bit, and 2^24 is no 24-bit number
 group_prefix : given office (Some clerk) 1700000000 (Clerk (AddPool 0x01_1A2B))
-    ≡ record { reply = Refused no.Bits; world = office }
+    ≡ stays office no.Bits
 group_prefix = rw office-clerk refl
 
 local_prefix : given office (Some clerk) 1700000000 (Clerk (AddPool 0x02_1A2B))
-    ≡ record { reply = Refused no.Bits; world = office }
+    ≡ stays office no.Bits
 local_prefix = rw office-clerk refl
 
 long_prefix : given office (Some clerk) 1700000000 (Clerk (AddPool 0x100_0000))
-    ≡ record { reply = Refused no.Bits; world = office }
+    ≡ stays office no.Bits
 long_prefix = rw office-clerk refl
 
 prefix_by_an_applicant : given granted (Some alice) 1700000000 (Clerk (AddPool low))
-    ≡ record { reply = Refused no.Kind; world = granted }
+    ≡ stays granted no.Kind
 prefix_by_an_applicant = rw granted-alice refl
 
 -- ---- The three lines of a new office in turn

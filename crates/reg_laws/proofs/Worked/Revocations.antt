@@ -1,22 +1,16 @@
 -- A clerk takes capabilities away without their tokens, worked out. A token stands for its own digest
 -- here.
-use Rattle.std.proofs.Common.{◌≡◌, List, ℕ, [], ◌∷◌, refl, sym, ap, ◌∙◌}
-use Rattle.std.specs.Prelude.{Some, codes}
+use Rattle.std.proofs.Common.{◌≡◌, List, ℕ, [], ◌∷◌, refl, sym, ap, ◌∙◌, Some, codes}
 use Rattle.std.specs.FinMap as map
 use Rattle.std.specs.FinMap.{get, entries, entries-insert, put, get-insert, len-entries, len-empty}
-use Rattle.reg_maps.specs.Maps.{text_cmp}
-use Rattle.reg_maps.proofs.MapLaws.{text_keys}
-use Rattle.reg_core.specs.CapRows.{cap_row}
-use Rattle.reg_core.specs.Laws.{clerk_cap}
-use Rattle.reg_core.specs.World.{World, applied}
-use Rattle.reg_core.specs.declared.capability.Cap.{Cap}
+use Rattle.std.proofs.lemmas.List.{nil_from_length}
+use Rattle.reg_decisions.proofs.Common.{text_cmp, text_keys, cap_row, clerk_cap, World, applied, Cap}
 use Rattle.reg_core.specs.declared.change.Change.TheVariants as change
 use Rattle.reg_core.specs.declared.command.Command.TheVariants.{Clerk}
 use Rattle.reg_core.specs.declared.command.ClerkCommand.TheVariants.{RevokeDigits, RevokeAccount}
 use Rattle.reg_core.specs.declared.refusal.Refusal.TheVariants as no
 use Rattle.reg_core.specs.declared.told.Told.TheVariants.{Capabilities}
-use Rattle.reg_core.specs.declared.reply.Reply.TheVariants.{Accepted, Refused}
-use Rattle.reg_laws.proofs.Worked.FirstLines.{clerk, alice, alice_cap, office, granted, given, granted-clerk, none_long}
+use Rattle.reg_laws.proofs.Worked.FirstLines.{clerk, alice, alice_cap, office, granted, given, stays, tells, granted-clerk}
 
 -- another token of the same account
 abbrev other : List ℕ
@@ -31,7 +25,7 @@ twice-clerk = get-insert text_keys.total granted.caps other alice_cap clerk ∙ 
 
 no_caps : entries (map.empty {X = Cap} {R = text_cmp}) ≡ []
 no_caps =
-    none_long (entries map.empty) (sym (len-entries map.empty) ∙ len-empty text_cmp Cap)
+    nil_from_length (entries map.empty) (sym (len-entries map.empty) ∙ len-empty text_cmp Cap)
 
 one_cap : entries office.caps ≡ (clerk, clerk_cap) ∷ []
 one_cap =
@@ -51,41 +45,34 @@ three_caps =
 
 one_by_digits : given twice (Some clerk) 1700000000
     (Clerk (RevokeDigits (codes "alice-token-00001")))
-    ≡ record {
-      reply = Accepted (Capabilities (cap_row alice alice_cap ∷ []));
-      world = applied twice (change.Revoke alice);
-    }
+    ≡ tells (applied twice (change.Revoke alice)) (Capabilities (cap_row alice alice_cap ∷ []))
 one_by_digits = rw (twice-clerk, three_caps) refl
 
 none_by_digits : given twice (Some clerk) 1700000000 (Clerk (RevokeDigits (codes "bob-token-0")))
-    ≡ record { reply = Accepted (Capabilities []); world = twice }
+    ≡ tells twice (Capabilities [])
 none_by_digits = rw (twice-clerk, three_caps) refl
 
 several_by_digits : given twice (Some clerk) 1700000000
-    (Clerk (RevokeDigits (codes "alice-token-0")))
-    ≡ record { reply = Refused no.Several; world = twice }
+    (Clerk (RevokeDigits (codes "alice-token-0"))) ≡ stays twice no.Several
 several_by_digits = rw (twice-clerk, three_caps) refl
 
 own_by_digits : given twice (Some clerk) 1700000000 (Clerk (RevokeDigits (codes "clerk-token-0")))
-    ≡ record { reply = Refused no.Own; world = twice }
+    ≡ stays twice no.Own
 own_by_digits = rw (twice-clerk, three_caps) refl
 
 -- the token in use is met before several are
-own_of_several : given twice (Some clerk) 1700000000 (Clerk (RevokeDigits []))
-    ≡ record { reply = Refused no.Own; world = twice }
+own_of_several : given twice (Some clerk) 1700000000 (Clerk (RevokeDigits [])) ≡ stays twice no.Own
 own_of_several = rw (twice-clerk, three_caps) refl
 
 all_of_an_account : given twice (Some clerk) 1700000000 (Clerk (RevokeAccount (codes "alice")))
-    ≡ record {
-      reply = Accepted (Capabilities (cap_row alice alice_cap ∷ cap_row other alice_cap ∷ []));
-      world = applied twice (change.RevokeAll (alice ∷ other ∷ []));
-    }
+    ≡ tells (applied twice (change.RevokeAll (alice ∷ other ∷ [])))
+    (Capabilities (cap_row alice alice_cap ∷ cap_row other alice_cap ∷ []))
 all_of_an_account = rw (twice-clerk, three_caps) refl
 
 none_of_an_account : given twice (Some clerk) 1700000000 (Clerk (RevokeAccount (codes "bob")))
-    ≡ record { reply = Accepted (Capabilities []); world = twice }
+    ≡ tells twice (Capabilities [])
 none_of_an_account = rw (twice-clerk, three_caps) refl
 
 own_account : given twice (Some clerk) 1700000000 (Clerk (RevokeAccount (codes "clerk")))
-    ≡ record { reply = Refused no.Own; world = twice }
+    ≡ stays twice no.Own
 own_account = rw (twice-clerk, three_caps) refl

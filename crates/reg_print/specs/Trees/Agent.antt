@@ -1,4 +1,4 @@
--- The JSON of agents.
+-- The JSON of an agent.
 use Rattle.std.specs.Prelude.{ℕ, Bool, List, [], ◌∷◌, Some, codes}
 use Rattle.serde_json.specs.Data.{Data, boolean}
 use Rattle.reg_print.specs.Trees.Members.{Listed, object_with, text}

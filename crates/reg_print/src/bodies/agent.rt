@@ -1,4 +1,4 @@
-//! Prints agents.
+//! Prints whether an account is an agent.
 ghost use Rattle.reg_print.specs.Trees.Agent.{agent_tree};
 
 use crate::printing::{Itself, Print, Printer};

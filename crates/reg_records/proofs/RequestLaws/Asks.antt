@@ -33,76 +33,64 @@ use Rattle.reg_records.proofs.RequestLaws.Steps.{IsPart, part_some, test_some, m
 
 -- ---- Asks for values
 
-code_kept : (row : Row) (a : CodeAsk) → code_in row ≡ Some a
-    → (columns row 3 19 ≡ asked_values (ask.Code a)) × (has_code_form a ≡ true)
-unfolding code_in
-code_kept row a h =
-    test_some (are_null row 13 9) _ a h (λ none h.
-    column_some names (column row 3) _ a h (λ registry is0 form0 h.
-    part_some wants row _ a h (λ want is1 form1 h.
-    column_some printables (column row 6) _ a h (λ label is2 form2 h.
-    part_some evidences row _ a h (λ evidence is3 form3 h.
-    subst (λ a. (columns row 3 19 ≡ asked_values (ask.Code a)) × (has_code_form a ≡ true))
-    (same_Some _ a h) (
-      one is0 ⊕ is1 ⊕ one is2 ⊕ is3 ⊕ nulls_kept row 9 13 none,
-      rw (form0, form1, form2, form3) refl,
-    ))))))
-
-code_back : (row : Row) (a : CodeAsk) → columns row 3 19 ≡ asked_values (ask.Code a)
-    → has_code_form a ≡ true → code_in row ≡ Some a
-unfolding code_in
-code_back row a h form =
-    let three = and_parts _ (has_evidence_form a.evidence) form in
-    let two = and_parts _ (is_text a.label) three.0 in
-    let ones = and_parts (is_name a.registry) (has_want_form a.want) two.0 in
-    let want : columns row 4 2 ≡ want_values a.want = within 1 2 h in
-    let evidence : columns row 7 6 ≡ evidence_values a.evidence = within 4 6 h in
-    let none : columns row 13 9 ≡ nulls 9 = within 10 9 h in
-    test-at (are_null row 13 9) _ _ (nulls_back row 13 9 none) (
-    value-at names (column row 3) a.registry (cell 0 h) ones.0 _ _ (
-    part-at wants row a.want want ones.1 _ _ (
-    value-at printables (column row 6) a.label (cell 3 h) two.1 _ _ (
-    part-at evidences row a.evidence evidence three.1 _ _ refl))))
-
 pub codes : IsPart code_in 3 19 (λ a. asked_values (ask.Code a)) has_code_form
-codes = record { back = code_back; kept = code_kept }
-
-early_kept : (row : Row) (a : EarlyAsk) → early_ask_in row ≡ Some a
-    → (columns row 3 19 ≡ asked_values (ask.Early a)) × (has_early_ask_form a ≡ true)
-unfolding early_ask_in
-early_kept row a h =
-    test_some (are_null row 7 6) _ a h (λ none0 h.
-    test_some (are_null row 19 3) _ a h (λ none1 h.
-    column_some names (column row 3) _ a h (λ registry is0 form0 h.
-    part_some wants row _ a h (λ want is1 form1 h.
-    column_some printables (column row 6) _ a h (λ label is2 form2 h.
-    part_some earlies row _ a h (λ evidence is3 form3 h.
-    subst (λ a. (columns row 3 19 ≡ asked_values (ask.Early a)) × (has_early_ask_form a ≡ true))
-    (same_Some _ a h) (
-      one is0 ⊕ is1 ⊕ one is2 ⊕ nulls_kept row 6 7 none0 ⊕ is3 ⊕ nulls_kept row 3 19 none1,
-      rw (form0, form1, form2, form3) refl,
-    )))))))
-
-early_back : (row : Row) (a : EarlyAsk) → columns row 3 19 ≡ asked_values (ask.Early a)
-    → has_early_ask_form a ≡ true → early_ask_in row ≡ Some a
-unfolding early_ask_in
-early_back row a h form =
-    let three = and_parts _ (has_early_form a.evidence) form in
-    let two = and_parts _ (is_text a.label) three.0 in
-    let ones = and_parts (is_name a.registry) (has_want_form a.want) two.0 in
-    let want : columns row 4 2 ≡ want_values a.want = within 1 2 h in
-    let evidence : columns row 13 6 ≡ early_values a.evidence = within 10 6 h in
-    let none0 : columns row 7 6 ≡ nulls 6 = within 4 6 h in
-    let none1 : columns row 19 3 ≡ nulls 3 = within 16 3 h in
-    test-at (are_null row 7 6) _ _ (nulls_back row 7 6 none0) (
-    test-at (are_null row 19 3) _ _ (nulls_back row 19 3 none1) (
-    value-at names (column row 3) a.registry (cell 0 h) ones.0 _ _ (
-    part-at wants row a.want want ones.1 _ _ (
-    value-at printables (column row 6) a.label (cell 3 h) two.1 _ _ (
-    part-at earlies row a.evidence evidence three.1 _ _ refl)))))
+unfolding code_in
+codes = record {
+  back = λ row a h form.
+      let three = and_parts _ (has_evidence_form a.evidence) form in
+      let two = and_parts _ (is_text a.label) three.0 in
+      let ones = and_parts (is_name a.registry) (has_want_form a.want) two.0 in
+      let want : columns row 4 2 ≡ want_values a.want = within 1 2 h in
+      let evidence : columns row 7 6 ≡ evidence_values a.evidence = within 4 6 h in
+      let none : columns row 13 9 ≡ nulls 9 = within 10 9 h in
+      test-at (are_null row 13 9) _ _ (nulls_back row 13 9 none) (
+      value-at names (column row 3) a.registry (cell 0 h) ones.0 _ _ (
+      part-at wants row a.want want ones.1 _ _ (
+      value-at printables (column row 6) a.label (cell 3 h) two.1 _ _ (
+      part-at evidences row a.evidence evidence three.1 _ _ refl))));
+  kept = λ row a h.
+      test_some (are_null row 13 9) _ a h (λ none h.
+      column_some names (column row 3) _ a h (λ registry is0 form0 h.
+      part_some wants row _ a h (λ want is1 form1 h.
+      column_some printables (column row 6) _ a h (λ label is2 form2 h.
+      part_some evidences row _ a h (λ evidence is3 form3 h.
+      subst (λ a. (columns row 3 19 ≡ asked_values (ask.Code a)) × (has_code_form a ≡ true))
+      (same_Some _ a h) (
+        one is0 ⊕ is1 ⊕ one is2 ⊕ is3 ⊕ nulls_kept row 9 13 none,
+        rw (form0, form1, form2, form3) refl,
+      ))))));
+}
 
 pub early_asks : IsPart early_ask_in 3 19 (λ a. asked_values (ask.Early a)) has_early_ask_form
-early_asks = record { back = early_back; kept = early_kept }
+unfolding early_ask_in
+early_asks = record {
+  back = λ row a h form.
+      let three = and_parts _ (has_early_form a.evidence) form in
+      let two = and_parts _ (is_text a.label) three.0 in
+      let ones = and_parts (is_name a.registry) (has_want_form a.want) two.0 in
+      let want : columns row 4 2 ≡ want_values a.want = within 1 2 h in
+      let evidence : columns row 13 6 ≡ early_values a.evidence = within 10 6 h in
+      let none0 : columns row 7 6 ≡ nulls 6 = within 4 6 h in
+      let none1 : columns row 19 3 ≡ nulls 3 = within 16 3 h in
+      test-at (are_null row 7 6) _ _ (nulls_back row 7 6 none0) (
+      test-at (are_null row 19 3) _ _ (nulls_back row 19 3 none1) (
+      value-at names (column row 3) a.registry (cell 0 h) ones.0 _ _ (
+      part-at wants row a.want want ones.1 _ _ (
+      value-at printables (column row 6) a.label (cell 3 h) two.1 _ _ (
+      part-at earlies row a.evidence evidence three.1 _ _ refl)))));
+  kept = λ row a h.
+      test_some (are_null row 7 6) _ a h (λ none0 h.
+      test_some (are_null row 19 3) _ a h (λ none1 h.
+      column_some names (column row 3) _ a h (λ registry is0 form0 h.
+      part_some wants row _ a h (λ want is1 form1 h.
+      column_some printables (column row 6) _ a h (λ label is2 form2 h.
+      part_some earlies row _ a h (λ evidence is3 form3 h.
+      subst (λ a. (columns row 3 19 ≡ asked_values (ask.Early a)) × (has_early_ask_form a ≡ true))
+      (same_Some _ a h) (
+        one is0 ⊕ is1 ⊕ one is2 ⊕ nulls_kept row 6 7 none0 ⊕ is3 ⊕ nulls_kept row 3 19 none1,
+        rw (form0, form1, form2, form3) refl,
+      )))))));
+}
 
 -- ---- Asks for what becomes of a value
 
@@ -114,105 +102,86 @@ pub no_minute : (minute : Option (List ℕ)) → is_none minute ≡ true → min
 no_minute None e = refl
 no_minute (Some text) e = absurd (cc)
 
-renewal_kept : (row : Row) (a : RenewalAsk) → renewal_in row ≡ Some a
-    → (columns row 3 19 ≡ asked_values (ask.Renew a)) × (is_bare_renewal a ≡ true)
-unfolding renewal_in
-renewal_kept row a h =
-    test_some (are_null row 5 8) _ a h (λ none0 h.
-    test_some (are_null row 19 3) _ a h (λ none1 h.
-    column_some names (column row 3) _ a h (λ registry is0 form0 h.
-    column_some (numbers is_number) (column row 4) _ a h (λ value is1 form1 h.
-    part_some earlies row _ a h (λ evidence is2 form2 h.
-    subst (λ a. (columns row 3 19 ≡ asked_values (ask.Renew a)) × (is_bare_renewal a ≡ true))
-    (same_Some _ a h) (
-      one is0 ⊕ one is1 ⊕ nulls_kept row 8 5 none0 ⊕ is2 ⊕ nulls_kept row 3 19 none1,
-      rw (form0, form1, form2) refl,
-    ))))))
-
-renewal_back : (row : Row) (a : RenewalAsk) → columns row 3 19 ≡ asked_values (ask.Renew a)
-    → is_bare_renewal a ≡ true → renewal_in row ≡ Some a
-unfolding renewal_in
-renewal_back row a h form =
-    let four = and_parts (has_renewal_form a) (is_none a.iesg) form in
-    let three = and_parts _ (has_note_form a.iesg) four.0 in
-    let two = and_parts _ (has_early_form a.evidence) three.0 in
-    let ones = and_parts (is_name a.registry) (nat_lt a.value (2 ^ 32)) two.0 in
-    let evidence : columns row 13 6 ≡ early_values a.evidence = within 10 6 h in
-    let none0 : columns row 5 8 ≡ nulls 8 = within 2 8 h in
-    let none1 : columns row 19 3 ≡ nulls 3 = within 16 3 h in
-    test-at (are_null row 5 8) _ _ (nulls_back row 5 8 none0) (
-    test-at (are_null row 19 3) _ _ (nulls_back row 19 3 none1) (
-    value-at names (column row 3) a.registry (cell 0 h) ones.0 _ _ (
-    value-at (numbers is_number) (column row 4) a.value (cell 1 h) ones.1 _ _ (
-    part-at earlies row a.evidence evidence two.1 _ _
-    (ap (λ minute. Some (record a { iesg = minute })) (sym (no_minute a.iesg four.1)))))))
-
 pub renewals : IsPart renewal_in 3 19 (λ a. asked_values (ask.Renew a)) is_bare_renewal
-renewals = record { back = renewal_back; kept = renewal_kept }
-
-permanence_kept : (row : Row) (a : PermanenceAsk) → permanence_in row ≡ Some a
-    → (columns row 3 19 ≡ asked_values (ask.Permanent a)) × (has_permanence_form a ≡ true)
-unfolding permanence_in
-permanence_kept row a h =
-    test_some (are_null row 5 2) _ a h (λ none0 h.
-    test_some (are_null row 13 9) _ a h (λ none1 h.
-    column_some names (column row 3) _ a h (λ registry is0 form0 h.
-    column_some (numbers is_number) (column row 4) _ a h (λ value is1 form1 h.
-    part_some evidences row _ a h (λ evidence is2 form2 h.
-    subst (λ a. (columns row 3 19 ≡ asked_values (ask.Permanent a))
-    × (has_permanence_form a ≡ true))
-    (same_Some _ a h) (
-      one is0 ⊕ one is1 ⊕ nulls_kept row 2 5 none0 ⊕ is2 ⊕ nulls_kept row 9 13 none1,
-      rw (form0, form1, form2) refl,
-    ))))))
-
-permanence_back : (row : Row) (a : PermanenceAsk)
-    → columns row 3 19 ≡ asked_values (ask.Permanent a)
-    → has_permanence_form a ≡ true → permanence_in row ≡ Some a
-unfolding permanence_in
-permanence_back row a h form =
-    let two = and_parts _ (has_evidence_form a.evidence) form in
-    let ones = and_parts (is_name a.registry) (nat_lt a.value (2 ^ 32)) two.0 in
-    let evidence : columns row 7 6 ≡ evidence_values a.evidence = within 4 6 h in
-    let none0 : columns row 5 2 ≡ nulls 2 = within 2 2 h in
-    let none1 : columns row 13 9 ≡ nulls 9 = within 10 9 h in
-    test-at (are_null row 5 2) _ _ (nulls_back row 5 2 none0) (
-    test-at (are_null row 13 9) _ _ (nulls_back row 13 9 none1) (
-    value-at names (column row 3) a.registry (cell 0 h) ones.0 _ _ (
-    value-at (numbers is_number) (column row 4) a.value (cell 1 h) ones.1 _ _ (
-    part-at evidences row a.evidence evidence two.1 _ _ refl))))
+unfolding renewal_in
+renewals = record {
+  back = λ row a h form.
+      let four = and_parts (has_renewal_form a) (is_none a.iesg) form in
+      let three = and_parts _ (has_note_form a.iesg) four.0 in
+      let two = and_parts _ (has_early_form a.evidence) three.0 in
+      let ones = and_parts (is_name a.registry) (nat_lt a.value (2 ^ 32)) two.0 in
+      let evidence : columns row 13 6 ≡ early_values a.evidence = within 10 6 h in
+      let none0 : columns row 5 8 ≡ nulls 8 = within 2 8 h in
+      let none1 : columns row 19 3 ≡ nulls 3 = within 16 3 h in
+      test-at (are_null row 5 8) _ _ (nulls_back row 5 8 none0) (
+      test-at (are_null row 19 3) _ _ (nulls_back row 19 3 none1) (
+      value-at names (column row 3) a.registry (cell 0 h) ones.0 _ _ (
+      value-at (numbers is_number) (column row 4) a.value (cell 1 h) ones.1 _ _ (
+      part-at earlies row a.evidence evidence two.1 _ _
+      (ap (λ minute. Some (record a { iesg = minute })) (sym (no_minute a.iesg four.1)))))));
+  kept = λ row a h.
+      test_some (are_null row 5 8) _ a h (λ none0 h.
+      test_some (are_null row 19 3) _ a h (λ none1 h.
+      column_some names (column row 3) _ a h (λ registry is0 form0 h.
+      column_some (numbers is_number) (column row 4) _ a h (λ value is1 form1 h.
+      part_some earlies row _ a h (λ evidence is2 form2 h.
+      subst (λ a. (columns row 3 19 ≡ asked_values (ask.Renew a)) × (is_bare_renewal a ≡ true))
+      (same_Some _ a h) (
+        one is0 ⊕ one is1 ⊕ nulls_kept row 8 5 none0 ⊕ is2 ⊕ nulls_kept row 3 19 none1,
+        rw (form0, form1, form2) refl,
+      ))))));
+}
 
 pub permanences : IsPart permanence_in 3 19 (λ a. asked_values (ask.Permanent a))
     has_permanence_form
-permanences = record { back = permanence_back; kept = permanence_kept }
+unfolding permanence_in
+permanences = record {
+  back = λ row a h form.
+      let two = and_parts _ (has_evidence_form a.evidence) form in
+      let ones = and_parts (is_name a.registry) (nat_lt a.value (2 ^ 32)) two.0 in
+      let evidence : columns row 7 6 ≡ evidence_values a.evidence = within 4 6 h in
+      let none0 : columns row 5 2 ≡ nulls 2 = within 2 2 h in
+      let none1 : columns row 13 9 ≡ nulls 9 = within 10 9 h in
+      test-at (are_null row 5 2) _ _ (nulls_back row 5 2 none0) (
+      test-at (are_null row 13 9) _ _ (nulls_back row 13 9 none1) (
+      value-at names (column row 3) a.registry (cell 0 h) ones.0 _ _ (
+      value-at (numbers is_number) (column row 4) a.value (cell 1 h) ones.1 _ _ (
+      part-at evidences row a.evidence evidence two.1 _ _ refl))));
+  kept = λ row a h.
+      test_some (are_null row 5 2) _ a h (λ none0 h.
+      test_some (are_null row 13 9) _ a h (λ none1 h.
+      column_some names (column row 3) _ a h (λ registry is0 form0 h.
+      column_some (numbers is_number) (column row 4) _ a h (λ value is1 form1 h.
+      part_some evidences row _ a h (λ evidence is2 form2 h.
+      subst (λ a. (columns row 3 19 ≡ asked_values (ask.Permanent a))
+      × (has_permanence_form a ≡ true))
+      (same_Some _ a h) (
+        one is0 ⊕ one is1 ⊕ nulls_kept row 2 5 none0 ⊕ is2 ⊕ nulls_kept row 9 13 none1,
+        rw (form0, form1, form2) refl,
+      ))))));
+}
 
 -- ---- Asks for blocks
 
-block_kept : (row : Row) (a : BlockAsk) → block_in row ≡ Some a
-    → (columns row 3 19 ≡ asked_values (ask.Block a)) × (has_block_form a ≡ true)
-unfolding block_in
-block_kept row a h =
-    test_some (are_null row 3 16) _ a h (λ none h.
-    column_some (words sizes_read) (column row 19) _ a h (λ size is0 form0 h.
-    column_some printables (column row 20) _ a h (λ organization is1 form1 h.
-    column_some printables (column row 21) _ a h (λ address is2 form2 h.
-    subst (λ a. (columns row 3 19 ≡ asked_values (ask.Block a)) × (has_block_form a ≡ true))
-    (same_Some _ a h)
-    (nulls_kept row 16 3 none ⊕ one is0 ⊕ one is1 ⊕ one is2, rw (form1, form2) refl)))))
-
-block_back : (row : Row) (a : BlockAsk) → columns row 3 19 ≡ asked_values (ask.Block a)
-    → has_block_form a ≡ true → block_in row ≡ Some a
-unfolding block_in
-block_back row a h form =
-    let ones = and_parts (is_text a.organization) (is_text a.address) form in
-    let none : columns row 3 16 ≡ nulls 16 = within 0 16 h in
-    test-at (are_null row 3 16) _ _ (nulls_back row 3 16 none) (
-    value-at (words sizes_read) (column row 19) a.size (cell 16 h) refl _ _ (
-    value-at printables (column row 20) a.organization (cell 17 h) ones.0 _ _ (
-    value-at printables (column row 21) a.address (cell 18 h) ones.1 _ _ refl)))
-
 pub blocks : IsPart block_in 3 19 (λ a. asked_values (ask.Block a)) has_block_form
-blocks = record { back = block_back; kept = block_kept }
+unfolding block_in
+blocks = record {
+  back = λ row a h form.
+      let ones = and_parts (is_text a.organization) (is_text a.address) form in
+      let none : columns row 3 16 ≡ nulls 16 = within 0 16 h in
+      test-at (are_null row 3 16) _ _ (nulls_back row 3 16 none) (
+      value-at (words sizes_read) (column row 19) a.size (cell 16 h) refl _ _ (
+      value-at printables (column row 20) a.organization (cell 17 h) ones.0 _ _ (
+      value-at printables (column row 21) a.address (cell 18 h) ones.1 _ _ refl)));
+  kept = λ row a h.
+      test_some (are_null row 3 16) _ a h (λ none h.
+      column_some (words sizes_read) (column row 19) _ a h (λ size is0 form0 h.
+      column_some printables (column row 20) _ a h (λ organization is1 form1 h.
+      column_some printables (column row 21) _ a h (λ address is2 form2 h.
+      subst (λ a. (columns row 3 19 ≡ asked_values (ask.Block a)) × (has_block_form a ≡ true))
+      (same_Some _ a h)
+      (nulls_kept row 16 3 none ⊕ one is0 ⊕ one is1 ⊕ one is2, rw (form1, form2) refl)))));
+}
 
 -- ---- Asks of any kind
 
@@ -220,29 +189,24 @@ blocks = record { back = block_back; kept = block_kept }
 abbrev pub is_asked : Ask → Bool
 is_asked a = has_ask_form a && is_bare a
 
+-- an ask of the kind has the columns that are written for it
+abbrev Keeps : Row → AskKind → Ask → Type 0
+Keeps row kind a =
+    (columns row 3 19 ≡ asked_values a) × (kind ≡ ask_kind_of a) × (is_asked a ≡ true)
+
 -- an ask of the kind, as its own reading makes it
 of_kind_kept : (kind : AskKind) (row : Row) (a : Ask) → ask_of kind row ≡ Some a
-    → (columns row 3 19 ≡ asked_values a) × (kind ≡ ask_kind_of a) × (is_asked a ≡ true)
+    → Keeps row kind a
 of_kind_kept kind.Code row a h = map_some ask.Code (code_in row) a h (λ b is same.
-    subst (λ a. (columns row 3 19 ≡ asked_values a) × (kind.Code ≡ ask_kind_of a)
-    × (is_asked a ≡ true)) same
-    (let k = codes.kept row b is in (k.0, refl, and_from _ true k.1 refl)))
+    subst (Keeps row kind.Code) same (let k = codes.kept row b is in (k.0, refl, and_from _ true k.1 refl)))
 of_kind_kept kind.Early row a h = map_some ask.Early (early_ask_in row) a h (λ b is same.
-    subst (λ a. (columns row 3 19 ≡ asked_values a) × (kind.Early ≡ ask_kind_of a)
-    × (is_asked a ≡ true)) same
-    (let k = early_asks.kept row b is in (k.0, refl, and_from _ true k.1 refl)))
+    subst (Keeps row kind.Early) same (let k = early_asks.kept row b is in (k.0, refl, and_from _ true k.1 refl)))
 of_kind_kept kind.Renew row a h = map_some ask.Renew (renewal_in row) a h (λ b is same.
-    subst (λ a. (columns row 3 19 ≡ asked_values a) × (kind.Renew ≡ ask_kind_of a)
-    × (is_asked a ≡ true)) same
-    (let k = renewals.kept row b is in (k.0, refl, k.1)))
+    subst (Keeps row kind.Renew) same (let k = renewals.kept row b is in (k.0, refl, k.1)))
 of_kind_kept kind.Permanent row a h = map_some ask.Permanent (permanence_in row) a h (λ b is same.
-    subst (λ a. (columns row 3 19 ≡ asked_values a) × (kind.Permanent ≡ ask_kind_of a)
-    × (is_asked a ≡ true)) same
-    (let k = permanences.kept row b is in (k.0, refl, and_from _ true k.1 refl)))
+    subst (Keeps row kind.Permanent) same (let k = permanences.kept row b is in (k.0, refl, and_from _ true k.1 refl)))
 of_kind_kept kind.Block row a h = map_some ask.Block (block_in row) a h (λ b is same.
-    subst (λ a. (columns row 3 19 ≡ asked_values a) × (kind.Block ≡ ask_kind_of a)
-    × (is_asked a ≡ true)) same
-    (let k = blocks.kept row b is in (k.0, refl, and_from _ true k.1 refl)))
+    subst (Keeps row kind.Block) same (let k = blocks.kept row b is in (k.0, refl, and_from _ true k.1 refl)))
 
 of_kind_back : (row : Row) (a : Ask) → columns row 3 19 ≡ asked_values a
     → is_asked a ≡ true → ask_of (ask_kind_of a) row ≡ Some a
@@ -256,21 +220,15 @@ of_kind_back row (ask.Permanent a) h form =
 of_kind_back row (ask.Block a) h form =
     rw (blocks.back row a h ((and_parts (has_block_form a) true form).0)) refl
 
-ask_kept : (row : Row) (a : Ask) → ask_in row ≡ Some a
-    → (columns row 2 20 ≡ ask_values a) × (is_asked a ≡ true)
-unfolding ask_in
-ask_kept row a h =
-    column_some (words ask_kinds_read) (column row 2) _ a h (λ kind is form h.
-    let k = of_kind_kept kind row a h in
-    (rw (is, k.1) (ap (λ cells. Text (ask_kind_word (ask_kind_of a)) ∷ cells) k.0), k.2))
-
-ask_back : (row : Row) (a : Ask) → columns row 2 20 ≡ ask_values a → is_asked a ≡ true
-    → ask_in row ≡ Some a
-unfolding ask_in
-ask_back row a h form =
-    let asked : columns row 3 19 ≡ asked_values a = ap (λ cells. drop 1 cells) h in
-    value-at (words ask_kinds_read) (column row 2) (ask_kind_of a) (cell 0 h) refl _ _
-    (of_kind_back row a asked form)
-
 pub asks : IsPart ask_in 2 20 ask_values is_asked
-asks = record { back = ask_back; kept = ask_kept }
+unfolding ask_in
+asks = record {
+  back = λ row a h form.
+      let asked : columns row 3 19 ≡ asked_values a = ap (λ cells. drop 1 cells) h in
+      value-at (words ask_kinds_read) (column row 2) (ask_kind_of a) (cell 0 h) refl _ _
+      (of_kind_back row a asked form);
+  kept = λ row a h.
+      column_some (words ask_kinds_read) (column row 2) _ a h (λ kind is form h.
+      let k = of_kind_kept kind row a h in
+      (rw (is, k.1) (ap (λ cells. Text (ask_kind_word (ask_kind_of a)) ∷ cells) k.0), k.2));
+}

@@ -20,28 +20,16 @@ use Rattle.reg_records.proofs.RequestLaws.Rows.{bare_form}
 pub stands_in-gives_its_kind : (entries : FinMap place_cmp Registration)
     (blocks : FinMap block_cmp Holder) (account : List ℕ) (ask : Ask) (state : State)
     → stands_in entries blocks account ask state ≡ true → gives_its_kind ask state ≡ true
-stands_in-gives_its_kind entries blocks account ask Pending h = refl
-stands_in-gives_its_kind entries blocks account ask (Declined reason) h = refl
-stands_in-gives_its_kind entries blocks account ask Withdrawn h = refl
-stands_in-gives_its_kind entries blocks account (Code a) (Approved (given.Value v)) h = refl
-stands_in-gives_its_kind entries blocks account (Early a) (Approved (given.Value v)) h = refl
-stands_in-gives_its_kind entries blocks account (Renew a) (Approved (given.Value v)) h = refl
-stands_in-gives_its_kind entries blocks account (Permanent a) (Approved (given.Value v)) h = refl
 stands_in-gives_its_kind entries blocks account (Block a) (Approved (given.Value v)) h =
     absurd (cc)
-stands_in-gives_its_kind entries blocks account (Code a) (Approved (given.Block b)) h =
-    absurd (cc)
-stands_in-gives_its_kind entries blocks account (Early a) (Approved (given.Block b)) h =
-    absurd (cc)
-stands_in-gives_its_kind entries blocks account (Renew a) (Approved (given.Block b)) h =
-    absurd (cc)
-stands_in-gives_its_kind entries blocks account (Permanent a) (Approved (given.Block b)) h =
-    absurd (cc)
 stands_in-gives_its_kind entries blocks account (Block a) (Approved (given.Block b)) h = refl
+stands_in-gives_its_kind entries blocks account _ (Approved (given.Value v)) h = refl
+stands_in-gives_its_kind entries blocks account _ (Approved (given.Block b)) h = absurd (cc)
+stands_in-gives_its_kind entries blocks account _ _ h = refl
 
 -- so each request of the world can be written
-pub kept-is_request : KeptRequestsHaveRows
-kept-is_request w kept name case h =
+pub kept_is_request : KeptRequestsHaveRows
+kept_is_request w kept name case h =
     bare_form (request_row name case) (kept.requests name case h)
     (stands_in-gives_its_kind w.entries w.blocks name.0 case.ask case.state
     (kept.given name case h))

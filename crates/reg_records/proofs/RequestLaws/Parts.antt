@@ -61,8 +61,7 @@ wanted_kept (Some v) None w form h =
 wanted_kept None (Some p) w form h =
     subst (λ w. (asked None (Some p) ≡ want_values w) × (has_want_form w ≡ true))
     (same_Some (want.Least p) w h) (refl, refl)
-wanted_kept (Some v) (Some p) w form h = absurd (none-some w h)
-wanted_kept None None w form h = absurd (none-some w h)
+wanted_kept _ _ w form h = absurd (none-some w h)
 
 want_kept : (row : Row) (w : Want) → want_in row ≡ Some w
     → (columns row 4 2 ≡ want_values w) × (has_want_form w ≡ true)
@@ -117,12 +116,7 @@ published_kept (Some n) (Some s) (Some t) rfc h =
     same
     (subst (λ r. (parts_values (Some n) (Some s) (Some t) ≡ rfc_values (Some r))
     × (is_rfc r ≡ true)) test.1 (refl, test.0)))
-published_kept None None (Some t) rfc h = absurd (none-some rfc h)
-published_kept None (Some s) None rfc h = absurd (none-some rfc h)
-published_kept None (Some s) (Some t) rfc h = absurd (none-some rfc h)
-published_kept (Some n) None None rfc h = absurd (none-some rfc h)
-published_kept (Some n) None (Some t) rfc h = absurd (none-some rfc h)
-published_kept (Some n) (Some s) None rfc h = absurd (none-some rfc h)
+published_kept _ _ _ rfc h = absurd (none-some rfc h)
 
 rfc_kept : (row : Row) (rfc : Option PublishedRfc) → rfc_in row ≡ Some rfc
     → (columns row 9 3 ≡ rfc_values rfc) × (has_rfc_form rfc ≡ true)
@@ -153,64 +147,52 @@ rfcs = record { back = rfc_back; kept = rfc_kept }
 
 -- ---- Evidence
 
-evidence_kept : (row : Row) (e : Evidence) → evidence_in row ≡ Some e
-    → (columns row 7 6 ≡ evidence_values e) × (has_evidence_form e ≡ true)
-unfolding evidence_in
-evidence_kept row e h =
-    column_some notes (column row 7) _ e h (λ contact is0 form0 h.
-    column_some notes (column row 8) _ e h (λ spec is1 form1 h.
-    part_some rfcs row _ e h (λ rfc is2 form2 h.
-    column_some notes (column row 12) _ e h (λ minute is3 form3 h.
-    subst (λ e. (columns row 7 6 ≡ evidence_values e) × (has_evidence_form e ≡ true))
-    (same_Some _ e h)
-    (one is0 ⊕ one is1 ⊕ is2 ⊕ one is3, rw (form0, form1, form2, form3) refl)))))
-
-evidence_back : (row : Row) (e : Evidence) → columns row 7 6 ≡ evidence_values e
-    → has_evidence_form e ≡ true → evidence_in row ≡ Some e
-unfolding evidence_in
-evidence_back row e h form =
-    let three = and_parts _ (is_none_or is_text e.minute) form in
-    let two = and_parts _ (is_none_or is_rfc e.rfc) three.0 in
-    let ones = and_parts (is_none_or is_text e.contact) (is_none_or is_text e.spec) two.0 in
-    let rfc : columns row 9 3 ≡ rfc_values e.rfc = within 2 3 h in
-    value-at notes (column row 7) e.contact (cell 0 h) ones.0 _ _ (
-    value-at notes (column row 8) e.spec (cell 1 h) ones.1 _ _ (
-    part-at rfcs row e.rfc rfc two.1 _ _ (
-    value-at notes (column row 12) e.minute (cell 5 h) three.1 _ _ refl)))
-
 pub evidences : IsPart evidence_in 7 6 evidence_values has_evidence_form
-evidences = record { back = evidence_back; kept = evidence_kept }
+unfolding evidence_in
+evidences = record {
+  back = λ row e h form.
+      let three = and_parts _ (is_none_or is_text e.minute) form in
+      let two = and_parts _ (is_none_or is_rfc e.rfc) three.0 in
+      let ones = and_parts (is_none_or is_text e.contact) (is_none_or is_text e.spec) two.0 in
+      let rfc : columns row 9 3 ≡ rfc_values e.rfc = within 2 3 h in
+      value-at notes (column row 7) e.contact (cell 0 h) ones.0 _ _ (
+      value-at notes (column row 8) e.spec (cell 1 h) ones.1 _ _ (
+      part-at rfcs row e.rfc rfc two.1 _ _ (
+      value-at notes (column row 12) e.minute (cell 5 h) three.1 _ _ refl)));
+  kept = λ row e h.
+      column_some notes (column row 7) _ e h (λ contact is0 form0 h.
+      column_some notes (column row 8) _ e h (λ spec is1 form1 h.
+      part_some rfcs row _ e h (λ rfc is2 form2 h.
+      column_some notes (column row 12) _ e h (λ minute is3 form3 h.
+      subst (λ e. (columns row 7 6 ≡ evidence_values e) × (has_evidence_form e ≡ true))
+      (same_Some _ e h)
+      (one is0 ⊕ one is1 ⊕ is2 ⊕ one is3, rw (form0, form1, form2, form3) refl)))));
+}
 
 -- ---- Evidence for an early allocation
 
-early_kept : (row : Row) (e : EarlyEvidence) → early_in row ≡ Some e
-    → (columns row 13 6 ≡ early_values e) × (has_early_form e ≡ true)
-unfolding early_in
-early_kept row e h =
-    column_some notes (column row 13) _ e h (λ draft is0 form0 h.
-    column_some flags (column row 14) _ e h (λ stable is1 form1 h.
-    column_some flags (column row 15) _ e h (λ interest is2 form2 h.
-    column_some notes (column row 16) _ e h (λ chair is3 form3 h.
-    column_some notes (column row 17) _ e h (λ director is4 form4 h.
-    column_some flags (column row 18) _ e h (λ will_be_rfc is5 form5 h.
-    subst (λ e. (columns row 13 6 ≡ early_values e) × (has_early_form e ≡ true))
-    (same_Some _ e h) (
-      one is0 ⊕ one is1 ⊕ one is2 ⊕ one is3 ⊕ one is4 ⊕ one is5,
-      rw (form0, form3, form4) refl,
-    )))))))
-
-early_back : (row : Row) (e : EarlyEvidence) → columns row 13 6 ≡ early_values e
-    → has_early_form e ≡ true → early_in row ≡ Some e
-unfolding early_in
-early_back row e h form =
-    let two = and_parts _ (is_none_or is_text e.director) form in
-    let ones = and_parts (is_none_or is_text e.draft) (is_none_or is_text e.chair) two.0 in
-    value-at notes (column row 13) e.draft (cell 0 h) ones.0 _ _ (
-    value-at flags (column row 14) e.stable (cell 1 h) refl _ _ (
-    value-at flags (column row 15) e.interest (cell 2 h) refl _ _ (
-    value-at notes (column row 16) e.chair (cell 3 h) ones.1 _ _ (
-    value-at notes (column row 17) e.director (cell 4 h) two.1 _ _ (
-    value-at flags (column row 18) e.will_be_rfc (cell 5 h) refl _ _ refl)))))
-
 pub earlies : IsPart early_in 13 6 early_values has_early_form
-earlies = record { back = early_back; kept = early_kept }
+unfolding early_in
+earlies = record {
+  back = λ row e h form.
+      let two = and_parts _ (is_none_or is_text e.director) form in
+      let ones = and_parts (is_none_or is_text e.draft) (is_none_or is_text e.chair) two.0 in
+      value-at notes (column row 13) e.draft (cell 0 h) ones.0 _ _ (
+      value-at flags (column row 14) e.stable (cell 1 h) refl _ _ (
+      value-at flags (column row 15) e.interest (cell 2 h) refl _ _ (
+      value-at notes (column row 16) e.chair (cell 3 h) ones.1 _ _ (
+      value-at notes (column row 17) e.director (cell 4 h) two.1 _ _ (
+      value-at flags (column row 18) e.will_be_rfc (cell 5 h) refl _ _ refl)))));
+  kept = λ row e h.
+      column_some notes (column row 13) _ e h (λ draft is0 form0 h.
+      column_some flags (column row 14) _ e h (λ stable is1 form1 h.
+      column_some flags (column row 15) _ e h (λ interest is2 form2 h.
+      column_some notes (column row 16) _ e h (λ chair is3 form3 h.
+      column_some notes (column row 17) _ e h (λ director is4 form4 h.
+      column_some flags (column row 18) _ e h (λ will_be_rfc is5 form5 h.
+      subst (λ e. (columns row 13 6 ≡ early_values e) × (has_early_form e ≡ true))
+      (same_Some _ e h) (
+        one is0 ⊕ one is1 ⊕ one is2 ⊕ one is3 ⊕ one is4 ⊕ one is5,
+        rw (form0, form3, form4) refl,
+      )))))));
+}

@@ -23,7 +23,7 @@ use Rattle.reg_records.specs.Requests.Laws.{RequestsReadBare, StatesAreReplaced,
 use Rattle.reg_core.specs.Minutes.{bare, bare_ask, is_bare}
 use Rattle.reg_records.specs.Requests.Reading.{columns, request_columns, request_in}
 use Rattle.reg_records.specs.Requests.Values.{ask_values, state_values, request_values}
-use Rattle.reg_records.proofs.ColumnLaws.{column_some}
+use Rattle.reg_records.proofs.ColumnLaws.{column_some, keeps_rows}
 use Rattle.reg_records.proofs.RequestLaws.Asks.{asks}
 use Rattle.reg_records.proofs.RequestLaws.States.{stands}
 use Rattle.reg_records.proofs.RequestLaws.Steps.{part_some, part-at, value-at, names, ◌⊕◌, one, cell, within}
@@ -42,28 +42,15 @@ request_kept row r h =
     (same_Some _ r h)
     (one is0 ⊕ one is1 ⊕ is2 ⊕ is3, rw (form0, form1, asked.0, asked.1, forms.0, forms.1) refl)))))
 
-pub request_exact : (row : Row) (r : Request) → request_in row ≡ Some r
-    → request_columns row ≡ request_values r
-request_exact row r h = (request_kept row r h).0
-
-pub request_formed : (row : Row) (r : Request) → request_in row ≡ Some r → is_request r ≡ true
-request_formed row r h = (request_kept row r h).1
-
 -- ---- Back
 
 ask_cells : (a : Ask) (rest : Row) → take 20 (ask_values a ++ rest) ≡ ask_values a
 ask_cells (Code a) rest = refl
-ask_cells (Early a) rest = refl
-ask_cells (Renew a) rest = refl
-ask_cells (Permanent a) rest = refl
-ask_cells (Block a) rest = refl
+ask_cells _ rest = refl
 
 state_cells : (a : Ask) (rest : Row) → drop 20 (ask_values a ++ rest) ≡ rest
 state_cells (Code a) rest = refl
-state_cells (Early a) rest = refl
-state_cells (Renew a) rest = refl
-state_cells (Permanent a) rest = refl
-state_cells (Block a) rest = refl
+state_cells _ rest = refl
 
 -- the parts of a request's form
 record Forms (r : Request) : Type 0 where
@@ -116,10 +103,7 @@ columns_of : (account reference : Value) (a : Ask) (s : State)
     → request_columns (account ∷ reference ∷ ask_values a ++ state_values s)
     ≡ account ∷ reference ∷ ask_values a ++ state_values s
 columns_of account reference (Code a) s = refl
-columns_of account reference (Early a) s = refl
-columns_of account reference (Renew a) s = refl
-columns_of account reference (Permanent a) s = refl
-columns_of account reference (Block a) s = refl
+columns_of account reference _ s = refl
 
 pub request_columns-request_values : (r : Request)
     → request_columns (request_values r) ≡ request_values r
@@ -133,35 +117,23 @@ request_back r form =
 -- ---- Without the minute
 
 bare_ask_form : (a : Ask) → has_ask_form a ≡ true → has_ask_form (bare_ask a) ≡ true
-bare_ask_form (Code a) form = form
-bare_ask_form (Early a) form = form
 bare_ask_form (Renew a) form = and_from (is_name a.registry && nat_lt a.value (2 ^ 32)
     && has_early_form a.evidence) true ((and_parts _ (has_note_form a.iesg) form).0) refl
-bare_ask_form (Permanent a) form = form
-bare_ask_form (Block a) form = form
+bare_ask_form _ form = form
 
 bare_ask_bare : (a : Ask) → is_bare (bare_ask a) ≡ true
 bare_ask_bare (Code a) = refl
-bare_ask_bare (Early a) = refl
-bare_ask_bare (Renew a) = refl
-bare_ask_bare (Permanent a) = refl
-bare_ask_bare (Block a) = refl
+bare_ask_bare _ = refl
 
 -- what is given for an ask does not go by its minute
+given_bare : (a : Ask) (g : Given) → is_of_kind (bare_ask a) g ≡ is_of_kind a g
+given_bare (Renew a) (given.Value v) = refl
+given_bare _ _ = refl
+
 pub gives_its_kind-bare_ask : (a : Ask) (s : State)
     → gives_its_kind (bare_ask a) s ≡ gives_its_kind a s
-gives_its_kind-bare_ask a Pending = refl
-gives_its_kind-bare_ask a (Declined reason) = refl
-gives_its_kind-bare_ask a Withdrawn = refl
-gives_its_kind-bare_ask a (Approved g) = same a g
-  where
-    same : (a : Ask) (g : Given) → is_of_kind (bare_ask a) g ≡ is_of_kind a g
-    same (Code a) g = refl
-    same (Early a) g = refl
-    same (Renew a) (given.Value v) = refl
-    same (Renew a) (given.Block b) = refl
-    same (Permanent a) g = refl
-    same (Block a) g = refl
+gives_its_kind-bare_ask a (Approved g) = given_bare a g
+gives_its_kind-bare_ask a _ = refl
 
 -- without its minute a request has the form of one that a row holds
 pub bare_form : (r : Request)
@@ -183,10 +155,7 @@ bare_form r form kind =
 -- and its row is the same
 asked_values-bare_ask : (a : Ask) → ask_values (bare_ask a) ≡ ask_values a
 asked_values-bare_ask (Code a) = refl
-asked_values-bare_ask (Early a) = refl
-asked_values-bare_ask (Renew a) = refl
-asked_values-bare_ask (Permanent a) = refl
-asked_values-bare_ask (Block a) = refl
+asked_values-bare_ask _ = refl
 
 pub request_values-bare : (r : Request) → request_values (bare r) ≡ request_values r
 request_values-bare r =
@@ -198,7 +167,7 @@ request_bare r form kind =
     ap request_in (sym (request_values-bare r)) ∙ request_back (bare r) (bare_form r form kind)
 
 pub requests_kept : KeepsRows request_columns request_in request_values is_request
-requests_kept = record { back = request_back; exact = request_exact; formed = request_formed }
+requests_kept = keeps_rows request_back request_kept
 
 -- ---- Another state
 

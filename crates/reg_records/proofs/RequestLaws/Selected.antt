@@ -20,10 +20,7 @@ given-same (Some x) f g same = same x
 ask_of-columns : (kind : AskKind) (row : Row) → ask_of kind (request_columns row) ≡ ask_of kind row
 unfolding code_in early_ask_in renewal_in permanence_in block_in want_in rfc_in evidence_in early_in
 ask_of-columns kind.Code row = refl
-ask_of-columns kind.Early row = refl
-ask_of-columns kind.Renew row = refl
-ask_of-columns kind.Permanent row = refl
-ask_of-columns kind.Block row = refl
+ask_of-columns _ row = refl
 
 ask_in-columns : (row : Row) → ask_in (request_columns row) ≡ ask_in row
 unfolding ask_in
@@ -33,18 +30,16 @@ ask_in-columns row =
 state_of-columns : (ask : Ask) (word : StateWord) (row : Row)
     → state_of ask word (request_columns row) ≡ state_of ask word row
 state_of-columns ask Pending row = refl
-state_of-columns ask Approved row = refl
-state_of-columns ask Declined row = refl
-state_of-columns ask Withdrawn row = refl
+state_of-columns ask _ row = refl
 
 state_in-columns : (ask : Ask) (row : Row) → state_in ask (request_columns row) ≡ state_in ask row
 unfolding state_in
 state_in-columns ask row =
     given-same (read_in read_state (column row 22)) _ _ (λ word. state_of-columns ask word row)
 
-pub request_in-columns : RowsReadByTheirColumns
+pub request_in_columns : RowsReadByTheirColumns
 unfolding request_in
-request_in-columns row =
+request_in_columns row =
     given-same (name_in (column row 0)) _ _ (λ account.
     given-same (name_in (column row 1)) _ _ (λ reference.
     rw (ask_in-columns row) (given-same (ask_in row) _ _ (λ ask.

@@ -65,14 +65,11 @@ value_kept a text given kind h = map_some Value (read_number text) given h (λ v
 
 given_kept : (a : Ask) (text : List ℕ) (given : Given) → read_given a text ≡ Some given
     → (text ≡ text_of given) × (is_due a given ≡ true)
-given_kept (ask.Code a) text given h = value_kept (ask.Code a) text given (λ v. refl) h
-given_kept (ask.Early a) text given h = value_kept (ask.Early a) text given (λ v. refl) h
-given_kept (ask.Renew a) text given h = value_kept (ask.Renew a) text given (λ v. refl) h
-given_kept (ask.Permanent a) text given h = value_kept (ask.Permanent a) text given (λ v. refl) h
 given_kept (ask.Block a) text given h = map_some Block (written_block text) given h (λ b is same.
     let k = block_kept text b is in
     subst (λ given. (text ≡ text_of given) × (is_due (ask.Block a) given ≡ true)) same
     (k.0, and_from (is_block b) true k.1 refl))
+given_kept a text given h = value_kept a text given (λ v. refl) h
 
 value_back : (v : ℕ) → nat_lt v (2 ^ 32) ≡ true → read_number (decimal v) ≡ Some v
 value_back v h = (reads_decimals v (decimal v)).1 (ltb-true v (2 ^ 32) h, refl)
@@ -83,16 +80,10 @@ value_due v h = rw (value_back v ((and_parts (nat_lt v (2 ^ 32)) true h).0)) ref
 
 given_back : (a : Ask) (given : Given) → is_due a given ≡ true
     → read_given a (text_of given) ≡ Some given
-given_back (ask.Code a) (Value v) h = value_due v h
-given_back (ask.Early a) (Value v) h = value_due v h
-given_back (ask.Renew a) (Value v) h = value_due v h
-given_back (ask.Permanent a) (Value v) h = value_due v h
 given_back (ask.Block a) (Block b) h = rw (block_back b ((and_parts (is_block b) true h).0)) refl
-given_back (ask.Code a) (Block b) h = absurd (cc ((and_parts (is_block b) false h).1))
-given_back (ask.Early a) (Block b) h = absurd (cc ((and_parts (is_block b) false h).1))
-given_back (ask.Renew a) (Block b) h = absurd (cc ((and_parts (is_block b) false h).1))
-given_back (ask.Permanent a) (Block b) h = absurd (cc ((and_parts (is_block b) false h).1))
 given_back (ask.Block a) (Value v) h = absurd (cc ((and_parts (nat_lt v (2 ^ 32)) false h).1))
+given_back _ (Value v) h = value_due v h
+given_back _ (Block b) h = absurd (cc ((and_parts (is_block b) false h).1))
 
 pub givens : (a : Ask)
     → IsColumn (read_in (read_given a)) (λ given. Text (text_of given)) (is_due a)
@@ -144,19 +135,13 @@ of_word_back a row (state.Declined reason) h form =
 of_word_back a row state.Withdrawn h form =
     test-at (are_null row 23 2) _ _ (nulls_back row 23 2 (within 1 2 h)) refl
 
-state_kept : (a : Ask) (row : Row) (s : State) → state_in a row ≡ Some s
-    → (columns row 22 3 ≡ state_values s) × (fits a s ≡ true)
-unfolding state_in
-state_kept a row s h =
-    column_some (words states_read) (column row 22) _ s h (λ word is form h.
-    rw is (of_word_kept a row word s h))
-
-state_back : (a : Ask) (row : Row) (s : State) → columns row 22 3 ≡ state_values s
-    → fits a s ≡ true → state_in a row ≡ Some s
-unfolding state_in
-state_back a row s h form =
-    value-at (words states_read) (column row 22) (word_of s) (cell 0 h) refl _ _
-    (of_word_back a row s h form)
-
 pub stands : (a : Ask) → IsPart (state_in a) 22 3 state_values (fits a)
-stands a = record { back = state_back a; kept = state_kept a }
+unfolding state_in
+stands a = record {
+  back = λ row s h form.
+      value-at (words states_read) (column row 22) (word_of s) (cell 0 h) refl _ _
+      (of_word_back a row s h form);
+  kept = λ row s h.
+      column_some (words states_read) (column row 22) _ s h (λ word is form h.
+      rw is (of_word_kept a row word s h));
+}

@@ -78,10 +78,7 @@ notes = or_nulls printables (λ text. refl)
 
 null : (v : Value) → is_null v ≡ true → v ≡ Null
 null Null h = refl
-null (Int n) h = absurd (cc)
-null (Real x) h = absurd (cc)
-null (Text t) h = absurd (cc)
-null (Blob b) h = absurd (cc)
+null _ h = absurd (cc)
 
 pub nulls_kept : (row : Row) (count from : ℕ) → are_null row from count ≡ true
     → columns row from count ≡ nulls count

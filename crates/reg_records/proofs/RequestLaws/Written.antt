@@ -38,7 +38,4 @@ pub asked_columns : (ask : Ask)
     ++ columns (early_shown_values ask) 0 6 ++ columns (block_wanted_values ask) 0 3
     ≡ asked_values ask
 asked_columns (Code a) = refl
-asked_columns (Early a) = refl
-asked_columns (Renew a) = refl
-asked_columns (Permanent a) = refl
-asked_columns (Block a) = refl
+asked_columns _ = refl

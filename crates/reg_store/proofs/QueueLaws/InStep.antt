@@ -25,7 +25,7 @@ use Rattle.reg_core.proofs.KeyOrders.{name_keys}
 use Rattle.reg_store.specs.Lists.File.{review_world}
 use Rattle.reg_store.specs.Lists.Opinions.{Opinions}
 use Rattle.reg_store.specs.Lists.Panels.{Panels}
-use Rattle.reg_store.specs.Lists.Queues.{Queues, queue_cmp, all_queues, AreInStep, row_in_queue}
+use Rattle.reg_store.specs.Lists.Queues.{Queues, queue_cmp, all_queues, AreInStep, AreWorded, row_in_queue}
 use Rattle.reg_store.specs.Lists.Queues.{row_for, with_word, with_advice}
 use Rattle.reg_store.specs.Lists.Requests.{Requests}
 use Rattle.reg_store.proofs.QueueLaws.Rows.{queue_keys, row_in_queue-unseated, row_in_queue-submit}
@@ -54,9 +54,7 @@ module _ (w : World) (rows : FinMap queue_cmp QueueRow) (in_step : AreInStep w r
 
   -- the word of another state is in the queues of the request's experts
   pub in_step-with_state : (state : State) (new : FinMap queue_cmp QueueRow)
-      → ((e : List ℕ) (n : RequestName)
-      → get new (e, n) ≡ cond (contains_key w.queue (name, e) && is_at (name_cmp name) n)
-      (option_map (with_word (word_of state)) (get rows (e, n))) (get rows (e, n)))
+      → AreWorded (λ e. contains_key w.queue (name, e)) name (word_of state) rows new
       → AreInStep (with_state w name state) new
   in_step-with_state state new worded e n =
       let word : Option QueueRow → Option QueueRow = option_map (with_word (word_of state)) in

@@ -15,7 +15,7 @@ use Rattle.reg_core.specs.World.{RequestName, name_cmp}
 use Rattle.reg_core.specs.declared.queue.QueueRow.{QueueRow}
 use Rattle.reg_core.specs.declared.request.StateWord.{StateWord}
 use Rattle.reg_core.proofs.KeyOrders.{name_keys}
-use Rattle.reg_store.specs.Lists.Queues.{queue_cmp, with_word}
+use Rattle.reg_store.specs.Lists.Queues.{AreWorded, queue_cmp, with_word}
 use Rattle.reg_store.proofs.QueueLaws.Rows.{queue_keys}
 
 -- an account is one of these
@@ -51,15 +51,11 @@ once : (word : StateWord) (p s a : Bool) (o : Option QueueRow)
     → cond (s && a) (option_map (with_word word) (cond (p && a) (option_map (with_word word) o) o))
     (cond (p && a) (option_map (with_word word) o) o)
     ≡ cond ((p || s) && a) (option_map (with_word word) o) o
+once word false s a o = refl
+once word true false a o = refl
+once word true true false o = refl
 once word true true true None = refl
 once word true true true (Some row) = refl
-once word true true false o = refl
-once word true false true o = refl
-once word true false false o = refl
-once word false true true o = refl
-once word false true false o = refl
-once word false false true o = refl
-once word false false false o = refl
 
 -- a row that is changed at its own place
 at_own : (rows : FinMap queue_cmp QueueRow) (f : QueueRow → QueueRow) (name n : RequestName)
@@ -81,13 +77,8 @@ at_own rows f name n x e =
 
 -- the rows of a request in some queues have the word, and then in one more
 pub one_more : (word : StateWord) (name : RequestName) (old mid : FinMap queue_cmp QueueRow)
-    (xs : List (List ℕ)) (x : List ℕ)
-    → ((e : List ℕ) (n : RequestName) → get mid (e, n)
-    ≡ cond (is_among e xs && is_at (name_cmp name) n)
-    (option_map (with_word word) (get old (e, n))) (get old (e, n)))
-    → (e : List ℕ) (n : RequestName) → get (update mid (x, name) (with_word word)) (e, n)
-    ≡ cond (is_among e (xs ++ x ∷ []) && is_at (name_cmp name) n)
-    (option_map (with_word word) (get old (e, n))) (get old (e, n))
+    (xs : List (List ℕ)) (x : List ℕ) → AreWorded (λ e. is_among e xs) name word old mid
+    → AreWorded (λ e. is_among e (xs ++ x ∷ [])) name word old (update mid (x, name) (with_word word))
 one_more word name old mid xs x done e n =
     let at = is_at (name_cmp name) n in
     at_own mid (with_word word) name n x e

@@ -9,9 +9,9 @@ use Rattle.reg_core.specs.World.{place_cmp}
 use Rattle.reg_core.specs.declared.entry.Registration.{Registration}
 
 -- by registry, and then by value
-abbrev pub Entries : Type 0
-Entries = BTreeMap (List ℕ) (BTreeMap ℕ Registration)
+abbrev pub ListedEntries : Type 0
+ListedEntries = BTreeMap (List ℕ) (BTreeMap ℕ Registration)
 
 -- the entries of all registries, by registry and value
-abbrev pub all_entries : Entries → FinMap place_cmp Registration
+abbrev pub all_entries : ListedEntries → FinMap place_cmp Registration
 all_entries entries = pair_map text_cmp nat_cmp entries

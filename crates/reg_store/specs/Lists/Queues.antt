@@ -1,6 +1,6 @@
 -- What is assigned to each expert, as the expert sees it.
-use Rattle.std.specs.Prelude.{◌≡◌, ℕ, List, Option, Some, option_map}
-use Rattle.std.specs.BTreeMap.{BTreeMap}
+use Rattle.std.specs.Prelude.{◌≡◌, ◌&&◌, ℕ, Bool, List, Option, Some, cond, option_map}
+use Rattle.std.specs.BTreeMap.{BTreeMap, is_at}
 use Rattle.std.specs.FinMap.{FinMap, get}
 use Rattle.std.specs.declared.cmp.Ordering.{Ordering}
 use Rattle.reg_maps.specs.Maps.{text_cmp, pair_cmp}
@@ -41,9 +41,17 @@ row_for requests advice expert name =
     option_map (λ case. queue_row name (as_queued (get advice (name, expert)) case))
     (get requests name)
 
--- a row with another word of the state, or with this advice
+-- a row with this advice, or with another word of the state
+abbrev pub with_advice : Advice → QueueRow → QueueRow
+with_advice advice row = record row { advice = Some advice }
+
 abbrev pub with_word : StateWord → QueueRow → QueueRow
 with_word word row = record row { word = word }
 
-abbrev pub with_advice : Advice → QueueRow → QueueRow
-with_advice advice row = record row { advice = Some advice }
+-- the rows of a request have this word in the queues of these experts, and all others stay as they were
+abbrev pub AreWorded : (List ℕ → Bool) → RequestName → StateWord → FinMap queue_cmp QueueRow
+    → FinMap queue_cmp QueueRow → Type 0
+AreWorded experts name word old new =
+    (e : List ℕ) (n : RequestName) → get new (e, n)
+    ≡ cond (experts e && is_at (name_cmp name) n) (option_map (with_word word) (get old (e, n)))
+    (get old (e, n))

@@ -1,11 +1,9 @@
-//! The accounts that may read an account's requests, by their principals and by their agents.
+//! Links of one account to another, by the first of the two and by the second.
 ghost use Rattle.std.specs.Prelude.{◌≡◌, false, IfOk, IsOk, OnOk, OnErr};
 ghost use Rattle.std.specs.FinMap as fin;
-ghost use Rattle.reg_core.specs.Link.{agent_rows, principal_names};
-ghost use Rattle.reg_core.specs.View.{agents_of, principals_of};
-ghost use Rattle.reg_core.specs.World.{with_link};
 ghost use Rattle.reg_core.specs.Link.{link_rows};
-ghost use Rattle.reg_store.specs.Lists.Pairs.{AreMirrored, all_pairs, link_world};
+ghost use Rattle.reg_core.specs.World.{with_link};
+ghost use Rattle.reg_store.specs.Lists.Pairs.{AreMirrored, all_pairs, firsts_of, seconds_of};
 
 use crate::groups::{list_group, put_row, row_in, take_row};
 use crate::maps::push_rows;
@@ -18,13 +16,13 @@ use std::collections::BTreeMap;
 /// Accounts by one account, and then by another.
 pub type Pairs = BTreeMap<Account, BTreeMap<Account, ()>>;
 
-/// The agents of each principal; and, once more, by agent, the principals of each. So no link of
-/// others is looked at to find an account's own, on either side.
+/// The links of each first account; and, once more, by their second. So no link of others is looked
+/// at to find an account's own, on either side.
 #[derive(Drop)]
 pub struct Links {
-    agents: Pairs,
-    principals: Pairs,
-    ghost in_step: { AreMirrored (all_pairs agents) (all_pairs principals) },
+    by_first: Pairs,
+    by_second: Pairs,
+    ghost in_step: { AreMirrored (all_pairs by_first) (all_pairs by_second) },
 }
 
 impl Links {
@@ -35,65 +33,63 @@ impl Links {
         ensures { links_held result ≡ fin.empty }
     {
         Links {
-            agents: BTreeMap::new(alloc),
-            principals: BTreeMap::new(alloc),
+            by_first: BTreeMap::new(alloc),
+            by_second: BTreeMap::new(alloc),
         }
     }
 
-    /// The agents of an account, in order.
-    pub fn agents(&self, alloc: Global, account: &Account) -> Result<Rows<Account>, AllocError>
-        ensures { IfOk result (λ names. names
-            ≡ agent_rows (agents_of account.now (link_world (links_held self.now)))) }
+    /// The second accounts of the links that have this one first, in order.
+    pub fn seconds(&self, alloc: Global, first: &Account) -> Result<Rows<Account>, AllocError>
+        ensures { IfOk result (λ names. names ≡ seconds_of first.now (links_held self.now)) }
     {
-        seconds_in(alloc, &self.agents, account)
+        seconds_in(alloc, &self.by_first, first)
     }
 
-    /// The principals of an account, in order.
-    pub fn principals(&self, alloc: Global, account: &Account) -> Result<Rows<Account>, AllocError>
-        ensures { IfOk result (λ names. names
-            ≡ principal_names (principals_of account.now (link_world (links_held self.now)))) }
+    /// The first accounts of the links that have this one second, in order.
+    pub fn firsts(&self, alloc: Global, second: &Account) -> Result<Rows<Account>, AllocError>
+        ensures { IfOk result (λ names. names ≡ firsts_of second.now (links_held self.now)) }
     {
-        seconds_in(alloc, &self.principals, account)
+        seconds_in(alloc, &self.by_second, second)
     }
 
-    /// All principals with their agents, by principal and then by agent.
+    /// All links, by their first account and then by their second.
     pub fn all(&self, alloc: Global) -> Result<Rows<LinkRow>, AllocError>
         ensures { IfOk result (λ rows. rows ≡ link_rows (links_held self.now)) }
     {
-        pairs_in(alloc, &self.agents)
+        pairs_in(alloc, &self.by_first)
     }
 
-    /// Whether an account is an agent of a principal.
-    pub fn has(&self, principal: &Account, agent: &Account) -> bool
-        ensures { result ≡ fin.contains_key (links_held self.now) (principal.now, agent.now) }
+    /// Whether one account is linked to another.
+    pub fn has(&self, first: &Account, second: &Account) -> bool
+        ensures { result ≡ fin.contains_key (links_held self.now) (first.now, second.now) }
     {
-        row_in(&self.agents, principal, agent).is_some()
+        row_in(&self.by_first, first, second).is_some()
     }
 
-    /// Adds an agent of a principal, or takes it away, which needs no memory. One that is there or
+    /// Links one account to another, or ends that, which needs no memory. A link that is there or
     /// not there already stays so.
     pub fn set(
         &mut self,
         alloc: Global,
-        principal: Account,
-        agent: Account,
-        reads: bool,
+        first: Account,
+        second: Account,
+        linked: bool,
     ) -> Result<(), AllocError>
         ensures ok { OnOk result (links_held self.new
-            ≡ with_link reads (principal, agent) (links_held self.old)) }
+            ≡ with_link linked (first, second) (links_held self.old)) }
         ensures err { OnErr result (links_held self.new ≡ links_held self.old) }
-        ensures taken { reads ≡ false → IsOk result }
+        ensures taken { linked ≡ false → IsOk result }
     {
-        if reads {
+        if linked {
             add_both(
                 alloc,
-                &mut self.agents,
-                &mut self.principals,
-                principal,
-                agent,
+                &mut self.by_first,
+                &mut self.by_second,
+                first,
+                second,
             )
         } else {
-            take_both(&mut self.agents, &mut self.principals, &principal, &agent);
+            take_both(&mut self.by_first, &mut self.by_second, &first, &second);
             Ok(())
         }
     }
@@ -101,8 +97,7 @@ impl Links {
 
 // The second accounts of the pairs that have this one first, in order.
 fn seconds_in(alloc: Global, pairs: &Pairs, first: &Account) -> Result<Rows<Account>, AllocError>
-    ensures { IfOk result (λ names. names
-        ≡ agent_rows (agents_of first.now (link_world (all_pairs pairs.now)))) }
+    ensures { IfOk result (λ names. names ≡ seconds_of first.now (all_pairs pairs.now)) }
 {
     Ok(Rows::from_vec(list_group(alloc, pairs, first, |second, _| Ok(*second))?))
 }
@@ -112,12 +107,12 @@ fn pairs_in(alloc: Global, pairs: &Pairs) -> Result<Rows<LinkRow>, AllocError>
     ensures { IfOk result (λ rows. rows ≡ link_rows (all_pairs pairs.now)) }
 {
     let mut rows = Vec::new(alloc);
-    for (principal, group) in pairs {
+    for (first, group) in pairs {
         let _group = group.len();
-        push_rows(&mut rows, group, |agent, _| {
+        push_rows(&mut rows, group, |second, _| {
             Ok(LinkRow {
-                principal: *principal,
-                agent: *agent,
+                principal: *first,
+                agent: *second,
             })
         })?;
     }
@@ -127,34 +122,34 @@ fn pairs_in(alloc: Global, pairs: &Pairs) -> Result<Rows<LinkRow>, AllocError>
 // Into both orders, or, where there is no memory for the second, into none.
 fn add_both(
     alloc: Global,
-    agents: &mut Pairs,
-    principals: &mut Pairs,
-    principal: Account,
-    agent: Account,
+    by_first: &mut Pairs,
+    by_second: &mut Pairs,
+    first: Account,
+    second: Account,
 ) -> Result<(), AllocError>
-    requires { AreMirrored (all_pairs agents.old) (all_pairs principals.old) }
-    ensures in_step { AreMirrored (all_pairs agents.new) (all_pairs principals.new) }
-    ensures ok { OnOk result (all_pairs agents.new
-        ≡ fin.insert (all_pairs agents.old) (principal, agent) tt) }
-    ensures err { OnErr result (all_pairs agents.new ≡ all_pairs agents.old) }
+    requires { AreMirrored (all_pairs by_first.old) (all_pairs by_second.old) }
+    ensures in_step { AreMirrored (all_pairs by_first.new) (all_pairs by_second.new) }
+    ensures ok { OnOk result (all_pairs by_first.new
+        ≡ fin.insert (all_pairs by_first.old) (first, second) tt) }
+    ensures err { OnErr result (all_pairs by_first.new ≡ all_pairs by_first.old) }
 {
-    put_row(alloc, agents, principal, agent, ())?;
-    match put_row(alloc, principals, agent, principal, ()) {
+    put_row(alloc, by_first, first, second, ())?;
+    match put_row(alloc, by_second, second, first, ()) {
         Ok(()) => Ok(()),
         Err(error) => {
-            take_row(agents, &principal, &agent);
+            take_row(by_first, &first, &second);
             Err(error)
         }
     }
 }
 
 // Out of both orders.
-fn take_both(agents: &mut Pairs, principals: &mut Pairs, principal: &Account, agent: &Account)
-    requires { AreMirrored (all_pairs agents.old) (all_pairs principals.old) }
-    ensures in_step { AreMirrored (all_pairs agents.new) (all_pairs principals.new) }
-    ensures links { all_pairs agents.new
-        ≡ fin.remove (all_pairs agents.old) (principal.now, agent.now) }
+fn take_both(by_first: &mut Pairs, by_second: &mut Pairs, first: &Account, second: &Account)
+    requires { AreMirrored (all_pairs by_first.old) (all_pairs by_second.old) }
+    ensures in_step { AreMirrored (all_pairs by_first.new) (all_pairs by_second.new) }
+    ensures links { all_pairs by_first.new
+        ≡ fin.remove (all_pairs by_first.old) (first.now, second.now) }
 {
-    take_row(agents, principal, agent);
-    take_row(principals, agent, principal);
+    take_row(by_first, first, second);
+    take_row(by_second, second, first);
 }

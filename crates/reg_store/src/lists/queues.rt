@@ -1,12 +1,10 @@
 //! Requests by the experts to whom they are assigned, as these see them.
-ghost use Rattle.std.specs.Prelude.{◌≡◌, ◌&&◌, ℕ, List, cond, is_some, option_map, IfOk};
+ghost use Rattle.std.specs.Prelude.{◌≡◌, is_some, IfOk};
 ghost use Rattle.std.specs.BTreeMap as tree;
-ghost use Rattle.std.specs.BTreeMap.{is_at};
 ghost use Rattle.std.specs.FinMap as fin;
 ghost use Rattle.reg_maps.specs.Maps.{text_cmp, update};
-ghost use Rattle.reg_core.specs.World.{name_cmp};
 ghost use Rattle.reg_store.specs.Lists.Panels.{seats};
-ghost use Rattle.reg_store.specs.Lists.Queues.{all_queues, with_word, with_advice};
+ghost use Rattle.reg_store.specs.Lists.Queues.{AreWorded, all_queues, with_advice};
 
 use crate::groups::{change_row, group_in, row_in};
 use crate::lists::panels::{Panel, Panels};
@@ -45,10 +43,8 @@ pub fn set_advice(queues: &mut Queues, expert: &Account, name: &RequestName, adv
 
 /// Puts the bare word of a request's state into its rows in the queues of its experts.
 pub fn set_words(queues: &mut Queues, panels: &Panels, name: &RequestName, word: StateWord)
-    ensures { (e : List ℕ) (n : List ℕ × List ℕ) → fin.get (all_queues queues.new) (e, n)
-        ≡ cond (fin.contains_key (seats panels.now) (name.now, e) && is_at (name_cmp name.now) n)
-        (option_map (with_word word) (fin.get (all_queues queues.old) (e, n)))
-        (fin.get (all_queues queues.old) (e, n)) }
+    ensures { AreWorded (λ e. fin.contains_key (seats panels.now) (name.now, e)) name.now word
+        (all_queues queues.old) (all_queues queues.new) }
 {
     if let Some(panel) = group_in(panels, name) {
         set_words_of(queues, panel, name, word);
@@ -56,10 +52,8 @@ pub fn set_words(queues: &mut Queues, panels: &Panels, name: &RequestName, word:
 }
 
 fn set_words_of(queues: &mut Queues, panel: &Panel, name: &RequestName, word: StateWord)
-    ensures { (e : List ℕ) (n : List ℕ × List ℕ) → fin.get (all_queues queues.new) (e, n)
-        ≡ cond (is_some (tree.get text_cmp panel.now e) && is_at (name_cmp name.now) n)
-        (option_map (with_word word) (fin.get (all_queues queues.old) (e, n)))
-        (fin.get (all_queues queues.old) (e, n)) }
+    ensures { AreWorded (λ e. is_some (tree.get text_cmp panel.now e)) name.now word
+        (all_queues queues.old) (all_queues queues.new) }
 {
     for expert in panel.keys() {
         change_row(queues, expert, name, |row| row.word = word);

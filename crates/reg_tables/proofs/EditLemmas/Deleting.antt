@@ -13,6 +13,7 @@ use Rattle.sqlite.specs.State.{State, Executes}
 use Rattle.sqlite.proofs.Callers.{IsPlain, command_of, statement_of, runs_as}
 use Rattle.sqlite_rules.specs.Calls.{ids_of}
 use Rattle.sqlite_rules.specs.Edit.{edit_of, taken_by}
+use Rattle.reg_tables.specs.Kinds.{WritesRows}
 use Rattle.reg_tables.specs.Schema.{office_schema}
 use Rattle.reg_tables.specs.Selecting.{passes, shows}
 use Rattle.reg_tables.specs.Editing.{AreKeyed, DeletedRows}
@@ -25,6 +26,7 @@ pub record Deletes (sql : List ℕ) (at : ℕ) (table : Table) (tests : List Ter
   pub is : command_of (understood office_schema sql)
       ≡ Delete at (finding table.tree tests (col 1 0 ∷ []))
   pub plain : IsPlain (understood office_schema sql)
+  pub writes : WritesRows sql
 
 pub deletes : (sql : List ℕ) (at : ℕ) (table : Table) (tests : List Term) (params : Row)
     (old new : State) (count : ℕ) → Deletes sql at table tests → old.now.schema ≡ office_schema

@@ -1,13 +1,12 @@
 -- An INSERT keeps the rows of each table by rowids.
-use Rattle.std.proofs.Common.{◌≡◌, ℕ, ℤ, List, [], false, slice_get, Option, Some, None, fold}
-use Rattle.std.proofs.Common.{Ok, Result, sym, ap, subst, ◌∙◌}
-use Rattle.sqlite.specs.declared.error.Error.{Error}
+use Rattle.std.proofs.Common.{◌≡◌, ℕ, List, [], false, slice_get, Option, Some, None, fold}
+use Rattle.std.proofs.Common.{Ok, sym, ap, subst, ◌∙◌}
 use Rattle.sqlite.specs.Command.TheVariants.{Insert}
 use Rattle.sqlite.specs.Does.{Does}
 use Rattle.sqlite.specs.Effect.{Database}
 use Rattle.sqlite.specs.Listing.{understood}
 use Rattle.sqlite.specs.Order.{Row}
-use Rattle.sqlite.specs.Rows.{Written, Task, Counts, Inserts, rowids_for, count_of, higher}
+use Rattle.sqlite.specs.Rows.{Written, Inserts, rowids_for, count_of, higher}
 use Rattle.sqlite.specs.State.{State, Executes}
 use Rattle.sqlite.specs.Table.{Table}
 use Rattle.sqlite.specs.Tree.{Trees}
@@ -18,17 +17,10 @@ use Rattle.sqlite_rules.specs.Edit.{edit_of, taken_by}
 use Rattle.reg_tables.specs.Schema.{office_schema}
 use Rattle.reg_tables.specs.Editing.{AreTables}
 use Rattle.reg_tables.proofs.Library.QuietReferences.{quiet_works}
-use Rattle.reg_tables.proofs.InsertLemmas.{quiet_office}
+use Rattle.reg_tables.proofs.InsertLemmas.{quiet_office, uncounts}
 use Rattle.reg_tables.proofs.Library.Parts.{went, same_ok}
 use Rattle.reg_tables.proofs.EditLemmas.Steps.{enforcing, task_on, wrote}
 use Rattle.reg_tables.proofs.EditLemmas.Tables.{tables_after}
-
--- a table with no AUTOINCREMENT has no count
-pub uncounts : (task : Task) (db : Trees) (counter : Option Row) (top : ℤ) (next : Trees)
-    → task.table.is_counted ≡ false → Counts task db counter top (Ok next) → next ≡ db
-uncounts task db counter top next e h =
-    let plain : ◌≡◌ {A = Result Trees (Option Error)} (Ok next) (Ok db) = rw e at h in
-    same_ok plain
 
 kept_by_insert : (limit : Option ℕ) (params : Row) (table : Table) (from : Source) (db : Trees)
     (w : Written) → table.is_counted ≡ false → Inserts (task_on limit params table) from db (Ok w)

@@ -1,8 +1,7 @@
 -- What an INSERT of one row that updates the row with its key does to a table.
-use Rattle.std.proofs.Common.{◌≡◌, ◌⊎◌, inl, inr, ℕ, ℤ, List, [], ◌∷◌, ◌++◌, length}
-use Rattle.std.proofs.Common.{◌+◌, ◌/◌, ◌&&◌, slice_get, Bool, true, false, if◌then◌else◌}
-use Rattle.std.proofs.Common.{Option, Some, None, Ok, refl, sym, ap, subst, ◌∙◌, Equal}
-use Rattle.std.proofs.Common.{Less, Greater}
+use Rattle.std.proofs.Common.{◌≡◌, ◌⊎◌, inl, inr, ℕ, ℤ, List, [], ◌∷◌, ◌++◌, length, ◌+◌, ◌/◌, ◌&&◌}
+use Rattle.std.proofs.Common.{slice_get, Bool, true, false, if◌then◌else◌, Option, Some, None, Ok}
+use Rattle.std.proofs.Common.{refl, sym, ap, subst, ◌∙◌, Equal, Less, Greater}
 use Rattle.std.specs.List.Sorted.{IsPermutation}
 use Rattle.std.proofs.lemmas.Bool.{and_parts, and_from, both_ways, cases_Bool, not-true}
 use Rattle.std.proofs.lemmas.Bool.{false_from_ne_true}
@@ -51,15 +50,13 @@ use Rattle.reg_tables.specs.Putting.{PutRow}
 use Rattle.reg_tables.specs.Schema.{office_schema}
 use Rattle.reg_tables.specs.Selecting.{equals, passes, shows}
 use Rattle.reg_tables.specs.Values.{same_value}
-use Rattle.reg_tables.proofs.Library.RowLists.{column_after, permutation-put_row}
+use Rattle.reg_tables.proofs.Library.RowLists.{column_after, permutation-put_row, map_same}
 use Rattle.reg_tables.proofs.Library.QuietReferences.{quiet_works}
-use Rattle.reg_tables.proofs.InsertLemmas.{quiet_office}
+use Rattle.reg_tables.proofs.InsertLemmas.{quiet_office, uncounts}
 use Rattle.reg_tables.proofs.Library.Parts.{chosen, same_ok, went}
 use Rattle.reg_tables.proofs.ValueLemmas.{passes_equals, same_value-Int}
 use Rattle.reg_tables.proofs.Library.Casts.{AreGiven}
 use Rattle.reg_tables.proofs.EditLemmas.Changing.{changed_found}
-use Rattle.reg_tables.proofs.EditLemmas.Inserting.{uncounts}
-use Rattle.reg_tables.proofs.Library.RowLists.{map_same}
 use Rattle.reg_tables.proofs.EditLemmas.Steps.{finding, enforcing, office_at, task_on, wrote}
 use Rattle.reg_tables.proofs.EditLemmas.Steps.{edits_found, trees_after}
 use Rattle.reg_tables.proofs.EditLemmas.Tables.{office_after_change, tables_after}

@@ -24,8 +24,7 @@ use Rattle.reg_tables.specs.Selecting.{select_from, passes, shows}
 use Rattle.reg_tables.proofs.SelectLemmas.{answer_rows, as_kept}
 use Rattle.reg_tables.proofs.Library.QuietReferences.{quiet_works}
 use Rattle.reg_tables.proofs.InsertLemmas.{quiet_office}
-use Rattle.reg_tables.proofs.Library.Parts.{went}
-use Rattle.reg_tables.proofs.Library.Parts.{same_ok}
+use Rattle.reg_tables.proofs.Library.Parts.{went, same_ok}
 
 -- the query by which a statement finds the rows that it edits
 abbrev pub finding : ℕ → List Term → List Term → Program

@@ -1,15 +1,15 @@
 -- A value that has its column's type is stored as it is.
-use Rattle.std.proofs.Common.{◌≡◌, inl, inr, ℕ, zero, suc, ◌+◌, List, [], ◌∷◌, drop}
-use Rattle.std.proofs.Common.{Bool, true, false, ◌&&◌, cond, None, refl, sym, ap, ap₂, ◌∙◌}
+use Rattle.std.proofs.Common.{◌≡◌, inl, inr, ℕ, zero, suc, ◌+◌, List, [], ◌∷◌, drop, Bool, true}
+use Rattle.std.proofs.Common.{false, ◌&&◌, cond, None, refl, sym, ap, ap₂, ◌∙◌, ℤ}
 use Rattle.std.specs.List.{list_all}
 use Rattle.std.specs.Prelude.{MatchBool, ◌==◌}
 use Rattle.std.proofs.lemmas.Bool.{and_parts, cases_Bool, eqb-true}
 use Rattle.std.proofs.lemmas.Bool.{MatchBool-at_true, MatchBool-at_false}
 use Rattle.sqlite.specs.declared.types.Value.{Value}
-use Rattle.sqlite.specs.declared.types.Value.TheVariants.{Null, Int, Real, Text, Blob}
+use Rattle.sqlite.specs.declared.types.Value.TheVariants.{Null, Int, Text}
 use Rattle.sqlite.specs.Order.{Row, column}
 use Rattle.sqlite.specs.Table.{Table}
-use Rattle.sqlite.specs.Term.{Term, lit, col, op1, op2, case, eval, eval_all}
+use Rattle.sqlite.specs.Term.{Term, lit, col, eval, eval_all}
 use Rattle.sqlite_trees.specs.Tree.{rowid}
 use Rattle.sqlite_trees.specs.View.{is_int}
 use Rattle.sqlite_schema.specs.declared.schema.Kind.{Kind}
@@ -21,7 +21,6 @@ use Rattle.sqlite_rules.proofs.TableLemmas.{int_is}
 use Rattle.reg_tables.specs.Selecting.{shows}
 use Rattle.sqlite.specs.Ops.{unary}
 use Rattle.sqlite.specs.Kind.TheVariants.{Integer}
-use Rattle.std.proofs.Common.{ℤ}
 
 either : (b : Bool) (x : Value) → cond b x x ≡ x
 either true x = refl
@@ -39,9 +38,7 @@ cast_int n = either _ (Int n)
 abbrev pub holds_texts_or_numbers : Kind → Bool
 holds_texts_or_numbers kind.Integer = true
 holds_texts_or_numbers kind.Text = true
-holds_texts_or_numbers kind.Real = false
-holds_texts_or_numbers kind.Blob = false
-holds_texts_or_numbers kind.Any = false
+holds_texts_or_numbers _ = false
 
 abbrev pub is_simple : Column → Bool
 is_simple c = c.is_strict && holds_texts_or_numbers c.kind
@@ -50,17 +47,9 @@ cast_typed : (k : Kind) (v : Value) → holds_texts_or_numbers k ≡ true → is
     → cast k v ≡ v
 cast_typed kind.Integer Null h typed = cast_null
 cast_typed kind.Integer (Int n) h typed = cast_int n
-cast_typed kind.Integer (Real x) h typed = cc
-cast_typed kind.Integer (Text t) h typed = cc
-cast_typed kind.Integer (Blob b) h typed = cc
 cast_typed kind.Text Null h typed = refl
-cast_typed kind.Text (Int n) h typed = cc
-cast_typed kind.Text (Real x) h typed = cc
 cast_typed kind.Text (Text t) h typed = refl
-cast_typed kind.Text (Blob b) h typed = cc
-cast_typed kind.Real v h typed = cc
-cast_typed kind.Blob v h typed = cc
-cast_typed kind.Any v h typed = cc
+cast_typed _ _ h typed = cc
 
 pub cast_suited : (c : Column) (v : Value) → is_simple c ≡ true → suits c v ≡ true
     → cast c.kind v ≡ v
@@ -104,9 +93,7 @@ abbrev IsGiven : Type 0 → ℕ → Column → Row → Term → Type 0
 IsGiven rest place c params (lit v) = (suits c v ≡ true) × rest
 IsGiven rest place c params (col zero at) = (suits c (column params at) ≡ true) × rest
 IsGiven rest place c params (col (suc slot) at) = MatchBool ((slot == 0) && (at == place)) rest ⊥
-IsGiven rest place c params (op1 op a) = ⊥
-IsGiven rest place c params (op2 op a b) = ⊥
-IsGiven rest place c params (case t a b) = ⊥
+IsGiven rest place c params _ = ⊥
 
 -- Each of these columns, from a place on, is given its own value or one of its type.
 -- It comes to a pair for each value that is given.
@@ -134,9 +121,7 @@ module _ (params row : Row) where
   given_suits rest place c (col zero at) h kept = h
   given_suits rest place c (col (suc slot) at) h kept =
       let own = own_column rest place slot at h in (rw (own.0, own.1) kept, own.2)
-  given_suits rest place c (op1 op a) h kept = absurd h
-  given_suits rest place c (op2 op a b) h kept = absurd h
-  given_suits rest place c (case t a b) h kept = absurd h
+  given_suits rest place c _ h kept = absurd h
 
   cast_given : (place : ℕ) (cs : List Column) (ts : List Term) → list_all is_simple cs ≡ true
       → AreGiven place cs params ts → Suit (column row) place cs

@@ -1,8 +1,7 @@
 -- A text that makes a table does so whatever tables there are, and leaves the others as they were.
-use Rattle.std.proofs.Common.{◌≡◌, ℕ, ◌+◌, Bool, true, false, not, ◌&&◌, if◌then◌else◌}
-use Rattle.std.proofs.Common.{List, [], length}
-use Rattle.std.proofs.Common.{Option, None, Ok, Err, inl, inr, is_some, ◌⊎◌, ◌==◌}
-use Rattle.std.proofs.Common.{refl, sym, ap, subst, ◌∙◌}
+use Rattle.std.proofs.Common.{◌≡◌, ℕ, Bool, true, false, not, ◌&&◌, if◌then◌else◌, List, [], length}
+use Rattle.std.proofs.Common.{Option, None, Ok, Err, inl, inr, is_some, ◌⊎◌, ◌==◌, refl, sym, ap}
+use Rattle.std.proofs.Common.{subst, ◌∙◌}
 use Rattle.std.specs.Prelude.{IfOk, MatchBool}
 use Rattle.sqlite.specs.Rows.{Gives}
 use Rattle.std.specs.Option.{option_or}
@@ -20,9 +19,8 @@ use Rattle.sqlite_ast.specs.declared.Statement.{Statement}
 use Rattle.sqlite_ast.specs.declared.Statement.TheVariants as written
 use Rattle.sqlite_catalog.specs.Calls.{CreatesTable}
 use Rattle.sqlite_catalog.specs.Change.{created, is_used, next_tree, KeepsRows}
-use Rattle.sqlite_resolve.specs.Compile.{command, create_table, creates, is_attached}
-use Rattle.sqlite_resolve.specs.Compile.{is_reserved}
-use Rattle.sqlite_resolve.specs.Compile.{meaning, planned, returning, small, timed, with_command}
+use Rattle.sqlite_resolve.specs.Compile.{command, create_table, creates, is_attached, is_reserved}
+use Rattle.sqlite_resolve.specs.Compile.{planned, returning, with_command}
 use Rattle.sqlite_resolve.specs.Define as define
 use Rattle.sqlite_resolve.specs.Lowering.{Checked, and_then}
 use Rattle.sqlite_resolve.specs.Scope.{Name}
@@ -35,7 +33,8 @@ use Rattle.sqlite_schema.specs.declared.command.Returning.{Returning}
 use Rattle.reg_tables.specs.Having.{Defines}
 use Rattle.reg_tables.specs.Kinds.{is_making}
 use Rattle.reg_tables.specs.Making.{IsMade}
-use Rattle.reg_tables.proofs.Library.Compiling.{compiled_if, if_also, if_then, understood_if}
+use Rattle.reg_tables.proofs.Library.Compiling.{base_at, compiled_if, if_also, if_then, planned_if}
+use Rattle.reg_tables.proofs.Library.Compiling.{understood_if}
 use Rattle.reg_tables.proofs.Library.Parts.{same_ok, went}
 
 abbrev Makes : Command → Type 0
@@ -115,25 +114,15 @@ module _ (text : List ℕ) (table : Table) (it : Defines text table) where
 
   planned_making : (schema : Schema) (plan : List Name × (Command × Option Returning))
       → planned schema it.parsed ≡ Ok plan → IsMaking (with_command it.parsed plan)
-  unfolding planned meaning
   planned_making schema plan same =
-      go (command schema it.parsed.formats base it.parsed.statement)
-      (makes schema base it.parsed.formats it.parsed.statement it.makes)
-      (rw (shows_none schema base it.parsed.statement it.makes) at same)
-    where
-      formats : List Name
-      formats = timed schema it.parsed.formats it.parsed.statement
-
-      base : ℕ
-      base = small it.parsed.names + small formats
-
-      go : (r : Checked Command) → IfOk r Makes
-          → and_then (and_then r (λ c. Ok (c, None))) (λ found. Ok (formats, found)) ≡ Ok plan
-          → IsMaking (with_command it.parsed plan)
-      go (Ok c) made done =
-          let is : (formats, (c, None)) ≡ plan = cc in
-          subst (λ plan. IsMaking (with_command it.parsed plan)) is (made, refl, it.whole)
-      go (Err e) made done = absurd (cc)
+      let base = base_at schema it.parsed in
+      planned_if IsMaking schema it.parsed plan same
+      (shows_none schema base it.parsed.statement it.makes) (λ c made. (
+        subst (λ r. IfOk r Makes) made
+            (makes schema base it.parsed.formats it.parsed.statement it.makes),
+        refl,
+        it.whole,
+      ))
 
   understood_making : (schema : Schema) → IfOk (understood schema text) IsMaking
   understood_making = understood_if IsMaking text

@@ -1,8 +1,6 @@
 -- What is found in a list is found there after others came to its end.
-use Rattle.std.proofs.Common.{◌≡◌, ℕ, zero, suc, ◌+◌, Bool, true, false, cond}
-use Rattle.std.proofs.Common.{List, [], ◌∷◌, ◌++◌, length, slice_get}
-use Rattle.std.proofs.Common.{Some, None}
-use Rattle.std.proofs.Common.{refl, ap, ◌∙◌, arith}
+use Rattle.std.proofs.Common.{◌≡◌, ℕ, zero, suc, ◌+◌, Bool, true, false, cond, List, [], ◌∷◌, ◌++◌}
+use Rattle.std.proofs.Common.{length, slice_get, Some, None, refl, ap, ◌∙◌, arith}
 use Rattle.std.specs.List.{position_from}
 
 pub before_more : {X : Type 0} (f : X → Bool) (xs ys : List X) (i at : ℕ)

@@ -1,9 +1,8 @@
 -- What tables, with their indexes, come to a schema by texts that define them.
-use Rattle.std.proofs.Common.{◌≡◌, ℕ, suc, ◌+◌, ◌≤◌, true, false, ◌||◌}
-use Rattle.std.proofs.Common.{List, [], ◌∷◌, ◌++◌, length, slice_get}
-use Rattle.std.proofs.Common.{Option, Some, None, Ok, inl, inr, is_some}
-use Rattle.std.proofs.Common.{refl, sym, ap, subst, ◌∙◌, arith, length-append}
-use Rattle.std.specs.List.{AllByRecursion, position_from}
+use Rattle.std.proofs.Common.{◌≡◌, ℕ, suc, ◌+◌, ◌≤◌, true, false, ◌||◌, List, [], ◌∷◌, ◌++◌, length}
+use Rattle.std.proofs.Common.{slice_get, Option, Some, None, Ok, inl, inr, is_some, refl, sym, ap}
+use Rattle.std.proofs.Common.{subst, ◌∙◌, arith, length-append}
+use Rattle.std.specs.List.{position_from}
 use Rattle.std.proofs.lemmas.Bool.{and_parts}
 use Rattle.std.proofs.lemmas.List.{append_assoc, append-nil}
 use Rattle.sqlite.specs.Schema.{Schema}
@@ -11,9 +10,10 @@ use Rattle.sqlite.specs.State.{State, Executes}
 use Rattle.sqlite.specs.Table.{Table}
 use Rattle.sqlite_catalog.specs.Change.{automatics, created, is_used, next_tree}
 use Rattle.sqlite_schema.specs.Names.{index_named, same_name, table_named, view_named}
-use Rattle.reg_tables.specs.Having.{Defines, Extends, Gains, GainsEach}
+use Rattle.reg_tables.specs.Having.{Defines, Extends, Gains, GainsEach, GainsOne}
 use Rattle.reg_tables.specs.Having.{HasTable, keys_of, unplaced}
 use Rattle.reg_tables.proofs.Library.Creating.{made}
+use Rattle.reg_tables.proofs.Library.EachOf.{all_join, all_then}
 use Rattle.reg_tables.proofs.Library.GrowingLists.{at_end, before_more, got_at_end, got_before}
 
 length_automatics : (table : Table) (at tree : ℕ) (keys : List (List ℕ))
@@ -35,11 +35,6 @@ still_has {old = old} t grows has = record {
       ∙ got_before _ grows.tables_come.0 has.at has.table has.there;
   same = has.same;
 }
-
-all_still : {n m : ℕ} {old new : Schema} (all : List Table) → Extends n m old new
-    → AllByRecursion (HasTable old) all → AllByRecursion (HasTable new) all
-all_still [] grows has = tt
-all_still (t ∷ all) grows has = (still_has t grows has.0, all_still all grows has.1)
 
 pub extends_then : {n m k l : ℕ} {a b c : Schema} → Extends n m a b → Extends k l b c
     → Extends (n + k) (m + l) a c
@@ -144,17 +139,12 @@ gains text table it own old new count h =
       has = (has_placed new.now.schema table (still_has (unplaced table) later here), tt);
     }
 
-all_both : (P : Table → Type 0) (all more : List Table) → AllByRecursion P all
-    → AllByRecursion P more → AllByRecursion P (all ++ more)
-all_both P [] more a b = b
-all_both P (t ∷ all) more a b = (a.0, all_both P all more a.1 b)
-
 -- what comes in one step and in another
 pub gains_then : {all more : List Table} {n m k l : ℕ} {a b c : Schema} → Gains all n m a b
     → Gains more k l b c → Gains (all ++ more) (n + k) (m + l) a c
 gains_then {all = all} {more = more} {c = c} p q = record {
   extends = extends_then p.extends q.extends;
-  has = all_both (HasTable c) all more (all_still all q.extends p.has) q.has;
+  has = all_join (HasTable c) all more (all_then all p.has (λ t has. still_has t q.extends has)) q.has;
 }
 
 -- where nothing comes
@@ -164,9 +154,7 @@ gains_none schema (t ∷ tables) defined named = absurd defined
 
 -- what comes by a text and what comes by those after it
 pub gains_each : (text : List ℕ) (texts : List (List ℕ)) (a b c : Schema)
-    → ((table : Table) → Defines text (unplaced table) → same_name table.name table.name ≡ true
-    → Gains (table ∷ []) 1 (length table.uniques) a b)
-    → GainsEach texts b c → GainsEach (text ∷ texts) a c
+    → GainsOne text a b → GainsEach texts b c → GainsEach (text ∷ texts) a c
 gains_each text texts a b c one each [] defined named = absurd defined
 gains_each text texts a b c one each (t ∷ tables) defined named =
     let both = and_parts _ _ named in

@@ -1,7 +1,6 @@
 -- Rows that are known by their rowids, where some are found and taken out or replaced.
-use Rattle.std.proofs.Common.{◌≡◌, ◌⊎◌, inl, inr, List, map, filter, ◌++◌}
-use Rattle.std.proofs.Common.{Bool, true, not, Ordering, Less, Equal, Greater}
-use Rattle.std.proofs.Common.{refl, sym, ap, subst, ◌∙◌}
+use Rattle.std.proofs.Common.{◌≡◌, ◌⊎◌, inl, inr, List, map, filter, ◌++◌, Bool, true, not}
+use Rattle.std.proofs.Common.{Ordering, Less, Equal, refl, sym, ap, subst, ◌∙◌}
 use Rattle.std.specs.Ordering.{is_eq}
 use Rattle.std.specs.List.{list_any}
 use Rattle.std.specs.List.Sorted.{IsPermutation}
@@ -19,19 +18,16 @@ use Rattle.sqlite_trees.proofs.ListLemmas.{ascending_weaker}
 use Rattle.sqlite_rules.specs.Lists.{Has}
 use Rattle.sqlite_rules.specs.Calls.{ids_of}
 use Rattle.sqlite_rules.specs.Edit.{id_in, without_all, put_all, are_fresh}
-use Rattle.sqlite_rules.proofs.ListLemmas.{all_from, some_has, some_from, has_filtered}
-use Rattle.sqlite_rules.proofs.ListLemmas.{has_kept}
+use Rattle.sqlite_rules.proofs.ListLemmas.{all_from, some_has, some_from, has_filtered, has_kept}
 use Rattle.sqlite_rules.proofs.ProbeLemmas.{has_mapped, mapped_has}
 use Rattle.sqlite_rules.proofs.TableLemmas.{int_is, put_all_has, put_all_keeps, put_all_adds}
 use Rattle.reg_tables.specs.Editing.{AreKeyed, altered}
 use Rattle.reg_tables.proofs.Library.RowLists.{without_all_is, has_permuted, same_rows}
-use Rattle.reg_tables.proofs.Library.RowLists.{put_all_table, permutation-put_all, parted}
-use Rattle.reg_tables.proofs.Library.RowLists.{map_same}
+use Rattle.reg_tables.proofs.Library.RowLists.{put_all_table, permutation-put_all, parted, map_same}
 
 equal_is : (o : Ordering) → is_eq o ≡ true → o ≡ Equal
-equal_is Less h = absurd (cc)
 equal_is Equal h = refl
-equal_is Greater h = absurd (cc)
+equal_is _ h = absurd (cc)
 
 pub keyed_permuted : (xs ys : List Row) → IsPermutation xs ys → AreKeyed xs → AreKeyed ys
 keyed_permuted xs ys same keyed =

@@ -1,7 +1,6 @@
 -- The parts of a statement that went through.
-use Rattle.std.proofs.Common.{◌≡◌, ◌⊎◌, inl, inr, ℤ}
-use Rattle.std.proofs.Common.{Bool, false, cond}
-use Rattle.std.proofs.Common.{None, Ok, Err, Result, refl, ap}
+use Rattle.std.proofs.Common.{◌≡◌, ◌⊎◌, inl, inr, ℤ, Bool, false, cond, None, Ok, Err, Result, refl}
+use Rattle.std.proofs.Common.{ap}
 use Rattle.sqlite.specs.Rowids.TheVariants.{Chosen, Above}
 use Rattle.sqlite.specs.declared.run.Mode.{Mode}
 use Rattle.sqlite.specs.Does.{Tally, Concludes}

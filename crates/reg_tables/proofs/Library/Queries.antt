@@ -1,6 +1,6 @@
 -- A text that is a query is one whatever tables there are, and shows its rows and no others.
-use Rattle.std.proofs.Common.{◌≡◌, ℕ, true, List, [], length, ◌==◌, ◌+◌, ◌∙◌}
-use Rattle.std.proofs.Common.{Option, None, Ok, Err, refl, subst}
+use Rattle.std.proofs.Common.{◌≡◌, ℕ, true, List, [], length, ◌==◌, ◌∙◌}
+use Rattle.std.proofs.Common.{Option, None, Ok, refl, subst}
 use Rattle.std.proofs.lemmas.Bool.{eqb-true}
 use Rattle.std.specs.Prelude.{IfOk}
 use Rattle.std.proofs.lemmas.List.{nil_from_length}
@@ -9,16 +9,14 @@ use Rattle.sqlite_ast.specs.declared.Statement.TheVariants as written
 use Rattle.sqlite_syntax.specs.declared.statement.Parsed.{Parsed}
 use Rattle.sqlite_schema.specs.declared.command.Command.{Command}
 use Rattle.sqlite_schema.specs.declared.command.Returning.{Returning}
-use Rattle.sqlite_resolve.specs.Compile.{first, planned, meaning, command, returning}
-use Rattle.sqlite_resolve.specs.Compile.{timed}
-use Rattle.sqlite_resolve.specs.Compile.{with_command, small}
-use Rattle.sqlite_resolve.specs.Lowering.{Checked, and_then}
+use Rattle.sqlite_resolve.specs.Compile.{first, planned, returning, timed, with_command}
+use Rattle.sqlite_resolve.specs.Lowering.{Checked}
 use Rattle.sqlite_resolve.specs.Scope.{Name}
 use Rattle.sqlite_resolve.specs.declared.compiled.Compiled.{Compiled}
 use Rattle.sqlite.specs.Listing.{understood}
 use Rattle.sqlite.specs.Schema.{Schema}
 use Rattle.reg_tables.specs.Kinds.{is_query, is_timeless, IsQuery}
-use Rattle.reg_tables.proofs.Library.Compiling.{compiled_if, of_kind, understood_if}
+use Rattle.reg_tables.proofs.Library.Compiling.{base_at, compiled_if, of_kind, planned_if, understood_if}
 
 abbrev pub IsPlainly : Compiled → Type 0
 IsPlainly c = (c.returning ≡ None) × (c.formats ≡ [])
@@ -38,25 +36,9 @@ timed_as schema formats _ is = absurd (cc)
 planned_query : (schema : Schema) (p : Parsed) → is_query p.statement ≡ true → p.formats ≡ []
     → (plan : List Name × (Command × Option Returning)) → planned schema p ≡ Ok plan
     → IsPlainly (with_command p plan)
-unfolding planned meaning
 planned_query schema p is none plan same =
-    go (command schema p.formats base p.statement)
-    (rw (returns_no_more schema base p.statement is) at same)
-  where
-    formats : List Name
-    formats = timed schema p.formats p.statement
-
-    base : ℕ
-    base = small p.names + small formats
-
-    go : (r : Checked Command)
-        → and_then (and_then r (λ c. Ok (c, None))) (λ found. Ok (formats, found)) ≡ Ok plan
-        → IsPlainly (with_command p plan)
-    go (Ok c) done =
-        let same : (formats, (c, None)) ≡ plan = cc in
-        subst (λ plan. IsPlainly (with_command p plan)) same
-        (refl, timed_as schema p.formats p.statement is ∙ none)
-    go (Err e) done = absurd (cc)
+    planned_if IsPlainly schema p plan same (returns_no_more schema (base_at schema p) p.statement is)
+    (λ c made. (refl, timed_as schema p.formats p.statement is ∙ none))
 
 timeless : (r : Checked Parsed) (p : Parsed) → r ≡ Ok p → is_timeless r ≡ true → p.formats ≡ []
 timeless r p is none =

@@ -1,7 +1,6 @@
 -- Where no foreign key changes rows as its parent goes or changes, a statement leads to no other work.
-use Rattle.std.proofs.Common.{◌≡◌, ℕ, List, [], ◌∷◌, length}
-use Rattle.std.proofs.Common.{Bool, true, false, ◌==◌, ◌&&◌}
-use Rattle.std.proofs.Common.{None, refl}
+use Rattle.std.proofs.Common.{◌≡◌, ℕ, List, [], ◌∷◌, length, Bool, true, false, ◌==◌, ◌&&◌, None}
+use Rattle.std.proofs.Common.{refl}
 use Rattle.std.specs.List.{AllByRecursion, flat_map, filter_map, list_all}
 use Rattle.std.proofs.lemmas.Bool.{and_parts}
 use Rattle.sqlite.specs.Order.{Row}
@@ -13,6 +12,7 @@ use Rattle.sqlite_schema.specs.declared.schema.Reference.{Reference}
 use Rattle.sqlite_schema.specs.declared.schema.Action.{Action}
 use Rattle.sqlite_schema.specs.declared.schema.Action.TheVariants.{NoAction}
 use Rattle.sqlite_rules.specs.Action.{deed_for, work_for, works}
+use Rattle.reg_tables.proofs.Library.EachOf.{all_if}
 
 -- a reference that does nothing where its parent goes or changes
 abbrev pub IsQuiet : Reference → Type 0
@@ -56,19 +56,13 @@ no_action _ e = absurd (cc)
 abbrev pub is_quiet : Reference → Bool
 is_quiet ref = is_no_action ref.on_delete && is_no_action ref.on_update
 
-quiet_references : (refs : List Reference) → list_all is_quiet refs ≡ true
-    → AllByRecursion IsQuiet refs
-quiet_references [] e = tt
-quiet_references (r ∷ refs) e =
+quiet_reference : (r : Reference) → is_quiet r ≡ true → IsQuiet r
+quiet_reference r e =
     let both = and_parts _ _ e in
-    let here = and_parts _ _ both.0 in (
-      (no_action r.on_delete here.0, no_action r.on_update here.1),
-      quiet_references refs both.1,
-    )
+    (no_action r.on_delete both.0, no_action r.on_update both.1)
 
 pub quiet_tables : (tables : List Table) → list_all (λ t. list_all is_quiet t.references) tables ≡ true
     → AreQuiet tables
-quiet_tables [] e = tt
-quiet_tables (t ∷ tables) e =
-    let both = and_parts _ _ e in
-    (quiet_references t.references both.0, quiet_tables tables both.1)
+quiet_tables tables e =
+    all_if (λ (t : Table). list_all is_quiet t.references) _ tables e
+    (λ t quiet. all_if is_quiet IsQuiet t.references quiet quiet_reference)

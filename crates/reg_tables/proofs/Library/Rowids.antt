@@ -1,6 +1,5 @@
 -- What a list of the rowids of a table, in their order, says of its rows.
-use Rattle.std.proofs.Common.{◌≡◌, inl, inr, List, [], ◌∷◌, map, sym, ap, ◌∙◌}
-use Rattle.std.proofs.Common.{Equal}
+use Rattle.std.proofs.Common.{◌≡◌, inl, inr, List, [], ◌∷◌, map, sym, ap, ◌∙◌, Equal}
 use Rattle.std.specs.List.Sorted.{IsPermutation}
 use Rattle.std.proofs.lemmas.Cmp.{tied_back}
 use Rattle.std.proofs.lemmas.List.Sorted.{IsPermutation-refl, IsPermutation-sym}

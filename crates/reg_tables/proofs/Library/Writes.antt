@@ -1,12 +1,10 @@
 -- A text that writes rows does so whatever tables there are, and leaves each table's definition.
-use Rattle.std.proofs.Common.{◌≡◌, ℕ, Bool, true, false, if◌then◌else◌, List, [], length, ◌==◌, ◌+◌}
-use Rattle.std.proofs.Common.{Option, Some, None, Ok, Err, refl, ap, subst}
-use Rattle.std.proofs.Common.{inl, inr, slice_get}
+use Rattle.std.proofs.Common.{◌≡◌, ℕ, Bool, true, false, if◌then◌else◌, List, [], length, ◌==◌}
+use Rattle.std.proofs.Common.{Option, Some, None, Ok, refl, ap, subst, inl, inr, slice_get}
 use Rattle.std.proofs.lemmas.Bool.{cases_Bool}
 use Rattle.sqlite.proofs.Callers.{through}
 use Rattle.sqlite.specs.Clock.{timed as timed_with}
-use Rattle.sqlite.specs.Does.{Tally, AtPlace, OnTable, OnRows, Concludes, Does}
-use Rattle.sqlite.specs.Does.{WritesRows as WrittenBy}
+use Rattle.sqlite.specs.Does.{Tally, AtPlace, OnTable, OnRows, Concludes, WritesRows as WrittenBy}
 use Rattle.sqlite.specs.Effect.{Database}
 use Rattle.sqlite.specs.Order.{Row}
 use Rattle.sqlite.specs.Rows.{Part, Task}
@@ -27,9 +25,9 @@ use Rattle.sqlite_schema.specs.declared.command.Conflict.{Conflict as Way}
 use Rattle.sqlite_schema.specs.declared.command.Conflict.TheVariants.{Abort, Ignore, Replace}
 use Rattle.sqlite_schema.specs.declared.command.Source.{Source}
 use Rattle.sqlite_schema.specs.declared.command.Returning.{Returning}
-use Rattle.sqlite_resolve.specs.Compile.{first, planned, meaning, command, returning}
-use Rattle.sqlite_resolve.specs.Compile.{timed, shows, insert, insert_or, insert_or_abort, update}
-use Rattle.sqlite_resolve.specs.Compile.{delete, with_command, on_table, target, new_rows, small}
+use Rattle.sqlite_resolve.specs.Compile.{first, planned, command, returning}
+use Rattle.sqlite_resolve.specs.Compile.{shows, insert, insert_or, insert_or_abort, update}
+use Rattle.sqlite_resolve.specs.Compile.{delete, with_command, on_table, target, new_rows}
 use Rattle.sqlite_resolve.specs.Body.{table_at}
 use Rattle.sqlite_resolve.specs.Given.{upserts}
 use Rattle.sqlite_resolve.specs.Program.{program}
@@ -41,8 +39,9 @@ use Rattle.sqlite.specs.Listing.{understood}
 use Rattle.sqlite.specs.Schema.{Schema}
 use Rattle.sqlite.specs.Table.{Table}
 use Rattle.reg_tables.specs.Kinds.{is_write, WritesRows}
-use Rattle.reg_tables.proofs.Library.Compiling.{compiled_if, if_then, of_kind, understood_if}
-use Rattle.reg_tables.proofs.Library.Parts.{concluded}
+use Rattle.reg_tables.proofs.Library.Compiling.{base_at, compiled_if, if_then, of_kind, planned_if}
+use Rattle.reg_tables.proofs.Library.Compiling.{understood_if}
+use Rattle.reg_tables.proofs.Library.Parts.{concluded, went}
 
 -- ---- The command
 
@@ -72,38 +71,27 @@ module _ (schema : Schema) (base : ℕ) where
       → IfOk (insert schema base name columns rows) Changes
   unfolding insert
   inserts name columns rows =
-      on_each name (λ at table. and_then (rows_of table columns rows) (λ s. Ok (Insert at s)))
-      (λ at table. if_then Changes (rows_of table columns rows) (λ s. Ok (Insert at s)) (λ s. refl))
+      on_each name _ (λ at table. if_then Changes (rows_of table columns rows) _ (λ s. refl))
 
   inserts_or : (way : Way) (name : Name) (columns : List Name) (rows : Rows)
       (clauses : List Upsert) → IfOk (insert_or schema base way name columns rows clauses) Changes
   unfolding insert_or
   inserts_or way name columns rows clauses =
-      on_each name (λ at table. and_then (rows_of table columns rows)
-      (λ s. and_then (upserts schema at table base clauses) (λ found. Ok (InsertOr at way s found))))
-      (λ at table. if_then Changes (rows_of table columns rows)
-      (λ s. and_then (upserts schema at table base clauses) (λ found. Ok (InsertOr at way s found)))
-      (λ s. if_then Changes (upserts schema at table base clauses)
-      (λ found. Ok (InsertOr at way s found)) (λ found. refl)))
+      on_each name _ (λ at table. if_then Changes (rows_of table columns rows) _
+      (λ s. if_then Changes (upserts schema at table base clauses) _ (λ found. refl)))
 
   updates : (name : Name) (sets : List (Name × Expr)) (test : Option Expr)
       → IfOk (update schema name sets test) Changes
   unfolding update
   updates name sets test =
-      on_each name (λ at table. and_then (updated schema at table sets test)
-      (λ d. and_then (program schema [] d) (λ p. Ok (Update at p))))
-      (λ at table. if_then Changes (updated schema at table sets test)
-      (λ d. and_then (program schema [] d) (λ p. Ok (Update at p)))
-      (λ d. if_then Changes (program schema [] d) (λ p. Ok (Update at p)) (λ p. refl)))
+      on_each name _ (λ at table. if_then Changes (updated schema at table sets test) _
+      (λ d. if_then Changes (program schema [] d) _ (λ p. refl)))
 
   deletes : (name : Name) (test : Option Expr) → IfOk (delete schema name test) Changes
   unfolding delete
   deletes name test =
-      on_each name (λ at table. and_then (deleted schema at table test)
-      (λ d. and_then (program schema [] d) (λ p. Ok (Delete at p))))
-      (λ at table. if_then Changes (deleted schema at table test)
-      (λ d. and_then (program schema [] d) (λ p. Ok (Delete at p)))
-      (λ d. if_then Changes (program schema [] d) (λ p. Ok (Delete at p)) (λ p. refl)))
+      on_each name _ (λ at table. if_then Changes (deleted schema at table test) _
+      (λ d. if_then Changes (program schema [] d) _ (λ p. refl)))
 
   inserts_or_not : (name : Name) (columns : List Name) (rows : Rows) (clauses : List Upsert)
       → IfOk (insert_or_abort schema base name columns rows clauses) Changes
@@ -147,24 +135,10 @@ IsWrite c = Changes c.command × (c.returning ≡ None)
 planned_write : (schema : Schema) (p : Parsed) → is_write p.statement ≡ true
     → (plan : List Name × (Command × Option Returning)) → planned schema p ≡ Ok plan
     → IsWrite (with_command p plan)
-unfolding planned meaning
 planned_write schema p is plan same =
-    go (command schema p.formats base p.statement) (commands schema base p.formats p.statement is)
-    (rw (returns_none schema base p.statement is) at same)
-  where
-    formats : List Name
-    formats = timed schema p.formats p.statement
-
-    base : ℕ
-    base = small p.names + small formats
-
-    go : (r : Checked Command) → IfOk r Changes
-        → and_then (and_then r (λ c. Ok (c, None))) (λ found. Ok (formats, found)) ≡ Ok plan
-        → IsWrite (with_command p plan)
-    go (Ok c) changes done =
-        let is : (formats, (c, None)) ≡ plan = cc in
-        subst (λ plan. IsWrite (with_command p plan)) is (changes, refl)
-    go (Err e) changes done = absurd (cc)
+    let base = base_at schema p in
+    planned_if IsWrite schema p plan same (returns_none schema base p.statement is) (λ c made.
+    (subst (λ r. IfOk r Changes) made (commands schema base p.formats p.statement is), refl))
 
 -- a text that writes rows does so whatever tables there are
 pub understood_write : (text : List ℕ) → WritesRows text → (schema : Schema)
@@ -196,29 +170,20 @@ module _ (limit : Option ℕ) (mode : Mode) (params : Row) (old new : Database) 
       } in
       let there = at_place (λ t. OnRows (task t) mode None c old.trees)
       (slice_get old.schema.tables at) (tally, new) h in
-      let done = through (WrittenBy (task there.0) old.trees c)
-      (Concludes (task there.0) mode None) (tally, new) there.1 in
+      let done = went there.1 in
       ap (λ (d : Database). d.schema) (concluded (task there.0) mode done.0 tally new done.2)
-
-  does_rows : (text : List ℕ) (c : Command) → Changes c
-      → Does limit mode params old text None c (Ok (tally, new)) → new.schema ≡ old.schema
-  does_rows text (Insert at from) is h = on_rows (Insert at from) at h
-  does_rows text (InsertOr at way from clauses) is h = on_rows (InsertOr at way from clauses) at h
-  does_rows text (Update at q) is h = on_rows (Update at q) at h
-  does_rows text (Delete at q) is h = on_rows (Delete at q) at h
-  does_rows text _ is h = absurd (cc)
 
 runs_rows : (old new : State) (c : Command) (text : List ℕ) (params : Row) (count : ℕ) → Changes c
     → Runs old new None c text params count → new.now.schema ≡ old.now.schema
 runs_rows old new (Insert at from) text params count is w =
-    does_rows old.step_limit (mode_of old) params old.now new.now w.tally text (Insert at from) is w.changed
+    on_rows old.step_limit (mode_of old) params old.now new.now w.tally (Insert at from) at w.changed
 runs_rows old new (InsertOr at way from clauses) text params count is w =
-    does_rows old.step_limit (mode_of old) params old.now new.now w.tally text
-    (InsertOr at way from clauses) is w.changed
+    on_rows old.step_limit (mode_of old) params old.now new.now w.tally
+    (InsertOr at way from clauses) at w.changed
 runs_rows old new (Update at q) text params count is w =
-    does_rows old.step_limit (mode_of old) params old.now new.now w.tally text (Update at q) is w.changed
+    on_rows old.step_limit (mode_of old) params old.now new.now w.tally (Update at q) at w.changed
 runs_rows old new (Delete at q) text params count is w =
-    does_rows old.step_limit (mode_of old) params old.now new.now w.tally text (Delete at q) is w.changed
+    on_rows old.step_limit (mode_of old) params old.now new.now w.tally (Delete at q) at w.changed
 runs_rows old new _ text params count is w = absurd (cc)
 
 -- a text that writes rows leaves each table's definition, whatever tables there are

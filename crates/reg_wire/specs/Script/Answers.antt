@@ -7,7 +7,7 @@ use Rattle.reg_core.specs.World.{World}
 use Rattle.reg_print.specs.Answer.{status_of, body_text}
 use Rattle.reg_print.specs.declared.answer.Answer.{Answer}
 use Rattle.reg_keeper.specs.declared.keeper.Fault.{Fault}
-use Rattle.reg_wire.specs.Exchange.{Call, Gives, answer_to, world_then, answers_to, world_after_calls}
+use Rattle.reg_wire.specs.Exchange.{Call, GivesAnswer, answer_to, world_then, answers_to, world_after_calls}
 use Rattle.reg_wire.specs.Script.Line.{line_of}
 use Rattle.reg_wire.specs.Script.Lines.{refusal, storage}
 
@@ -37,7 +37,7 @@ pub record ServesOver {S : Type 0} (world : S → World) (Holds Sound : S → Ty
     (before : S) (call : Call) (text : List ℕ) (after : S) : Type 0 where
   pub result : Result Answer Fault
   pub told : text ≡ given_line result
-  pub gives : Gives world Holds Sound fails before call result after
+  pub gives : GivesAnswer world Holds Sound fails before call result after
 
 -- ---- Lines in turn
 

@@ -4,7 +4,7 @@ use Rattle.std.specs.Fmt.{decimal}
 use Rattle.std.specs.List.{AllByRecursion, AllZip}
 use Rattle.std.specs.Result.{result_ok, result_err}
 use Rattle.reg_core.specs.Run.{Event, run, world_after}
-use Rattle.reg_core.specs.Striking.{ShowSame, HasNone, AreAlikeTo, reply_lists_others, reply_without}
+use Rattle.reg_core.specs.Striking.{ShowSame, HasNoneUnseen, AreAlikeTo, reply_lists_others, reply_without}
 use Rattle.reg_core.specs.Unseen.{Stage, stage, stays_in, is_unseen, struck}
 use Rattle.reg_core.specs.View.{cap_at, view_of}
 use Rattle.reg_core.specs.World.{World, RequestName}
@@ -111,7 +111,7 @@ abbrev pub sender : List ℕ → Option (List ℕ)
 sender line = option_and_then (λ (call : Call). caller_of call.token) (line_of line)
 
 -- a line is answered over a world, and not by 503
-pub record IsServed (before : World) (line answer : List ℕ) (after : World) : Type 0 where
+pub record IsServedLine (before : World) (line answer : List ℕ) (after : World) : Type 0 where
   pub answered : Answered Serves before line answer after
   pub no_fault : answer ≢ storage
 
@@ -120,7 +120,7 @@ pub record IsServed (before : World) (line answer : List ℕ) (after : World) : 
 abbrev pub LinesAreAnsweredAlike : Type 0
 LinesAreAnsweredAlike =
     (w v now then : World) (line answer other : List ℕ)
-    → LookAlike w v (sender line) → IsServed w line answer now → IsServed v line other then
+    → LookAlike w v (sender line) → IsServedLine w line answer now → IsServedLine v line other then
     → (answer ≡ other) × (view_of now (sender line) ≡ view_of then (sender line))
 
 -- ---- Striking, line by line
@@ -179,7 +179,7 @@ pub record ArePrintedAlike (account : List ℕ) (unseen : RequestName → Bool) 
     pub left_printed : t.answer ≡ reply_line t.stage.reply
     pub bytes : turn_lists_others account s ≡ false → s.answer ≡ t.answer
     pub rows : line_without unseen s ≡ line_without unseen t
-    pub without : HasNone unseen t.stage.before → t.answer ≡ line_without unseen s
+    pub without : HasNoneUnseen unseen t.stage.before → t.answer ≡ line_without unseen s
 
 -- the first refusal of bytes that give no command
 abbrev pub refusal_for : Option Call → Option WireRefusal

@@ -4,7 +4,7 @@ use Rattle.std.specs.List.{flat_map}
 use Rattle.std.specs.Io.KnownBytes.{Appends}
 use Rattle.reg_wire.specs.Exchange.{Call}
 use Rattle.reg_wire.specs.Script.Line.{most_bytes}
-use Rattle.reg_wire.specs.Script.Lines.{storage, ended, Cut, AreLines, BeginWith, Ran, Wrote}
+use Rattle.reg_wire.specs.Script.Lines.{storage, ended, Answered, Cut, AreLines, BeginWith, Ran, Wrote}
 use Rattle.reg_wire.specs.declared.wire_fault.WireFault.{WireFault}
 use Rattle.reg_wire.specs.declared.wire_fault.WireFault.TheVariants.{Read, TooManyReads, Write, Memory}
 use Rattle.reg_wire.specs.declared.script.responder.Unanswered.{Unanswered}
@@ -29,6 +29,13 @@ CutShort Memory sent answer had has = (answer ≢ storage) × Appends had has []
 CutShort (Write n) sent answer had has =
     (m : ℕ) × (m ≤ length answer) × (n ≡ sent + m) × Appends had has (take m (ended answer))
 
+-- a line of which this is kept is answered, and this went out of its answer
+abbrev pub AnswersLine : {S : Type 0} → (S → Call → List ℕ → S → Type 0) → S → List ℕ → S
+    → (List ℕ → Type 0) → Type 0
+AnswersLine Serves before buffered after Went =
+    (line : List ℕ) → IsBuffered line buffered
+    → (answer : List ℕ) × Answered Serves before line answer after × Went answer
+
 -- after some bytes of the script
 pub record Progress {S : Type 0} (Serves : S → Call → List ℕ → S → Type 0) (first : S)
     (had : Option (List ℕ)) (bytes buffered : List ℕ) (sent : ℕ) (now : S) (has : Option (List ℕ)) :
@@ -41,6 +48,13 @@ pub record Progress {S : Type 0} (Serves : S → Call → List ℕ → S → Typ
   pub ran : Ran Serves first lines answers now
   pub wrote : Appends had has (flat_map ended answers)
   pub count : sent ≡ length (flat_map ended answers)
+
+-- a run that began anywhere and stands here, after any bytes of its script, comes to this
+abbrev pub FromProgress : {S : Type 0} → (S → Call → List ℕ → S → Type 0) → List ℕ → ℕ → S
+    → Option (List ℕ) → (S → Option (List ℕ) → List ℕ → Type 0) → Type 0
+FromProgress {S} Serves buffered sent now has Comes =
+    (first : S) (had : Option (List ℕ)) (bytes : List ℕ)
+    → Progress Serves first had bytes buffered sent now has → Comes first had bytes
 
 -- what went out of the answers before a fault that is not of reads
 abbrev pub WroteSome : WireFault → List (List ℕ) → Option (List ℕ) → Option (List ℕ) → Type 0

@@ -1,8 +1,8 @@
 //! The lines of a script, answered in turn by any responder.
-ghost use Rattle.std.specs.Prelude.{◌≡◌, ◌+◌, ◌++◌, List, ℕ, Option, OnOk, IfOk, IfErr, length};
+ghost use Rattle.std.specs.Prelude.{◌≡◌, ◌+◌, ◌++◌, OnOk, IfOk, IfErr, length};
 ghost use Rattle.std.specs.Io.KnownBytes.{Appends};
-ghost use Rattle.reg_wire.specs.Script.Lines.{ended, Answered, AnswersAll, IsOneLine, StopsAt};
-ghost use Rattle.reg_wire.specs.Script.LineBuffer.{IsBuffered, CutShort, Progress, Whole, Halted, HaltedLast};
+ghost use Rattle.reg_wire.specs.Script.Lines.{ended, AnswersAll, IsOneLine, StopsAt};
+ghost use Rattle.reg_wire.specs.Script.LineBuffer.{AnswersLine, CutShort, FromProgress, Progress, Whole, Halted, HaltedLast};
 
 use crate::script::line_buffer::LineBuffer;
 use crate::script::responder::{Responder, Unanswered};
@@ -55,14 +55,13 @@ fn answer_buffered<A: Responder, W: Write>(
     buffer: &LineBuffer,
     sent: usize,
 ) -> Result<usize, WireFault>
-    ensures ok { IfOk result (λ n. (line : List ℕ) → IsBuffered line buffer.now
-        → (answer : List ℕ) × Answered A.Serves responder.old line answer responder.new
-        × Appends (W.contents writer.old) (W.contents writer.new) (ended answer)
-        × (n ≡ sent + length (ended answer))) }
+    ensures ok { IfOk result
+        (λ n. AnswersLine A.Serves responder.old buffer.now responder.new
+        (λ answer. Appends (W.contents writer.old) (W.contents writer.new) (ended answer)
+        × (n ≡ sent + length (ended answer)))) }
     ensures err { IfErr result
-        (λ fault. (line : List ℕ) → IsBuffered line buffer.now
-        → (answer : List ℕ) × Answered A.Serves responder.old line answer responder.new
-        × CutShort fault sent answer (W.contents writer.old) (W.contents writer.new)) }
+        (λ fault. AnswersLine A.Serves responder.old buffer.now responder.new
+        (λ answer. CutShort fault sent answer (W.contents writer.old) (W.contents writer.new))) }
 {
     let Some(line) = buffer.line() else {
         return send_answer(writer, b"400 {\"error\":\"line\"}\n", sent);
@@ -86,15 +85,13 @@ fn take_line<A: Responder, W: Write>(
 ) -> Result<usize, WireFault>
     requires { IsOneLine last.now }
     ensures ok { IfOk result
-        (λ n. (first : A) (had : Option (List ℕ)) (bytes : List ℕ)
-        → Progress A.Serves first had bytes buffer.old sent responder.old (W.contents writer.old)
-        → Progress A.Serves first had (bytes ++ ended last.now) buffer.new n responder.new
-        (W.contents writer.new)) }
+        (λ n. FromProgress A.Serves buffer.old sent responder.old (W.contents writer.old)
+        (λ first had bytes. Progress A.Serves first had (bytes ++ ended last.now) buffer.new n
+        responder.new (W.contents writer.new))) }
     ensures err { IfErr result
-        (λ fault. (first : A) (had : Option (List ℕ)) (bytes : List ℕ)
-        → Progress A.Serves first had bytes buffer.old sent responder.old (W.contents writer.old)
-        → Halted A.Serves fault first had (bytes ++ ended last.now) responder.new
-        (W.contents writer.new)) }
+        (λ fault. FromProgress A.Serves buffer.old sent responder.old (W.contents writer.old)
+        (λ first had bytes. Halted A.Serves fault first had (bytes ++ ended last.now) responder.new
+        (W.contents writer.new))) }
 {
     buffer.extend(last)?;
     let sent = answer_buffered(alloc, responder, routes, writer, buffer, sent)?;
@@ -113,15 +110,13 @@ fn take_piece<A: Responder, W: Write>(
     piece: &[u8],
 ) -> Result<usize, WireFault>
     ensures ok { IfOk result
-        (λ n. (first : A) (had : Option (List ℕ)) (bytes : List ℕ)
-        → Progress A.Serves first had bytes buffer.old sent responder.old (W.contents writer.old)
-        → Progress A.Serves first had (bytes ++ piece.now) buffer.new n responder.new
-        (W.contents writer.new)) }
+        (λ n. FromProgress A.Serves buffer.old sent responder.old (W.contents writer.old)
+        (λ first had bytes. Progress A.Serves first had (bytes ++ piece.now) buffer.new n
+        responder.new (W.contents writer.new))) }
     ensures err { IfErr result
-        (λ fault. (first : A) (had : Option (List ℕ)) (bytes : List ℕ)
-        → Progress A.Serves first had bytes buffer.old sent responder.old (W.contents writer.old)
-        → Halted A.Serves fault first had (bytes ++ piece.now) responder.new
-        (W.contents writer.new)) }
+        (λ fault. FromProgress A.Serves buffer.old sent responder.old (W.contents writer.old)
+        (λ first had bytes. Halted A.Serves fault first had (bytes ++ piece.now) responder.new
+        (W.contents writer.new))) }
 {
     let mut total = sent;
     let mut rest = piece;
@@ -142,13 +137,14 @@ fn finish<A: Responder, W: Write>(
     buffer: &LineBuffer,
     sent: usize,
 ) -> Result<(), WireFault>
-    ensures ok { OnOk result ((first : A) (had : Option (List ℕ)) (bytes : List ℕ)
-        → Progress A.Serves first had bytes buffer.now sent responder.old (W.contents writer.old)
-        → Whole A.Serves first had bytes responder.new (W.contents writer.new)) }
+    ensures ok { OnOk result
+        (FromProgress A.Serves buffer.now sent responder.old (W.contents writer.old)
+        (λ first had bytes. Whole A.Serves first had bytes responder.new
+        (W.contents writer.new))) }
     ensures err { IfErr result
-        (λ fault. (first : A) (had : Option (List ℕ)) (bytes : List ℕ)
-        → Progress A.Serves first had bytes buffer.now sent responder.old (W.contents writer.old)
-        → HaltedLast A.Serves fault first had bytes responder.new (W.contents writer.new)) }
+        (λ fault. FromProgress A.Serves buffer.now sent responder.old (W.contents writer.old)
+        (λ first had bytes. HaltedLast A.Serves fault first had bytes responder.new
+        (W.contents writer.new))) }
 {
     if buffer.is_empty() {
         return Ok(());

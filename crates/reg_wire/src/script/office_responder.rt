@@ -2,7 +2,7 @@
 ghost use Rattle.std.specs.Prelude.{◌≡◌, ◌++◌, ◌∷◌, map, IfOk};
 ghost use Rattle.std.specs.Cow.{cow_slice_items};
 ghost use Rattle.std.specs.Fmt.{decimal};
-ghost use Rattle.reg_wire.specs.Exchange.{Gives};
+ghost use Rattle.reg_wire.specs.Exchange.{GivesAnswer};
 ghost use Rattle.reg_wire.specs.Script.Answers.{ServesOver, answer_line, tab_of as tab};
 ghost use Rattle.reg_wire.specs.Script.Line.{call_of, line_feed_of as line_feed};
 ghost use Rattle.reg_wire.specs.Script.Lines.{ended};
@@ -46,7 +46,7 @@ fn answer_to_line<K: Keeper>(
     routes: &Routes,
     line: &Line<'_>,
 ) -> Result<Answer, Fault>
-    ensures { Gives K.world K.Holds K.Sound K.FAILS office.old (call_of line.now) result office.new }
+    ensures { GivesAnswer K.world K.Holds K.Sound K.FAILS office.old (call_of line.now) result office.new }
 {
     let body = with_line_feeds(alloc, line.body)?;
     let call = Call {

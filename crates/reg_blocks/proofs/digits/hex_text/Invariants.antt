@@ -1,5 +1,4 @@
-use Rattle.std.proofs.Common.{◌≡◌, ◌-◌, ◌*◌, ◌/◌, ◌^◌, ◌≤◌}
-use Rattle.std.specs.Prelude.{string_bytes}
+use Rattle.std.proofs.Common.{◌≡◌, ◌-◌, ◌*◌, ◌/◌, ◌^◌, ◌≤◌, string_bytes}
 use Rattle.reg_blocks.specs.Digits.{hex_digits}
 use Rattle.reg_blocks.proofs.digits.hex_text.Given as goal
 

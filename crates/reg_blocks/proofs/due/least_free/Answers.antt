@@ -1,5 +1,4 @@
-use Rattle.std.proofs.Common.{◌≡◌, ◌∙◌, ◌<◌, [], ◌∷◌, length, get_or, refl}
-use Rattle.std.specs.Prelude.{Some, None}
+use Rattle.std.proofs.Common.{◌≡◌, ◌∙◌, ◌<◌, [], ◌∷◌, length, get_or, refl, Some, None}
 use Rattle.reg_blocks.specs.Due.{IsDue, block_due}
 use Rattle.reg_blocks.proofs.EndsDecideClash.{sized}
 use Rattle.reg_blocks.proofs.SweptPrefix.{only_prefix}

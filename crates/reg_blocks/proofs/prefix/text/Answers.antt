@@ -1,6 +1,5 @@
-use Rattle.std.proofs.Common.{rules, ◌≡◌, ◌^◌, ◌<◌}
+use Rattle.std.proofs.Common.{rules, ◌≡◌, ◌^◌, ◌<◌, string_bytes, Some}
 use Rattle.std.proofs.lemmas.Result.{IfOk-weaker}
-use Rattle.std.specs.Prelude.{string_bytes, Some}
 use Rattle.reg_blocks.specs.Digits.{read_prefix, prefix_text}
 use Rattle.reg_blocks.proofs.TextReadsBack.{read_prefix-prefix_text}
 use Rattle.reg_blocks.proofs.prefix.text.Goals as goal

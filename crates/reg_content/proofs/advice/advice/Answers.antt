@@ -1,13 +1,9 @@
 use Rattle.std.proofs.Common.{rules, ◌≡◌, ap, ◌∙◌, option_map, refl}
 use Rattle.reg_core.specs.World.{Seat}
-use Rattle.reg_tables.proofs.Statements.Advice.{advice_by_key}
 use Rattle.reg_content.proofs.Found.{made_back}
 use Rattle.reg_content.proofs.Looking.{looks_made}
 use Rattle.reg_content.proofs.Statements.{finds_advice}
 use Rattle.reg_content.proofs.advice.advice.Goals as goal
-
-pub find-requires-clause-plain : goal.find-requires-clause-plain
-find-requires-clause-plain g c = advice_by_key.plain
 
 pub returns : goal.returns
 returns g c =

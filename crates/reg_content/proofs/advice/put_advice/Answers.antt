@@ -1,11 +1,7 @@
 use Rattle.std.proofs.Common.{refl}
 use Rattle.reg_records.specs.declared.advice.ExpertAdvice.{ExpertAdvice}
 use Rattle.reg_content.proofs.Joining.{steps_in}
-use Rattle.reg_content.proofs.Statements.{puts_advice}
 use Rattle.reg_content.proofs.advice.put_advice.Goals as goal
-
-pub put-requires : goal.put-requires
-put-requires g c = puts_advice
 
 pub returns-clause-steps : goal.returns-clause-steps
 returns-clause-steps g c =

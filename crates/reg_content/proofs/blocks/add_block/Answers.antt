@@ -1,10 +1,6 @@
 use Rattle.std.proofs.Common.{refl}
 use Rattle.reg_content.proofs.Joining.{steps_in}
-use Rattle.reg_content.proofs.Statements.{adds_block}
 use Rattle.reg_content.proofs.blocks.add_block.Goals as goal
-
-pub add-requires : goal.add-requires
-add-requires g c = adds_block
 
 pub returns-clause-steps : goal.returns-clause-steps
 returns-clause-steps g c =

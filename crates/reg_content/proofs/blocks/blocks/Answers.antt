@@ -1,14 +1,10 @@
 use Rattle.std.proofs.Common.{map, refl, ap, ◌∙◌}
 use Rattle.reg_core.specs.Holding.{holding_row}
-use Rattle.reg_tables.proofs.Statements.Blocks.{all_blocks}
 use Rattle.reg_content.proofs.BlockRowsListed.{listed_are, pair}
 use Rattle.reg_content.proofs.Found.{pairs_again}
 use Rattle.reg_content.proofs.Looking.{looks_made}
 use Rattle.reg_content.proofs.Statements.{lists_blocks}
 use Rattle.reg_content.proofs.blocks.blocks.Goals as goal
-
-pub list-requires-clause-plain : goal.list-requires-clause-plain
-list-requires-clause-plain g c = all_blocks.plain
 
 pub returns : goal.returns
 returns g c =

@@ -1,13 +1,9 @@
 use Rattle.std.proofs.Common.{◌∙◌}
 use Rattle.reg_blocks.specs.Block.{first_address}
-use Rattle.reg_tables.proofs.Statements.Blocks.{block_by_key}
 use Rattle.reg_content.proofs.BlockRowsFound.{found_holding}
 use Rattle.reg_content.proofs.Looking.{looks_made}
 use Rattle.reg_content.proofs.Statements.{finds_blocks}
 use Rattle.reg_content.proofs.blocks.holding.Goals as goal
-
-pub find-requires-clause-plain : goal.find-requires-clause-plain
-find-requires-clause-plain g c = block_by_key.plain
 
 pub returns : goal.returns
 returns g c =

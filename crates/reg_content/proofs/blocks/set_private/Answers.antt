@@ -2,16 +2,12 @@ use Rattle.std.proofs.Common.{true, refl, ap}
 use Rattle.reg_maps.proofs.RowMaps.Tables.{changed_alone}
 use Rattle.reg_core.specs.Holding.{with_mark}
 use Rattle.reg_core.proofs.KeyOrders.{block_keys}
-use Rattle.reg_tables.proofs.WriteTexts.{change_block_writes}
 use Rattle.reg_blocks.specs.Block.{first_address}
 use Rattle.reg_statements.specs.Content.{content_of}
 use Rattle.reg_content.proofs.BlocksApart.{begins_alone}
 use Rattle.reg_content.proofs.Joining.{steps_in}
 use Rattle.reg_content.proofs.Statements.{begins, changes_mark}
 use Rattle.reg_content.proofs.blocks.set_private.Goals as goal
-
-pub change-requires : goal.change-requires
-change-requires g c = change_block_writes
 
 pub returns-clause-steps : goal.returns-clause-steps
 returns-clause-steps g c =

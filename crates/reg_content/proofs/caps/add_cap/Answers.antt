@@ -1,11 +1,7 @@
 use Rattle.std.proofs.Common.{refl}
 use Rattle.reg_records.specs.declared.caps.Grant.{Grant}
 use Rattle.reg_content.proofs.Joining.{steps_in}
-use Rattle.reg_content.proofs.Statements.{adds_cap}
 use Rattle.reg_content.proofs.caps.add_cap.Goals as goal
-
-pub add-requires : goal.add-requires
-add-requires g c = adds_cap
 
 pub returns-clause-steps : goal.returns-clause-steps
 returns-clause-steps g c =

@@ -1,12 +1,8 @@
 use Rattle.std.proofs.Common.{rules, ◌≡◌, ap, ◌∙◌, option_map, refl}
-use Rattle.reg_tables.proofs.Statements.Caps.{cap_by_key}
 use Rattle.reg_content.proofs.Found.{made_back}
 use Rattle.reg_content.proofs.Looking.{looks_made}
 use Rattle.reg_content.proofs.Statements.{finds_cap}
 use Rattle.reg_content.proofs.caps.cap.Goals as goal
-
-pub find-requires-clause-plain : goal.find-requires-clause-plain
-find-requires-clause-plain g c = cap_by_key.plain
 
 pub returns : goal.returns
 returns g c =

@@ -1,10 +1,6 @@
 use Rattle.std.proofs.Common.{refl}
 use Rattle.reg_content.proofs.Joining.{steps_in}
-use Rattle.reg_content.proofs.Statements.{takes_cap}
 use Rattle.reg_content.proofs.caps.take_cap.Goals as goal
-
-pub take-requires : goal.take-requires
-take-requires g c = takes_cap
 
 pub returns-clause-steps : goal.returns-clause-steps
 returns-clause-steps g c =

@@ -1,16 +1,12 @@
 use Rattle.sqlite.specs.Held.{state}
 use Rattle.reg_tables.proofs.RestLemmas.{stays_held}
 use Rattle.reg_tables.proofs.SelectLemmas.{office_begins}
-use Rattle.reg_tables.proofs.Statements.Entries.{all_entries}
 use Rattle.reg_statements.specs.Office as office
 use Rattle.reg_statements.proofs.Defined.{all_in_order}
 use Rattle.reg_statements.proofs.Office as laws
 use Rattle.reg_content.proofs.Looking.{with_both}
 use Rattle.reg_content.proofs.Statements.{shows_entries}
 use Rattle.reg_content.proofs.entries.all_entries.Goals as goal
-
-pub all-requires-clause-plain : goal.all-requires-clause-plain
-all-requires-clause-plain g c = all_entries.plain
 
 pub returns-clause-table : goal.returns-clause-table
 returns-clause-table g c h =

@@ -1,19 +1,14 @@
 use Rattle.std.proofs.Common.{ap, map, ◌∙◌}
-use Rattle.reg_tables.proofs.Statements.Entries.{entries_of_registry}
 use Rattle.reg_content.specs.Marks.{entry_marked}
-use Rattle.reg_content.proofs.Looking.{looks_then, looks_tied}
+use Rattle.reg_content.proofs.Looking.{looks_joined}
 use Rattle.reg_content.proofs.MarkedRows.{entries_listed}
 use Rattle.reg_content.proofs.Statements.{lists_entries}
 use Rattle.reg_content.proofs.entries.entries.Goals as goal
 
-pub list-requires-clause-plain : goal.list-requires-clause-plain
-list-requires-clause-plain g c = entries_of_registry.plain
-
 pub returns-then-values_ascend-clause-rows : goal.returns-then-values_ascend-clause-rows
 returns-then-values_ascend-clause-rows g c =
     let registry = c.args.registry.now in
-    looks_tied c.requires (looks_then c.in_ok-rows.ensures.rows c.in_ok-rows-2.ensures
-    (λ p is marked.
+    looks_joined c.requires c.in_ok-rows.ensures.rows c.in_ok-rows-2.ensures (λ p ties is marked.
     c.from_vec.ensures ∙ marked
-    ∙ ap (map (entry_marked p registry)) (is _ (rw c.name_value.ensures (lists_entries registry)))))
-    (λ p rows ties is. is ∙ entries_listed p ties registry)
+    ∙ ap (map (entry_marked p registry)) (is _ (rw c.name_value.ensures (lists_entries registry)))
+    ∙ entries_listed p ties registry)

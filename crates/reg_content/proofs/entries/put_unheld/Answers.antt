@@ -3,11 +3,7 @@ use Rattle.reg_records.specs.Entries.{unheld}
 use Rattle.reg_records.proofs.EntryLaws.{unheld_form}
 use Rattle.reg_content.proofs.Joining.{steps_in}
 use Rattle.reg_content.proofs.MarksWritten.{entry_put}
-use Rattle.reg_content.proofs.Statements.{puts_entry}
 use Rattle.reg_content.proofs.entries.put_unheld.Goals as goal
-
-pub put-requires : goal.put-requires
-put-requires g c = puts_entry
 
 pub returns-clause-steps : goal.returns-clause-steps
 returns-clause-steps g c =

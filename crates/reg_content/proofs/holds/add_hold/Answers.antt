@@ -1,11 +1,7 @@
 use Rattle.reg_statements.specs.Content.{parts_of}
 use Rattle.reg_content.proofs.Joining.{steps_in}
 use Rattle.reg_content.proofs.MarksWritten.{mark_added}
-use Rattle.reg_content.proofs.Statements.{adds_hold}
 use Rattle.reg_content.proofs.holds.add_hold.Goals as goal
-
-pub add-requires : goal.add-requires
-add-requires g c = adds_hold
 
 pub returns-clause-steps : goal.returns-clause-steps
 returns-clause-steps g c =

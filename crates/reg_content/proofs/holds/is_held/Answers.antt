@@ -1,13 +1,9 @@
 use Rattle.std.proofs.Common.{ap, is_some, ◌∙◌}
 use Rattle.reg_core.specs.World.{Place}
-use Rattle.reg_tables.proofs.Statements.Holds.{hold_by_key}
 use Rattle.reg_content.proofs.Found.{made_some}
 use Rattle.reg_content.proofs.Looking.{looks_told}
 use Rattle.reg_content.proofs.Statements.{finds_hold}
 use Rattle.reg_content.proofs.holds.is_held.Goals as goal
-
-pub find-requires-clause-plain : goal.find-requires-clause-plain
-find-requires-clause-plain g c = hold_by_key.plain
 
 pub returns : goal.returns
 returns g c =

@@ -1,11 +1,7 @@
 use Rattle.std.proofs.Common.{sym, ◌∙◌}
-use Rattle.reg_tables.proofs.Statements.Holds.{holds_of_registry}
 use Rattle.reg_content.proofs.Looking.{looks_so, looks_still}
 use Rattle.reg_content.proofs.Statements.{lists_holds}
 use Rattle.reg_content.proofs.holds.marks_if.Goals as goal
-
-pub list-requires-clause-plain : goal.list-requires-clause-plain
-list-requires-clause-plain g c = holds_of_registry.plain
 
 pub returns-then-not-any_expires : goal.returns-then-not-any_expires
 returns-then-not-any_expires g c =

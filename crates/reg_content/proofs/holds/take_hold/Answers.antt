@@ -2,11 +2,7 @@ use Rattle.reg_core.specs.World.{Place}
 use Rattle.reg_statements.specs.Content.{parts_of}
 use Rattle.reg_content.proofs.Joining.{steps_in}
 use Rattle.reg_content.proofs.MarksWritten.{mark_taken}
-use Rattle.reg_content.proofs.Statements.{takes_hold}
 use Rattle.reg_content.proofs.holds.take_hold.Goals as goal
-
-pub take-requires : goal.take-requires
-take-requires g c = takes_hold
 
 pub returns-clause-steps : goal.returns-clause-steps
 returns-clause-steps g c =

@@ -7,7 +7,7 @@ pub returns-clause-steps : goal.returns-clause-steps
 returns-clause-steps g c row form is =
     let d = g.T.Kept.table in
     let it = c.requires in
-    written c.in_ok-write.ensures.runs it.writes (λ ran was fits.
+    written c.in_ok-write.ensures.runs it.given.writes (λ ran was fits.
     let added = given_adds _ d.slot d.table it.given (d.values row) (it.long row) (it.kept row) in
     row_added d g.T.Kept.defined row _ _ form (added_row _ _ _ added was.office (rw is at ran)) was
     fits.0 fits.1)

@@ -2,11 +2,7 @@ use Rattle.reg_records.specs.declared.minutes.Minute.{Minute}
 use Rattle.reg_statements.specs.Content.{parts_of}
 use Rattle.reg_content.proofs.Joining.{steps_in}
 use Rattle.reg_content.proofs.MinutesWritten.{minute_named}
-use Rattle.reg_content.proofs.Statements.{adds_minute}
 use Rattle.reg_content.proofs.minutes.add_minute.Goals as goal
-
-pub add-done-requires : goal.add-done-requires
-add-done-requires g c = adds_minute
 
 pub returns-clause-steps : goal.returns-clause-steps
 returns-clause-steps g c =

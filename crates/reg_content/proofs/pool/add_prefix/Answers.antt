@@ -1,11 +1,7 @@
 use Rattle.std.proofs.Common.{refl}
 use Rattle.reg_content.proofs.Found.{absent}
 use Rattle.reg_content.proofs.Joining.{steps_in}
-use Rattle.reg_content.proofs.Statements.{adds_prefix}
 use Rattle.reg_content.proofs.pool.add_prefix.Goals as goal
-
-pub add-requires : goal.add-requires
-add-requires g c = adds_prefix
 
 pub returns-clause-steps : goal.returns-clause-steps
 returns-clause-steps g c =

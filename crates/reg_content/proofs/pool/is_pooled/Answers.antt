@@ -1,12 +1,8 @@
 use Rattle.std.proofs.Common.{ap, is_some, ◌∙◌}
-use Rattle.reg_tables.proofs.Statements.Pool.{prefix_by_key}
 use Rattle.reg_content.proofs.Found.{made_some}
 use Rattle.reg_content.proofs.Looking.{looks_made}
 use Rattle.reg_content.proofs.Statements.{finds_prefix}
 use Rattle.reg_content.proofs.pool.is_pooled.Goals as goal
-
-pub find-requires-clause-plain : goal.find-requires-clause-plain
-find-requires-clause-plain g c = prefix_by_key.plain
 
 pub returns : goal.returns
 returns g c =

@@ -2,14 +2,10 @@ use Rattle.std.proofs.Common.{◌≡◌, map, ap, subst, ◌∙◌}
 use Rattle.std.specs.FinMap.{entries}
 use Rattle.std.specs.Prelude.{IfOk}
 use Rattle.reg_maps.proofs.MapLaws.{number_keys}
-use Rattle.reg_tables.proofs.Statements.Pool.{all_pool}
 use Rattle.reg_statements.proofs.RegistryRows.{select-all}
 use Rattle.reg_content.proofs.Looking.{looks_if}
 use Rattle.reg_content.proofs.Statements.{lists_pool}
 use Rattle.reg_content.proofs.pool.pool.Goals as goal
-
-pub list-requires-clause-plain : goal.list-requires-clause-plain
-list-requires-clause-plain g c = all_pool.plain
 
 pub returns : goal.returns
 returns g c =

@@ -2,11 +2,7 @@ use Rattle.std.proofs.Common.{refl}
 use Rattle.reg_records.specs.declared.queue.Seat.{Seat}
 use Rattle.reg_content.proofs.Found.{absent}
 use Rattle.reg_content.proofs.Joining.{steps_in}
-use Rattle.reg_content.proofs.Statements.{adds_seat}
 use Rattle.reg_content.proofs.queue.add_seat.Goals as goal
-
-pub add-requires : goal.add-requires
-add-requires g c = adds_seat
 
 pub returns-clause-steps : goal.returns-clause-steps
 returns-clause-steps g c =

@@ -1,13 +1,9 @@
 use Rattle.std.proofs.Common.{ap, is_some, ◌∙◌}
 use Rattle.reg_core.specs.World.{Seat}
-use Rattle.reg_tables.proofs.Statements.Queue.{queue_by_key}
 use Rattle.reg_content.proofs.Found.{made_some}
 use Rattle.reg_content.proofs.Looking.{looks_made}
 use Rattle.reg_content.proofs.Statements.{finds_seat}
 use Rattle.reg_content.proofs.queue.is_queued.Goals as goal
-
-pub find-requires-clause-plain : goal.find-requires-clause-plain
-find-requires-clause-plain g c = queue_by_key.plain
 
 pub returns : goal.returns
 returns g c =

@@ -1,11 +1,7 @@
 use Rattle.reg_records.specs.declared.registries.Registry.{Registry}
 use Rattle.reg_content.proofs.Joining.{steps_in}
 use Rattle.reg_content.proofs.RegistryRowsAdded.{registry_added}
-use Rattle.reg_content.proofs.Statements.{adds_registry}
 use Rattle.reg_content.proofs.registries.add_name.Goals as goal
-
-pub add-requires : goal.add-requires
-add-requires g c = adds_registry
 
 pub returns-clause-steps : goal.returns-clause-steps
 returns-clause-steps g c =

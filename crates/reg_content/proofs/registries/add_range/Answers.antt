@@ -1,11 +1,7 @@
 use Rattle.reg_records.specs.declared.ranges.RegistryRange.{RegistryRange}
 use Rattle.reg_content.proofs.Joining.{steps_in}
 use Rattle.reg_content.proofs.RegistryRowsAdded.{range_added}
-use Rattle.reg_content.proofs.Statements.{adds_range}
 use Rattle.reg_content.proofs.registries.add_range.Goals as goal
-
-pub add-requires : goal.add-requires
-add-requires g c = adds_range
 
 pub returns-clause-steps : goal.returns-clause-steps
 returns-clause-steps g c =

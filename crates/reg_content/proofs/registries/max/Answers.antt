@@ -1,13 +1,9 @@
 use Rattle.std.proofs.Common.{rules, ◌≡◌, sym, ap, ◌∙◌, option_map, refl}
-use Rattle.reg_tables.proofs.Statements.Registries.{registry_by_key}
 use Rattle.reg_statements.proofs.RegistryRows.{max-at}
 use Rattle.reg_content.proofs.Found.{made_back}
 use Rattle.reg_content.proofs.Looking.{looks_made}
 use Rattle.reg_content.proofs.Statements.{finds_registry}
 use Rattle.reg_content.proofs.registries.max.Goals as goal
-
-pub find-requires-clause-plain : goal.find-requires-clause-plain
-find-requires-clause-plain g c = registry_by_key.plain
 
 pub returns : goal.returns
 returns g c =

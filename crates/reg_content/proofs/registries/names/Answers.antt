@@ -2,14 +2,10 @@ use Rattle.std.proofs.Common.{rules, ◌≡◌, sym, ap, ◌∙◌, map}
 use Rattle.std.specs.FinMap.{entries}
 use Rattle.std.proofs.lemmas.Simd.{map-map}
 use Rattle.reg_maps.proofs.MapLaws.{text_keys}
-use Rattle.reg_tables.proofs.Statements.Registries.{all_registries}
 use Rattle.reg_statements.proofs.RegistryRows.{registry-keys, select-all}
 use Rattle.reg_content.proofs.Looking.{looks_made}
 use Rattle.reg_content.proofs.Statements.{lists_registries}
 use Rattle.reg_content.proofs.registries.names.Goals as goal
-
-pub list-requires-clause-plain : goal.list-requires-clause-plain
-list-requires-clause-plain g c = all_registries.plain
 
 pub returns : goal.returns
 returns g c =

@@ -1,13 +1,9 @@
 use Rattle.std.proofs.Common.{rules, ◌≡◌, ap, ◌∙◌, map}
 use Rattle.std.proofs.lemmas.Simd.{map-map}
-use Rattle.reg_tables.proofs.Statements.Ranges.{ranges_of_registry}
 use Rattle.reg_statements.proofs.RegistryRows.{ranges-at}
 use Rattle.reg_content.proofs.Looking.{looks_made}
 use Rattle.reg_content.proofs.Statements.{lists_ranges}
 use Rattle.reg_content.proofs.registries.ranges_of.Goals as goal
-
-pub list-requires-clause-plain : goal.list-requires-clause-plain
-list-requires-clause-plain g c = ranges_of_registry.plain
 
 pub returns : goal.returns
 returns g c =

@@ -7,11 +7,7 @@ use Rattle.reg_records.proofs.RequestLaws.Rows.{bare_form, request_values-bare}
 use Rattle.reg_statements.specs.Content.{content_of, parts_of}
 use Rattle.reg_content.proofs.Joining.{steps_in}
 use Rattle.reg_content.proofs.MinutesWritten.{request_added}
-use Rattle.reg_content.proofs.Statements.{adds_request}
 use Rattle.reg_content.proofs.requests.add_request.Goals as goal
-
-pub add-requires : goal.add-requires
-add-requires g c = adds_request
 
 pub returns-clause-steps : goal.returns-clause-steps
 returns-clause-steps g c =

@@ -1,13 +1,9 @@
 use Rattle.reg_core.specs.World.{RequestName}
 use Rattle.reg_statements.specs.Content.{parts_of}
-use Rattle.reg_tables.proofs.WriteTexts.{change_request_writes}
 use Rattle.reg_content.proofs.Joining.{steps_in}
 use Rattle.reg_content.proofs.MinutesWritten.{state_set}
 use Rattle.reg_content.proofs.Statements.{changes_state}
 use Rattle.reg_content.proofs.requests.set_state.Goals as goal
-
-pub change-requires : goal.change-requires
-change-requires g c = change_request_writes
 
 pub returns-clause-steps : goal.returns-clause-steps
 returns-clause-steps g c =

@@ -1,20 +1,15 @@
 use Rattle.std.proofs.Common.{◌≡◌, map, ◌∙◌, Ok}
 use Rattle.sqlite.specs.Held.{state}
 use Rattle.reg_tables.proofs.RestLemmas.{stays_held}
-use Rattle.reg_tables.proofs.Statements.Queued.{queued_of_expert}
 use Rattle.reg_keeper.specs.declared.keeper.Fault.{Fault}
 use Rattle.reg_core.specs.Queue.{queue_rows}
 use Rattle.reg_core.specs.View.{queue_of}
-use Rattle.reg_statements.specs.Content.{assembled}
 use Rattle.reg_content.specs.Calls.{LooksIn}
 use Rattle.reg_content.specs.Seats.{seen_row}
-use Rattle.reg_content.proofs.Looking.{looks, looks_made, looks_then}
+use Rattle.reg_content.proofs.Looking.{looks, looks_joined}
 use Rattle.reg_content.proofs.MinutedRows.{bare_world, queue_minuted}
 use Rattle.reg_content.proofs.QueuedRowsFound.{queue_found}
 use Rattle.reg_content.proofs.reviews.queue.Goals as goal
-
-pub all-requires-clause-plain : goal.all-requires-clause-plain
-all-requires-clause-plain g c = queued_of_expert.plain
 
 pub returns : goal.returns
 returns g c =
@@ -29,8 +24,5 @@ returns g c =
     let shown = rw c.name_value.ensures at rows.1 in
     queue_found old read rows.0 was expert c.in_ok-requests.requests.items
     c.in_ok-requests.ensures.ascending shown rows.2) in
-    let both : LooksIn {E = Fault} _ _ (Ok c.in_ok-minuted_each.field-0)
-    (λ p rows. rows.items ≡ queue_rows (queue_of expert (assembled p))) =
-    looks_then first c.in_ok-minuted_each.ensures
-    (λ p is seen. seen ∙ queue_minuted p expert c.in_ok-requests.requests.items is) in
-    looks_made both (λ p is. c.from_vec.ensures ∙ is)
+    looks_joined c.requires first c.in_ok-minuted_each.ensures (λ p ties is seen.
+    c.from_vec.ensures ∙ seen ∙ queue_minuted p expert c.in_ok-requests.requests.items is)

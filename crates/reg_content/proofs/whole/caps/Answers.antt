@@ -1,11 +1,8 @@
 use Rattle.std.proofs.Common.{rules, ◌≡◌, ap, ◌∙◌, map}
 use Rattle.reg_content.specs.Whole.{cap_of}
 use Rattle.reg_content.proofs.Looking.{looks_made}
-use Rattle.reg_content.proofs.WholeTables.{all_caps, caps_listed, lists_caps}
+use Rattle.reg_content.proofs.WholeTables.{caps_listed, lists_caps}
 use Rattle.reg_content.proofs.whole.caps.Goals as goal
-
-pub list-requires-clause-plain : goal.list-requires-clause-plain
-list-requires-clause-plain g c = all_caps.plain
 
 pub returns : goal.returns
 returns g c =

@@ -1,11 +1,8 @@
 use Rattle.std.proofs.Common.{rules, ◌≡◌, ap, ◌∙◌, map}
 use Rattle.reg_content.specs.Whole.{link_of}
 use Rattle.reg_content.proofs.Looking.{looks_made}
-use Rattle.reg_content.proofs.WholeTables.{all_links, links_listed, lists_links}
+use Rattle.reg_content.proofs.WholeTables.{links_listed, lists_links}
 use Rattle.reg_content.proofs.whole.links.Goals as goal
-
-pub list-requires-clause-plain : goal.list-requires-clause-plain
-list-requires-clause-plain g c = all_links.plain
 
 pub returns : goal.returns
 returns g c =

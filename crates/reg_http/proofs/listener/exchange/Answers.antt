@@ -1,6 +1,6 @@
 use Rattle.std.proofs.Common.{ℕ, List, Option, ap, ◌∙◌, subst}
 use Rattle.reg_http.specs.Listening.{count_of}
-use Rattle.reg_http.specs.Meeting.{Ends, Meets}
+use Rattle.reg_http.specs.Meeting.{EndsOneMore, Meets}
 use Rattle.reg_http.specs.Serving.{AnswersOver}
 use Rattle.reg_http.proofs.Meetings.{count_is, met}
 use Rattle.reg_http.proofs.listener.exchange.Goals as goal
@@ -9,7 +9,7 @@ pub returns-clause-exchanges : goal.returns-clause-exchanges
 returns-clause-exchanges g c =
     let wrote = g.P.Writer.Write.contents c.send_told-served.new.writer.writer in
     let EndsOf : Option (List (Option (List ℕ))) → Type 0 =
-    λ had. Ends had (g.P.Peers.written c.end.new.self) wrote in
+    λ had. EndsOneMore had (g.P.Peers.written c.end.new.self) wrote in
     let Over = AnswersOver g.K.Keeper.world g.K.Keeper.Holds g.K.Keeper.Sound g.K.Keeper.FAILS in
     let MeetsFrom : Option (List ℕ) → Type 0 =
     λ blank. Meets Over blank

@@ -9,10 +9,19 @@ use Rattle.reg_jobs.specs.declared.jobs.Job.{Job}
 use Rattle.reg_jobs.specs.declared.jobs.JobFault.{JobFault}
 use Rattle.reg_jobs.specs.declared.jobs.JobFault.TheVariants.{Line, Memory}
 use Rattle.reg_jobs.proofs.command_line.job_of.Goals as goal
+use Rattle.reg_jobs.proofs.command_line.job_of.Goals.{In-Some}
 
 -- what a job is where it is one of this name, and why there is none
 abbrev IsGiven : Result Job JobFault → Text × List Row → Type 0
 IsGiven r met = MatchResult r IsInRange (λ fault. fault ≡ Line → IsUnclearJob met.0 met.1)
+
+-- the job is the one that was met
+abbrev IsMet : ArgMatches → Job → Type 0
+IsMet m job = (met : Text × List Row) × (subcommand_rows_of m ≡ Some met) × IsJobOf met.0 met.1 job
+
+-- where one that has its values was met, it is given
+abbrev MayGive : ArgMatches → Result Job JobFault → Type 0
+MayGive m r = (met : Text × List Row) → subcommand_rows_of m ≡ Some met → HasJob met.0 met.1 → IsGiven r met
 
 -- there is no fault but of memory
 only_memory : (r : Result Job JobFault) (met : Text × List Row) → MatchResult r IsInRange (λ fault. fault ≡ Memory) → IsGiven r met
@@ -57,170 +66,92 @@ met_at : (m : ArgMatches) (name : Text) (rows : List Row) → Some name ≡ subc
 met_at m = both_met (out-ArgMatches m).subcommand (λ b. (out-SubCommand (box_value b)).name.now)
     (λ b. rows_of (found_of (out-SubCommand (box_value b)).matches))
 
+-- and so the job is the one that this function gives
+job_at : (c : In-Some) (literal : Text) (r : Result Job JobFault) → c.in-Some.name.now ≡ literal
+    → IfOk r (IsJobOf literal (rows_of (found_of c.in-Some.inner.now)))
+    → (HasJob literal (rows_of (found_of c.in-Some.inner.now)) → IsGiven r (literal, rows_of (found_of c.in-Some.inner.now)))
+    → IfOk r (IsMet c.args.matches.now) × MayGive c.args.matches.now r
+job_at c literal r named said given =
+    let rows = rows_of (found_of c.in-Some.inner.now) in
+    let here = met_at c.args.matches.now c.in-Some.name.now rows c.in-Some.ensures.name c.in-Some.ensures.rows in
+    (said_at _ _ literal rows r here named said, given_at _ _ literal rows r here named given)
+
+-- the same of one that only lacks memory
+job_but : (c : In-Some) (literal : Text) (r : Result Job JobFault) → c.in-Some.name.now ≡ literal
+    → IfOk r (IsJobOf literal (rows_of (found_of c.in-Some.inner.now)))
+    → (HasJob literal (rows_of (found_of c.in-Some.inner.now)) → MatchResult r IsInRange (λ fault. fault ≡ Memory))
+    → IfOk r (IsMet c.args.matches.now) × MayGive c.args.matches.now r
+job_but c literal r named said given =
+    job_at c literal r named said (λ h. only_memory r (literal, rows_of (found_of c.in-Some.inner.now)) (given h))
+
 pub returns-in-script : goal.returns-in-script
 returns-in-script c =
-    let name = c.in-Some.name.now in
-    let rows = rows_of (found_of c.in-Some.inner.now) in
-    let here = met_at c.args.matches.now name rows c.in-Some.ensures.name c.in-Some.ensures.rows in
-    let o = subcommand_rows_of c.args.matches.now in
-    record {
-      said = said_at o name (codes "script") rows c.script_of.result here c.in-script.is c.script_of.ensures.said;
-      given = given_at o name (codes "script") rows c.script_of.result here c.in-script.is
-          (λ h. only_memory c.script_of.result (codes "script", rows) (c.script_of.ensures.given h));
-    }
+    let both = job_but (goal.at.returns-in-script c).In-Some (codes "script") c.script_of.result c.in-script.is c.script_of.ensures.said c.script_of.ensures.given in
+    record { said = both.0; given = both.1 }
 
 pub returns-in-import : goal.returns-in-import
 returns-in-import c =
-    let name = c.in-Some.name.now in
-    let rows = rows_of (found_of c.in-Some.inner.now) in
-    let here = met_at c.args.matches.now name rows c.in-Some.ensures.name c.in-Some.ensures.rows in
-    let o = subcommand_rows_of c.args.matches.now in
-    record {
-      said = said_at o name (codes "import") rows c.import_of.result here c.in-import.is c.import_of.ensures.said;
-      given = given_at o name (codes "import") rows c.import_of.result here c.in-import.is
-          (λ h. only_memory c.import_of.result (codes "import", rows) (c.import_of.ensures.given h.0 h.1 h.2 h.3));
-    }
+    let both = job_but (goal.at.returns-in-import c).In-Some (codes "import") c.import_of.result c.in-import.is c.import_of.ensures.said c.import_of.ensures.given in
+    record { said = both.0; given = both.1 }
 
 pub returns-in-init : goal.returns-in-init
 returns-in-init c =
-    let name = c.in-Some.name.now in
-    let rows = rows_of (found_of c.in-Some.inner.now) in
-    let here = met_at c.args.matches.now name rows c.in-Some.ensures.name c.in-Some.ensures.rows in
-    let o = subcommand_rows_of c.args.matches.now in
-    record {
-      said = said_at o name (codes "init") rows c.init_of.result here c.in-init.is c.init_of.ensures.said;
-      given = given_at o name (codes "init") rows c.init_of.result here c.in-init.is
-          (λ h. only_memory c.init_of.result (codes "init", rows) (c.init_of.ensures.given h.0 h.1));
-    }
+    let both = job_but (goal.at.returns-in-init c).In-Some (codes "init") c.init_of.result c.in-init.is c.init_of.ensures.said (λ h. c.init_of.ensures.given h.0 h.1) in
+    record { said = both.0; given = both.1 }
 
 pub returns-in-serve : goal.returns-in-serve
 returns-in-serve c =
-    let name = c.in-Some.name.now in
-    let rows = rows_of (found_of c.in-Some.inner.now) in
-    let here = met_at c.args.matches.now name rows c.in-Some.ensures.name c.in-Some.ensures.rows in
-    let o = subcommand_rows_of c.args.matches.now in
-    record {
-      said = said_at o name (codes "serve") rows c.serve_of.result here c.in-serve.is c.serve_of.ensures.said;
-      given = given_at o name (codes "serve") rows c.serve_of.result here c.in-serve.is
-          (λ h. only_memory c.serve_of.result (codes "serve", rows) (c.serve_of.ensures.given h.0 h.1 h.2));
-    }
+    let both = job_but (goal.at.returns-in-serve c).In-Some (codes "serve") c.serve_of.result c.in-serve.is c.serve_of.ensures.said c.serve_of.ensures.given in
+    record { said = both.0; given = both.1 }
 
 pub returns-in-request : goal.returns-in-request
 returns-in-request c =
-    let name = c.in-Some.name.now in
-    let rows = rows_of (found_of c.in-Some.inner.now) in
-    let here = met_at c.args.matches.now name rows c.in-Some.ensures.name c.in-Some.ensures.rows in
-    let o = subcommand_rows_of c.args.matches.now in
-    record {
-      said = said_at o name (codes "request") rows c.request_of.result here c.in-request.is c.request_of.ensures.said;
-      given = given_at o name (codes "request") rows c.request_of.result here c.in-request.is
-          (λ h. only_memory c.request_of.result (codes "request", rows) (c.request_of.ensures.given h.0 h.1 h.2));
-    }
+    let both = job_but (goal.at.returns-in-request c).In-Some (codes "request") c.request_of.result c.in-request.is c.request_of.ensures.said (λ h. c.request_of.ensures.given h.0 h.1 h.2) in
+    record { said = both.0; given = both.1 }
 
 pub returns-in-define : goal.returns-in-define
 returns-in-define c =
-    let name = c.in-Some.name.now in
-    let rows = rows_of (found_of c.in-Some.inner.now) in
-    let here = met_at c.args.matches.now name rows c.in-Some.ensures.name c.in-Some.ensures.rows in
-    let o = subcommand_rows_of c.args.matches.now in
-    record {
-      said = said_at o name (codes "define") rows c.define_of.result here c.in-define.is c.define_of.ensures.said;
-      given = given_at o name (codes "define") rows c.define_of.result here c.in-define.is
-          (λ h. only_memory c.define_of.result (codes "define", rows) (c.define_of.ensures.given h.0 h.1 h.2 h.3 h.4));
-    }
+    let both = job_but (goal.at.returns-in-define c).In-Some (codes "define") c.define_of.result c.in-define.is c.define_of.ensures.said c.define_of.ensures.given in
+    record { said = both.0; given = both.1 }
 
 pub returns-in-listing : goal.returns-in-listing
 returns-in-listing c =
-    let name = c.in-Some.name.now in
-    let rows = rows_of (found_of c.in-Some.inner.now) in
-    let here = met_at c.args.matches.now name rows c.in-Some.ensures.name c.in-Some.ensures.rows in
-    let o = subcommand_rows_of c.args.matches.now in
-    record {
-      said = said_at o name (codes "listing") rows c.listing_of.result here c.in-listing.is c.listing_of.ensures.said;
-      given = given_at o name (codes "listing") rows c.listing_of.result here c.in-listing.is
-          (λ h. only_memory c.listing_of.result (codes "listing", rows) (c.listing_of.ensures.given h));
-    }
+    let both = job_but (goal.at.returns-in-listing c).In-Some (codes "listing") c.listing_of.result c.in-listing.is c.listing_of.ensures.said c.listing_of.ensures.given in
+    record { said = both.0; given = both.1 }
 
 pub returns-in-due : goal.returns-in-due
 returns-in-due c =
-    let name = c.in-Some.name.now in
-    let rows = rows_of (found_of c.in-Some.inner.now) in
-    let here = met_at c.args.matches.now name rows c.in-Some.ensures.name c.in-Some.ensures.rows in
-    let o = subcommand_rows_of c.args.matches.now in
-    record {
-      said = said_at o name (codes "due") rows c.due_of.result here c.in-due.is c.due_of.ensures.said;
-      given = given_at o name (codes "due") rows c.due_of.result here c.in-due.is
-          (λ h. only_memory c.due_of.result (codes "due", rows) (c.due_of.ensures.given h.0 h.1));
-    }
+    let both = job_but (goal.at.returns-in-due c).In-Some (codes "due") c.due_of.result c.in-due.is c.due_of.ensures.said (λ h. c.due_of.ensures.given h.0 h.1) in
+    record { said = both.0; given = both.1 }
 
 pub returns-in-publish : goal.returns-in-publish
 returns-in-publish c =
-    let name = c.in-Some.name.now in
-    let rows = rows_of (found_of c.in-Some.inner.now) in
-    let here = met_at c.args.matches.now name rows c.in-Some.ensures.name c.in-Some.ensures.rows in
-    let o = subcommand_rows_of c.args.matches.now in
-    record {
-      said = said_at o name (codes "publish") rows c.publish_of.result here c.in-publish.is c.publish_of.ensures.said;
-      given = given_at o name (codes "publish") rows c.publish_of.result here c.in-publish.is
-          (λ h. only_memory c.publish_of.result (codes "publish", rows) (c.publish_of.ensures.given h.0 h.1));
-    }
+    let both = job_but (goal.at.returns-in-publish c).In-Some (codes "publish") c.publish_of.result c.in-publish.is c.publish_of.ensures.said (λ h. c.publish_of.ensures.given h.0 h.1) in
+    record { said = both.0; given = both.1 }
 
 pub returns-in-verify : goal.returns-in-verify
 returns-in-verify c =
-    let name = c.in-Some.name.now in
-    let rows = rows_of (found_of c.in-Some.inner.now) in
-    let here = met_at c.args.matches.now name rows c.in-Some.ensures.name c.in-Some.ensures.rows in
-    let o = subcommand_rows_of c.args.matches.now in
-    record {
-      said = said_at o name (codes "verify") rows c.verify_of.result here c.in-verify.is c.verify_of.ensures.said;
-      given = given_at o name (codes "verify") rows c.verify_of.result here c.in-verify.is
-          (λ h. only_memory c.verify_of.result (codes "verify", rows) (c.verify_of.ensures.given h));
-    }
+    let both = job_but (goal.at.returns-in-verify c).In-Some (codes "verify") c.verify_of.result c.in-verify.is c.verify_of.ensures.said c.verify_of.ensures.given in
+    record { said = both.0; given = both.1 }
 
 pub returns-in-check : goal.returns-in-check
 returns-in-check c =
-    let name = c.in-Some.name.now in
-    let rows = rows_of (found_of c.in-Some.inner.now) in
-    let here = met_at c.args.matches.now name rows c.in-Some.ensures.name c.in-Some.ensures.rows in
-    let o = subcommand_rows_of c.args.matches.now in
-    record {
-      said = said_at o name (codes "check") rows c.check_of.result here c.in-check.is c.check_of.ensures.said;
-      given = given_at o name (codes "check") rows c.check_of.result here c.in-check.is
-          (λ h. only_memory c.check_of.result (codes "check", rows) (c.check_of.ensures.given h));
-    }
+    let both = job_but (goal.at.returns-in-check c).In-Some (codes "check") c.check_of.result c.in-check.is c.check_of.ensures.said c.check_of.ensures.given in
+    record { said = both.0; given = both.1 }
 
 pub returns-in-copy : goal.returns-in-copy
 returns-in-copy c =
-    let name = c.in-Some.name.now in
-    let rows = rows_of (found_of c.in-Some.inner.now) in
-    let here = met_at c.args.matches.now name rows c.in-Some.ensures.name c.in-Some.ensures.rows in
-    let o = subcommand_rows_of c.args.matches.now in
-    record {
-      said = said_at o name (codes "copy") rows c.copy_of.result here c.in-copy.is c.copy_of.ensures.said;
-      given = given_at o name (codes "copy") rows c.copy_of.result here c.in-copy.is
-          (λ h. only_memory c.copy_of.result (codes "copy", rows) (c.copy_of.ensures.given h.0 h.1));
-    }
+    let both = job_but (goal.at.returns-in-copy c).In-Some (codes "copy") c.copy_of.result c.in-copy.is c.copy_of.ensures.said (λ h. c.copy_of.ensures.given h.0 h.1) in
+    record { said = both.0; given = both.1 }
 
 pub returns-in-tokens : goal.returns-in-tokens
 returns-in-tokens c =
-    let name = c.in-Some.name.now in
-    let rows = rows_of (found_of c.in-Some.inner.now) in
-    let here = met_at c.args.matches.now name rows c.in-Some.ensures.name c.in-Some.ensures.rows in
-    let o = subcommand_rows_of c.args.matches.now in
-    record {
-      said = said_at o name (codes "tokens") rows c.tokens_of.result here c.in-tokens.is c.tokens_of.ensures.said;
-      given = given_at o name (codes "tokens") rows c.tokens_of.result here c.in-tokens.is
-          (λ h. or_misplaced c.tokens_of.result rows (c.tokens_of.ensures.given h));
-    }
+    let both = job_at (goal.at.returns-in-tokens c).In-Some (codes "tokens") c.tokens_of.result c.in-tokens.is c.tokens_of.ensures.said
+    (λ h. or_misplaced c.tokens_of.result (rows_of (found_of c.in-Some.inner.now)) (c.tokens_of.ensures.given h)) in
+    record { said = both.0; given = both.1 }
 
 pub returns-in-revoke : goal.returns-in-revoke
 returns-in-revoke c =
-    let name = c.in-Some.name.now in
-    let rows = rows_of (found_of c.in-Some.inner.now) in
-    let here = met_at c.args.matches.now name rows c.in-Some.ensures.name c.in-Some.ensures.rows in
-    let o = subcommand_rows_of c.args.matches.now in
-    record {
-      said = said_at o name (codes "revoke") rows c.revoke_of.result here c.in-revoke.is c.revoke_of.ensures.said;
-      given = given_at o name (codes "revoke") rows c.revoke_of.result here c.in-revoke.is
-          (λ h. or_unclear c.revoke_of.result rows (c.revoke_of.ensures.given h));
-    }
+    let both = job_at (goal.at.returns-in-revoke c).In-Some (codes "revoke") c.revoke_of.result c.in-revoke.is c.revoke_of.ensures.said
+    (λ h. or_unclear c.revoke_of.result (rows_of (found_of c.in-Some.inner.now)) (c.revoke_of.ensures.given h)) in
+    record { said = both.0; given = both.1 }

@@ -1,10 +1,9 @@
 use Rattle.sqlite.specs.Held.{state}
 use Rattle.reg_tables.specs.Version.{newest, number_of}
 use Rattle.reg_tables.proofs.EditLemmas.Changing.{changes}
-use Rattle.reg_tables.proofs.EditStatements.{version_changes}
+use Rattle.reg_tables.proofs.EditStatements.{change_version_writes, version_changes}
 use Rattle.reg_tables.proofs.Library.Writes.{written_schema}
 use Rattle.reg_tables.proofs.MigrateLemmas.{raised}
-use Rattle.reg_tables.proofs.WriteTexts.{change_version_writes}
 use Rattle.reg_migration.proofs.RaiseBeside.{raises_version}
 use Rattle.reg_migration.proofs.migrate.raise_version.Goals as goal
 

@@ -1,5 +1,4 @@
-use Rattle.reg_commands.specs.Caller.{token_digest}
 use Rattle.reg_office.proofs.laws.approvals_are_advised.Goals as goal
 
 pub returns : goal.returns
-returns c = c.approvals_are_advised.ensures token_digest
+returns c = c.approvals_are_advised.ensures _

@@ -1,6 +1,5 @@
-use Rattle.reg_commands.specs.Caller.{token_digest}
 use Rattle.reg_commands.proofs.Digests.{gives_digests}
 use Rattle.reg_office.proofs.laws.blocks_are_apart.Goals as goal
 
 pub returns : goal.returns
-returns c = c.blocks_are_apart.ensures token_digest gives_digests
+returns c = c.blocks_are_apart.ensures _ gives_digests

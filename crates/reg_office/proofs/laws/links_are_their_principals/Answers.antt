@@ -1,5 +1,4 @@
-use Rattle.reg_commands.specs.Caller.{token_digest}
 use Rattle.reg_office.proofs.laws.links_are_their_principals.Goals as goal
 
 pub returns : goal.returns
-returns c = c.links_are_their_principals.ensures token_digest
+returns c = c.links_are_their_principals.ensures _

@@ -1,6 +1,5 @@
-use Rattle.reg_commands.specs.Caller.{token_digest}
 use Rattle.reg_commands.proofs.Digests.{gives_digests}
 use Rattle.reg_office.proofs.laws.no_value_is_given_twice.Goals as goal
 
 pub returns : goal.returns
-returns c = c.no_value_is_given_twice.ensures token_digest gives_digests
+returns c = c.no_value_is_given_twice.ensures _ gives_digests

@@ -1,5 +1,4 @@
-use Rattle.reg_commands.specs.Caller.{token_digest}
 use Rattle.reg_office.proofs.laws.private_holders_are_hidden.Goals as goal
 
 pub returns : goal.returns
-returns c = c.private_holders_are_hidden.ensures token_digest
+returns c = c.private_holders_are_hidden.ensures _

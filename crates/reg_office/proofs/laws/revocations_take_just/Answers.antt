@@ -1,5 +1,4 @@
-use Rattle.reg_commands.specs.Caller.{token_digest}
 use Rattle.reg_office.proofs.laws.revocations_take_just.Goals as goal
 
 pub returns : goal.returns
-returns c = c.revocations_take_just.ensures token_digest
+returns c = c.revocations_take_just.ensures _

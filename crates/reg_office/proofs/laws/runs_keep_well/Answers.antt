@@ -1,6 +1,5 @@
-use Rattle.reg_commands.specs.Caller.{token_digest}
 use Rattle.reg_commands.proofs.Digests.{gives_digests}
 use Rattle.reg_office.proofs.laws.runs_keep_well.Goals as goal
 
 pub returns : goal.returns
-returns c = c.runs_keep_well.ensures token_digest gives_digests
+returns c = c.runs_keep_well.ensures _ gives_digests

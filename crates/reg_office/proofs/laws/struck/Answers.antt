@@ -1,8 +1,7 @@
-use Rattle.reg_commands.specs.Caller.{token_digest}
 use Rattle.reg_office.proofs.laws.struck.Goals as goal
 
 pub returns-clause-no_trace : goal.returns-clause-no_trace
-returns-clause-no_trace c = c.struck.ensures.no_trace token_digest
+returns-clause-no_trace c = c.struck.ensures.no_trace _
 
 pub returns-clause-stages : goal.returns-clause-stages
-returns-clause-stages c = c.struck.ensures.stages token_digest
+returns-clause-stages c = c.struck.ensures.stages _

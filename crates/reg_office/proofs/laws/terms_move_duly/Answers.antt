@@ -1,5 +1,4 @@
-use Rattle.reg_commands.specs.Caller.{token_digest}
 use Rattle.reg_office.proofs.laws.terms_move_duly.Goals as goal
 
 pub returns : goal.returns
-returns c = c.terms_move_duly.ensures token_digest
+returns c = c.terms_move_duly.ensures _

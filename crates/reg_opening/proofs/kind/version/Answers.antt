@@ -1,6 +1,6 @@
 use Rattle.std.proofs.Common.{inl}
 use Rattle.sqlite.specs.Held.{state}
-use Rattle.reg_tables.proofs.Statements.Office.{office_version}
+use Rattle.reg_tables.proofs.Statements.{office_version}
 use Rattle.reg_tables.proofs.SelectBeside.{version_shown}
 use Rattle.reg_statements.proofs.ReadLemmas.{passed_on}
 use Rattle.reg_opening.proofs.Causes.{query_cause}

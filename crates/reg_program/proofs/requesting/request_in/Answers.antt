@@ -3,7 +3,7 @@ use Rattle.std.specs.Option.{option_map}
 use Rattle.std.specs.String.{string_bytes}
 use Rattle.reg_program.specs.Inputs.{AreKnown, IsTokenOf, body_in}
 use Rattle.reg_program.specs.Performing.{IsRequestedBy}
-use Rattle.reg_program.specs.Tasks.{streams}
+use Rattle.reg_program.specs.Tasks.{streams_by}
 use Rattle.reg_program.proofs.Carried.{carries_then}
 use Rattle.reg_program.proofs.requesting.request_in.Goals as goal
 
@@ -15,11 +15,8 @@ returns g c =
     c.in_ok-token.ensures in
     let body = subst (AreKnown (body_in (option_map string_bytes order.body) input))
     (sym c.as_slice.ensures.value) c.in_ok-body.ensures in
-    let io = streams c.args.console.now.is_watched input
-    (g.R.Read.remaining c.carry_out.new.console.input.now)
-    (g.W.Write.contents c.args.console.now.output.now)
-    (g.W.Write.contents c.carry_out.new.console.output.now)
-    (g.D.Dates.readings c.args.dates.now) (g.D.Dates.readings c.carry_out.new.dates) in
+    let io = streams_by g.R.Read.remaining g.W.Write.contents g.D.Dates.readings c.args.console.now
+    c.carry_out.new.console c.args.dates.now c.carry_out.new.dates in
     carries_then (g.O.Offices.Carried c.args.offices.now c.carry_out.new.offices) _
     c.as_str.result.now (string_bytes order.source) (IsRequestedBy order input) io
     (g.R.Read.remaining c.body_of.new.input) _ c.carry_out.result c.as_str.ensures.value

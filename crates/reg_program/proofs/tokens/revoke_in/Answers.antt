@@ -1,7 +1,7 @@
 use Rattle.std.proofs.Common.{List, subst}
 use Rattle.reg_core.specs.declared.capability.CapRow.{CapRow}
 use Rattle.reg_program.specs.Printing.{Prints}
-use Rattle.reg_program.specs.Tokens.{IsTable}
+use Rattle.reg_program.specs.Tokens.{IsTokenTable}
 use Rattle.reg_program.proofs.Did.{ends_printing}
 use Rattle.reg_program.proofs.Revoked.{printing_unrevoked, takes_none}
 use Rattle.reg_program.proofs.tokens.revoke_in.Goals as goal
@@ -16,7 +16,7 @@ returns-in-Ok g c =
     record {
       does =
           ends_printing world g.K.Keeper.Holds g.K.Keeper.Sound g.K.Keeper.FAILS c.args.office.now
-          c.revoke.new.self _ _ c.print_rows.result (Prints had has (IsTable c.into_vec.result.items))
+          c.revoke.new.self _ _ c.print_rows.result (Prints had has (IsTokenTable c.into_vec.result.items))
           c.print_rows.ensures.ok c.print_rows.ensures.err given.premise
           (λ h printed. record {
             rows = rows;
@@ -24,7 +24,7 @@ returns-in-Ok g c =
             gone = given.world h;
             clerk = given.clerk h;
             prints =
-                subst (λ (all : List CapRow). Prints had has (IsTable all)) c.into_vec.ensures printed;
+                subst (λ (all : List CapRow). Prints had has (IsTokenTable all)) c.into_vec.ensures printed;
           })
           (λ h why of. printing_unrevoked c.args.moment c.args.choice (world c.args.office.now)
           (world c.revoke.new.self) rows why (given.rows h) (given.world h) of);

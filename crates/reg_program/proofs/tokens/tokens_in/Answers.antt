@@ -2,7 +2,7 @@ use Rattle.std.proofs.Common.{List, subst, ◌∙◌}
 use Rattle.std.proofs.lemmas.Result.{err_from_is_err_and}
 use Rattle.reg_core.specs.declared.capability.CapRow.{CapRow}
 use Rattle.reg_program.specs.Printing.{Prints}
-use Rattle.reg_program.specs.Tokens.{IsTable}
+use Rattle.reg_program.specs.Tokens.{IsTokenTable}
 use Rattle.reg_program.proofs.Did.{ends_printing, fault_is_common, printing_is_common, stops}
 use Rattle.reg_program.proofs.Results.{err_as}
 use Rattle.reg_program.proofs.tokens.tokens_in.Goals as goal
@@ -26,11 +26,11 @@ returns-clause-does g c =
     let has = g.W.Write.contents c.print_rows.new.output in
     ends_printing g.K.Keeper.world g.K.Keeper.Holds g.K.Keeper.Sound g.K.Keeper.FAILS
     c.args.office.now c.tokens.new.self _ _ c.print_rows.result
-    (Prints had has (IsTable c.into_vec.result.items)) c.print_rows.ensures.ok
+    (Prints had has (IsTokenTable c.into_vec.result.items)) c.print_rows.ensures.ok
     c.print_rows.ensures.err given.premise
     (λ h printed. (
       given.same h,
-      subst (λ (rows : List CapRow). Prints had has (IsTable rows)) (c.into_vec.ensures ∙ given.value h)
+      subst (λ (rows : List CapRow). Prints had has (IsTokenTable rows)) (c.into_vec.ensures ∙ given.value h)
           printed,
     ))
     (λ h why of. given.same h)

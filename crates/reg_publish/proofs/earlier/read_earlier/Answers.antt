@@ -1,7 +1,7 @@
 use Rattle.std.proofs.Common.{◌≡◌, true, false, is_some, List, ℕ, Option, ap, arith, sym, ◌∙◌, subst}
 use Rattle.std.proofs.lemmas.Grind.{common_steps}
 use Rattle.reg_publish.specs.Earlier.{IsTied, text_there}
-use Rattle.reg_publish.specs.Faults.{IsUnread}
+use Rattle.reg_publish.specs.Faults.{HistoryIsUnread}
 use Rattle.reg_publish.proofs.Causes.{handed_on, is_missing, is_there, untied}
 use Rattle.reg_publish.proofs.earlier.read_earlier.Goals as goal
 use Rattle.reg_site.specs.Files.{path_of}
@@ -13,8 +13,8 @@ returns-in_err-earlier-clause-why g c = λ tells.
     let index = held c.args.folder.now (path_of file.IndexTree) in
     let changes = held c.args.folder.now (path_of file.Changes) in
     let why = c.in_err-earlier.field-0.0 in
-    let There : Option (List ℕ) → Type 0 = λ there. IsUnread there index why in
-    handed_on (IsUnread changes index) c.from_residual-in_err-earlier.result why
+    let There : Option (List ℕ) → Type 0 = λ there. HistoryIsUnread there index why in
+    handed_on (HistoryIsUnread changes index) c.from_residual-in_err-earlier.result why
     c.from_residual-in_err-earlier.ensures.1
     (subst There (c.in_ok-changes.ensures.all tells) (c.in_err-earlier.ensures.why index))
 

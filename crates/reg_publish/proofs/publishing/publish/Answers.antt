@@ -7,7 +7,7 @@ use Rattle.reg_site.specs.Files.{path_of}
 use Rattle.reg_site.specs.Site.{site, site_files}
 use Rattle.reg_site.specs.declared.files.File.TheVariants as file
 use Rattle.reg_publish.specs.Earlier.{IsTied}
-use Rattle.reg_publish.specs.Faults.{TellsWhy}
+use Rattle.reg_publish.specs.Faults.{TellsWhyUnpublished}
 use Rattle.reg_publish.specs.Told.{IsTold, blocks_of, facts_at, facts_told, pages_of, prefixes_of}
 use Rattle.reg_publish.proofs.Causes.{handed_on, lost_tells, unread_tells}
 use Rattle.reg_publish.proofs.Placed.{publishes_told}
@@ -60,7 +60,7 @@ returns-in_err-text-clause-why g c = λ tells.
     let Known = g.S.Source.Holds c.ask_all.new.source in
     let facts = facts_at (g.S.Source.published c.args.source.now) c.args.moment in
     let why = c.in_err-text.field-0.0 in
-    handed_on (TellsWhy changes index Known facts) c.from_residual-in_err-text.result why
+    handed_on (TellsWhyUnpublished changes index Known facts) c.from_residual-in_err-text.result why
     c.from_residual-in_err-text.ensures.1
     (unread_tells changes index Known facts why (c.in_err-text.ensures.why tells))
 
@@ -75,7 +75,7 @@ returns-in_err-recorded-clause-why g c = λ tells.
     let told = c.in_ok-told.told in
     let history = c.in_ok-text.ensures.history in
     let why = c.in_err-recorded.field-0.0 in
-    handed_on (TellsWhy changes index Known facts) c.from_residual-in_err-recorded.result why
+    handed_on (TellsWhyUnpublished changes index Known facts) c.from_residual-in_err-recorded.result why
     c.from_residual-in_err-recorded.ensures.1
     (lost_tells changes index Known facts history.0 (facts_told told) why
     (record {

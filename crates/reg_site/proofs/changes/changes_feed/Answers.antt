@@ -1,5 +1,6 @@
+use Rattle.std.proofs.Common.{sym}
+use Rattle.std.specs.List.{take-map}
 use Rattle.reg_site.specs.Changes.{changes_feed, shown}
-use Rattle.reg_site.proofs.Mapped.{map-take}
 use Rattle.reg_html.proofs.Pieces.{joined, whole}
 use Rattle.reg_site.proofs.changes.changes_feed.Goals as goal
 
@@ -9,4 +10,4 @@ returns c =
     whole c.new-out.result.items c.new-out.ensures.items
     (joined c.in_ok-push_feed_start.ensures
     (joined (rw c.last_moment.ensures at c.in_ok-push_feed_head.ensures).bytes
-    (joined (rw (c.first_of.ensures, map-take shown 100 c.args.changes.now) at c.in_ok-push_entries.ensures).bytes c.in_ok-push.ensures)))
+    (joined (rw (c.first_of.ensures, sym (take-map shown 100 c.args.changes.now)) at c.in_ok-push_entries.ensures).bytes c.in_ok-push.ensures)))

@@ -1,5 +1,6 @@
+use Rattle.std.proofs.Common.{sym}
+use Rattle.std.specs.List.{take-map}
 use Rattle.reg_site.specs.Changes.{changes_page, shown}
-use Rattle.reg_site.proofs.Mapped.{map-take}
 use Rattle.reg_html.proofs.Pieces.{joined, whole}
 use Rattle.reg_site.proofs.changes.changes_page.Goals as goal
 
@@ -10,4 +11,4 @@ returns c =
     (joined c.in_ok-push_start.ensures
     (joined c.in_ok-push_links.ensures.bytes
     (joined c.in_ok-push_apply.ensures.bytes
-    (joined (rw (c.first_of.ensures, map-take shown 200 c.args.changes.now) at c.in_ok-push_changes.ensures).bytes c.in_ok-push_end.ensures))))
+    (joined (rw (c.first_of.ensures, sym (take-map shown 200 c.args.changes.now)) at c.in_ok-push_changes.ensures).bytes c.in_ok-push_end.ensures))))

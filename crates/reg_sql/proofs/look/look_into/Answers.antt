@@ -15,7 +15,7 @@ use Rattle.reg_opening.specs.declared.kind.Found.{Found}
 use Rattle.reg_opening.specs.declared.kind.Found.TheVariants as finding
 use Rattle.reg_sql.specs.Failing.{IsCaused}
 use Rattle.reg_sql.specs.Opening.{IsOpened, IsRefused}
-use Rattle.reg_sql.specs.Troubles.{IsGivenUp, IsTrouble, fault_trouble, refused_trouble}
+use Rattle.reg_sql.specs.Troubles.{OpeningIsGivenUp, IsTrouble, fault_trouble, refused_trouble}
 use Rattle.reg_sql.specs.declared.open.OpenFault.{OpenFault}
 use Rattle.reg_sql.specs.declared.open.OpenFault.TheVariants as refusals
 use Rattle.reg_sql.specs.declared.trouble.Trouble.{Trouble}
@@ -75,7 +75,7 @@ module _ (old mid : State) {E : Type 0} (found : Found) (finds : FindsKind {E = 
         (v, is_it.3, (is_it.0, λ begins. absurd (refused.3 v (is_it.0, is_it.2 begins))))
     refused_as last (refusals.Fault fault) w refused = fault_is old fault
 
-    refused_over : (last : State) (trouble : Trouble) → IsGivenUp mid last trouble → Works last
+    refused_over : (last : State) (trouble : Trouble) → OpeningIsGivenUp mid last trouble → Works last
         → IsTrouble old trouble
     refused_over last trouble given w =
         let worked = given.refused.unchanged.worked w in

@@ -1,7 +1,7 @@
 use Rattle.std.proofs.Common.{◌≡◌, List, ℕ, [], ◌∷◌, ◌++◌, ap, append_assoc, subst, ◌∙◌}
 use Rattle.std.specs.Bool.{Decides}
 use Rattle.sqlite_disk.specs.Memory.{memory_bytes}
-use Rattle.reg_sql.specs.Steady.{File, Header, Reading}
+use Rattle.reg_sql.specs.Steady.{File, Header, CopyReading}
 use Rattle.reg_sql.proofs.steady.is_as_before.Goals as goal
 
 pub returns-clause-told : goal.returns-clause-told
@@ -14,7 +14,7 @@ returns-clause-told g c = λ tells.
       later_header = header;
       read =
           c.in_ok-later_header.ensures.read tells
-          ∙ ap (λ (l : List Reading). l ++ Header header ∷ []) (c.in_ok-later_file.ensures.read tells)
+          ∙ ap (λ (l : List CopyReading). l ++ Header header ∷ []) (c.in_ok-later_file.ensures.read tells)
           ∙ append_assoc old (File file ∷ []) (Header header ∷ []);
       told =
           subst (λ (h : List ℕ). Decides c.is_steady.result ((h ≡ c.args.header.now) × (file ≡ c.args.file.now)))

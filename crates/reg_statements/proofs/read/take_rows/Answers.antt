@@ -5,7 +5,7 @@ use Rattle.sqlite.specs.State.{State, Fails, HasCleanDisk, IsUnchanged}
 use Rattle.sqlite.specs.declared.error.Error.{Error}
 use Rattle.reg_tables.specs.Faulting.{HasFailed, IsSame}
 use Rattle.sqlite.specs.Values.{bound}
-use Rattle.reg_tables.proofs.Faults.{failed_later, has_failed, is_same, not_queried}
+use Rattle.reg_tables.proofs.Faults.{has_failed, is_same, not_queried}
 use Rattle.reg_tables.proofs.RestLemmas.{refused_rests, begun_idle, whole_answer, survives_lasts, lasts_then}
 use Rattle.sqlite.proofs.Callers.{unchanged_then}
 use Rattle.reg_statements.specs.Reading.{AreTaken}

@@ -1,6 +1,5 @@
 use Rattle.std.proofs.Common.{◌∙◌}
 use Rattle.reg_tables.proofs.HavingLemmas.{memory_made}
-use Rattle.reg_tables.proofs.SelectBeside.{version_shown}
 use Rattle.reg_tables.proofs.schema.has_office.Goals as goal
 
 pub returns : goal.returns

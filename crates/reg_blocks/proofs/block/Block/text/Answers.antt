@@ -1,6 +1,5 @@
-use Rattle.std.proofs.Common.{rules, ◌≡◌}
+use Rattle.std.proofs.Common.{rules, ◌≡◌, string_bytes, Some, IsTrue}
 use Rattle.std.proofs.lemmas.Result.{IfOk-weaker}
-use Rattle.std.specs.Prelude.{string_bytes, Some, IsTrue}
 use Rattle.reg_blocks.specs.Block.{is_block}
 use Rattle.reg_blocks.specs.Digits.{read_block, block_text}
 use Rattle.reg_blocks.proofs.TextReadsBack.{read_block-block_text}

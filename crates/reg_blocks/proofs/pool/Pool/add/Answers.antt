@@ -1,5 +1,4 @@
-use Rattle.std.proofs.Common.{◌≡◌, ℕ, List, sym, subst}
-use Rattle.std.specs.Prelude.{Contains}
+use Rattle.std.proofs.Common.{◌≡◌, ℕ, List, sym, subst, Contains}
 use Rattle.reg_blocks.proofs.InsertedPrefixes.{IsPlace, place-from_search, not_there, IsPool-insert, AddsPrefix-insert}
 use Rattle.reg_blocks.proofs.pool.Pool.add.Goals.{In-Err}
 use Rattle.reg_blocks.proofs.pool.Pool.add.Goals as goal

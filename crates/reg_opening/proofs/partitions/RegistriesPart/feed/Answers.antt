@@ -7,11 +7,11 @@ use Rattle.sqlite.specs.State.{Shown, State}
 use Rattle.reg_records.specs.Ranges.{range_in}
 use Rattle.reg_records.specs.Registries.{registry_in}
 use Rattle.reg_tables.specs.Selecting.{BeginsWith, stored}
-use Rattle.reg_tables.specs.Texts.{select_ranges, select_registries}
+use Rattle.reg_tables.specs.declared.texts.TheConstants.{SELECT_RANGES, SELECT_REGISTRIES}
 use Rattle.reg_tables.specs.Version.{table_count}
 use Rattle.reg_tables.specs.declared.version.Version.{Version}
-use Rattle.reg_tables.proofs.Statements.Ranges.{all_ranges}
-use Rattle.reg_tables.proofs.Statements.Registries.{all_registries}
+use Rattle.reg_tables.proofs.Statements.{all_ranges}
+use Rattle.reg_tables.proofs.Statements.{all_registries}
 use Rattle.reg_statements.specs.Content.{max_at, range_at}
 use Rattle.reg_audit.specs.Audits.{knows_free}
 use Rattle.reg_statements.proofs.ReadLemmas.{passed_on}
@@ -25,7 +25,7 @@ use Rattle.reg_opening.proofs.partitions.RegistriesPart.feed.Goals as goal
 
 -- the ranges are those that were there before the registries were read
 ranges_before : (v : Version) (old mid new : State) (shown : List Row) → mid.now ≡ old.now
-    → BeginsWith (table_count v) old.now.schema → Shown select_ranges [] mid new shown
+    → BeginsWith (table_count v) old.now.schema → Shown SELECT_RANGES.now [] mid new shown
     → IsPermutation (map (stored 5) (tables_at v old.now).ranges) shown
 ranges_before v old mid new shown still schema answer =
     subst (λ (db : Database). IsPermutation (map (stored 5) (tables_at v db).ranges) shown) still
@@ -98,7 +98,7 @@ returns-clause-feeds g c =
 pub returns-in_err-registries-clause-fault : goal.returns-in_err-registries-clause-fault
 returns-in_err-registries-clause-fault g c =
     passed_on _ c.from_residual.result c.in_err-registries.field-0.0 c.from_residual.ensures.1
-    (query_cause select_registries (state g.S.Store c.args.conn.now) c.load.new.conn _
+    (query_cause SELECT_REGISTRIES.now (state g.S.Store c.args.conn.now) c.load.new.conn _
     c.in_err-registries.ensures.stays inl c.in_err-registries.ensures.fault)
 
 pub returns-in_err-rows-clause-fault : goal.returns-in_err-rows-clause-fault
@@ -109,7 +109,7 @@ returns-in_err-rows-clause-fault g c =
     c.from_residual-in_err-rows.ensures.1
     (cause_later old mid (state g.S.Store c.load-2.new.conn) _ c.in_ok-registries.ensures.stays
     c.in_err-rows.ensures.stays
-    (query_cause select_ranges mid c.load-2.new.conn _ c.in_err-rows.ensures.stays inl
+    (query_cause SELECT_RANGES.now mid c.load-2.new.conn _ c.in_err-rows.ensures.stays inl
     c.in_err-rows.ensures.fault))
 
 pub returns-in_err-is_whole-clause-fault : goal.returns-in_err-is_whole-clause-fault

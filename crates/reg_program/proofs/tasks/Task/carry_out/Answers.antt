@@ -13,8 +13,8 @@ returns-in-Revoke-clause-did g c =
       c.revoke_in.ensures.does,
     )
 
-pub returns-in-Publish-clause-did : goal.returns-in-Publish-clause-did
-returns-in-Publish-clause-did g c =
+pub returns-in-Publish-clause-publishes : goal.returns-in-Publish-clause-publishes
+returns-in-Publish-clause-publishes g c =
     rw c.in-Publish.is
     (ok_as c.publish_in.result
     (λ placed. (c.moment_now-now-in-Publish.result, c.moment_now-now-in-Publish.ensures, placed)) c.publish_in.ensures)

@@ -1,4 +1,4 @@
-use Rattle.std.proofs.Common.{◌≡◌, sym, ap, subst, ◌∙◌}
+use Rattle.std.proofs.Common.{sym, ap, subst, ◌∙◌}
 use Rattle.std.specs.Prelude.{option_map}
 use Rattle.std.specs.FinMap.{get, remove}
 use Rattle.reg_maps.proofs.MapLaws.{get-inserted}
@@ -8,7 +8,6 @@ use Rattle.reg_core.proofs.KeyOrders.{block_keys}
 use Rattle.reg_vacancies.specs.Places.{AreLeftBy}
 use Rattle.reg_store.specs.Lists.Held.{account_of}
 use Rattle.reg_store.specs.Lists.Holdings.{blocks_held}
-use Rattle.reg_store.proofs.lists.blocks.give_both.Goals.{After-take}
 use Rattle.reg_store.proofs.lists.blocks.give_both.Goals as goal
 
 pub take-requires : goal.take-requires
@@ -25,18 +24,14 @@ returns-in-Ok-clause-left c =
     (holder_in c.args.holding))
 
 -- the block that was put is taken away again
-restored : (c : After-take)
-    → blocks_held c.take.new.self ≡ blocks_held c.args.holdings.now
-restored c =
+pub returns-in-Err-clause-err : goal.returns-in-Err-clause-err
+returns-in-Err-clause-err c =
     let old = blocks_held c.args.holdings.now in
     let block = c.args.holding.block in
     c.take.ensures ∙ ap (λ m. remove m block) c.in_ok-put.ensures.ok
     ∙ remove-inserted block_keys old block (holder_in c.args.holding) c.requires.absent
 
-pub returns-in-Err-clause-err : goal.returns-in-Err-clause-err
-returns-in-Err-clause-err c = restored c
-
 pub returns-in-Err-clause-left : goal.returns-in-Err-clause-left
 returns-in-Err-clause-left c =
-    subst (AreLeftBy c.give.new.self) (sym (restored c))
+    subst (AreLeftBy c.give.new.self) (sym (returns-in-Err-clause-err c))
     ((c.in-Err.ensures.err.left (blocks_held c.args.holdings.now)).1 c.requires.left)

@@ -1,4 +1,4 @@
-use Rattle.std.proofs.Common.{◌≡◌, sym, ap, subst, ◌∙◌}
+use Rattle.std.proofs.Common.{sym, ap, subst, ◌∙◌}
 use Rattle.std.specs.FinMap.{remove}
 use Rattle.reg_maps.proofs.FiniteMaps.Nested.{remove-inserted}
 use Rattle.reg_core.specs.Entry.{registration_in}
@@ -6,7 +6,6 @@ use Rattle.reg_core.specs.World.{Place}
 use Rattle.reg_core.proofs.KeyOrders.{place_keys}
 use Rattle.reg_vacancies.specs.Values.{AreTakenBy}
 use Rattle.reg_store.specs.Lists.Entries.{all_entries}
-use Rattle.reg_store.proofs.lists.registrations.put_both.Goals.{After-take_row}
 use Rattle.reg_store.proofs.lists.registrations.put_both.Goals as goal
 
 pub returns-in-Ok-clause-in_step : goal.returns-in-Ok-clause-in_step
@@ -16,9 +15,8 @@ returns-in-Ok-clause-in_step c =
     (registration_in c.args.entry))
 
 -- the entry that was put is taken away again
-restored : (c : After-take_row)
-    → all_entries c.take_row.new.groups ≡ all_entries c.args.entries.now
-restored c =
+pub returns-in-Err-clause-err : goal.returns-in-Err-clause-err
+returns-in-Err-clause-err c =
     let entry = c.args.entry in
     let old = all_entries c.args.entries.now in
     let place : Place = (entry.registry, entry.value) in
@@ -26,10 +24,7 @@ restored c =
     ∙ remove-inserted place_keys old place (registration_in entry)
     (c.in-Err.ensures.absent old c.requires)
 
-pub returns-in-Err-clause-err : goal.returns-in-Err-clause-err
-returns-in-Err-clause-err c = restored c
-
 pub returns-in-Err-clause-in_step : goal.returns-in-Err-clause-in_step
 returns-in-Err-clause-in_step c =
-    subst (AreTakenBy c.take.new.self) (sym (restored c))
+    subst (AreTakenBy c.take.new.self) (sym (returns-in-Err-clause-err c))
     ((c.in-Err.ensures.err (all_entries c.args.entries.now)).1 c.requires)

@@ -1,4 +1,4 @@
-use Rattle.std.proofs.Common.{ℕ, List, ap, subst}
+use Rattle.std.proofs.Common.{ℕ, List, subst}
 use Rattle.std.specs.Prelude.{Contains}
 use Rattle.std.specs.FinMap.{insert, keys}
 use Rattle.std.proofs.Math.Logic.{∥∥₁_map}
@@ -6,14 +6,9 @@ use Rattle.std.proofs.lemmas.Result.{on_err_weaker, on_ok_weaker}
 use Rattle.reg_blocks.specs.Block.{leading_24}
 use Rattle.reg_vacancies.specs.PoolPlaces.{pool_of}
 use Rattle.reg_vacancies.specs.Places.{places_in}
-use Rattle.reg_vacancies.specs.Pool.{prefix_set}
 use Rattle.reg_vacancies.proofs.PrefixSets.{keys-prefix_set}
 use Rattle.reg_vacancies.proofs.Leaving.{adds-inserted, unchanged}
 use Rattle.reg_vacancies.proofs.places.FreePlaces.give.Goals as goal
-
-pub returns-clause-pool : goal.returns-clause-pool
-unfolding places_in
-returns-clause-pool c = ap prefix_set c.give.ensures.pool
 
 pub returns-clause-ok : goal.returns-clause-ok
 unfolding places_in

@@ -5,26 +5,6 @@ use Rattle.reg_vacancies.proofs.Following.{prefix_followed, same_followed}
 use Rattle.reg_vacancies.proofs.pool_places.Places.add_prefix.Goals as goal
 use Rattle.reg_vacancies.proofs.Pooling.{decided}
 
-pub returns-clause-pool : goal.returns-clause-pool
-unfolding pool_of
-returns-clause-pool c = c.add_pooled.ensures.pool
-
-pub returns-clause-ok : goal.returns-clause-ok
-unfolding IsFreeIn pool_of
-returns-clause-ok c = c.add_pooled.ensures.ok
-
-pub returns-clause-there : goal.returns-clause-there
-unfolding pool_of
-returns-clause-there c = c.add_pooled.ensures.there
-
-pub returns-clause-err_pool : goal.returns-clause-err_pool
-unfolding pool_of
-returns-clause-err_pool c = c.add_pooled.ensures.err_pool
-
-pub returns-clause-err : goal.returns-clause-err
-unfolding IsFreeIn
-returns-clause-err c = c.add_pooled.ensures.err
-
 pub returns-clause-follows : goal.returns-clause-follows
 unfolding IsFreeIn pool_of
 returns-clause-follows c = λ given follows.

@@ -2,7 +2,7 @@ use Rattle.std.proofs.Common.{List}
 use Rattle.reg_blocks.specs.Block.{SizedPrefix}
 use Rattle.reg_blocks.specs.Due.{block_due}
 use Rattle.reg_blocks.proofs.TrialFindsTheBlockDue.{IsAnswer, IsAnswer-unique, block_due-IsAnswer}
-use Rattle.reg_vacancies.specs.PoolPlaces.{Follows, IsFreeIn, pool_of}
+use Rattle.reg_vacancies.specs.PoolPlaces.{FollowsGiven, IsFreeIn, pool_of}
 use Rattle.reg_vacancies.proofs.Following.{due_followed}
 use Rattle.reg_vacancies.proofs.SizeSteps.{least_is_due}
 use Rattle.reg_vacancies.proofs.pool_places.Places.due.Goals as goal
@@ -14,7 +14,7 @@ returns-clause-least c =
     least_is_due places.large places.medium places.small c.args.size c.due_among.result
     c.runs.result.now c.runs.ensures.runs c.due_among.ensures
 
-answer : (c : goal.After-due_among) (given : List SizedPrefix) → Follows c.args.self.now given
+answer : (c : goal.After-due_among) (given : List SizedPrefix) → FollowsGiven c.args.self.now given
     → IsAnswer (pool_of c.args.self.now) given c.args.size c.due_among.result
 answer c given follows =
     due_followed (IsFreeIn c.args.self.now) (pool_of c.args.self.now) given c.args.size

@@ -5,18 +5,6 @@ use Rattle.reg_vacancies.specs.Sizes.{FreeOf}
 use Rattle.reg_vacancies.proofs.Following.{gift_followed, same_followed}
 use Rattle.reg_vacancies.proofs.pool_places.Places.give.Goals as goal
 
-pub returns-clause-pool : goal.returns-clause-pool
-unfolding pool_of
-returns-clause-pool c = refl
-
-pub returns-clause-ok : goal.returns-clause-ok
-unfolding IsFreeIn
-returns-clause-ok c = c.give_block.ensures.ok
-
-pub returns-clause-err : goal.returns-clause-err
-unfolding IsFreeIn
-returns-clause-err c = c.give_block.ensures.err
-
 pub returns-clause-follows : goal.returns-clause-follows
 unfolding IsFreeIn pool_of
 returns-clause-follows c =

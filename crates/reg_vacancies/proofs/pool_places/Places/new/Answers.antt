@@ -4,10 +4,6 @@ use Rattle.reg_vacancies.proofs.Following.{none_followed}
 use Rattle.reg_vacancies.proofs.SizeSteps.{none_free}
 use Rattle.reg_vacancies.proofs.pool_places.Places.new.Goals as goal
 
-pub returns-clause-pool : goal.returns-clause-pool
-unfolding pool_of
-returns-clause-pool c = c.new.ensures.empty
-
 pub returns-clause-free : goal.returns-clause-free
 unfolding IsFreeIn
 returns-clause-free c = λ block.

@@ -13,8 +13,7 @@ returns-in_default-clause-ok g c =
       refusal,
       refused g.A.Responder.Serves _ line
           (sym (c.line.ensures line buffered) ∙ ap (option_map call_of) c.in_default.is),
-      h.1,
-      h.0,
+      (h.1, h.0),
     )) c.send_answer.ensures.ok
 
 pub returns-in_default-clause-err : goal.returns-in_default-clause-err
@@ -35,8 +34,7 @@ returns-in-Ok-clause-ok g c =
     (λ n h line buffered. (
       told.0,
       served g.A.Responder.Serves _ _ line told.0 _ (c.in-Some.ensures line buffered) told.2,
-      rw is at h.1,
-      rw is at h.0,
+      (rw is at h.1, rw is at h.0),
     )) c.send_answer-in-Ok.ensures.ok
 
 pub returns-in-Ok-clause-err : goal.returns-in-Ok-clause-err
@@ -57,8 +55,7 @@ returns-in-Err-Storage-clause-ok g c =
       served g.A.Responder.Serves _ _ line storage _
           (c.in-Some.ensures line buffered)
           (rw c.in-Err-Storage.field-0-is at (c.in-Err-Storage.ensures.err)),
-      h.1,
-      h.0,
+      (h.1, h.0),
     )) c.send_answer-in-Err-Storage.ensures.ok
 
 pub returns-in-Err-Storage-clause-err : goal.returns-in-Err-Storage-clause-err

@@ -1,10 +1,8 @@
-use Rattle.std.proofs.Common.{refl}
-use Rattle.reg_print.specs.Trees.Advice.{advice_members}
 use Rattle.reg_print.proofs.PrintedTokens.{prints_object}
 use Rattle.reg_print.proofs.bodies.advice.AdvicePrintItself.print.Goals as goal
 
 pub returns : goal.returns
 returns c =
-    prints_object (advice_members c.args.self.now) refl c.in_ok-open_object.ensures
+    prints_object c.in_ok-open_object.ensures
     (c.in_ok-put_advice.ensures)
-    c.in_ok-close_object.ensures
+    c.in_ok-close_object.ensures tt

@@ -1,13 +1,11 @@
-use Rattle.std.proofs.Common.{refl}
-use Rattle.reg_print.specs.Trees.Ask.{code_members}
 use Rattle.reg_print.proofs.PrintedTokens.{◌▸◌, prints_object}
 use Rattle.reg_print.proofs.bodies.ask.CodeAskPrintItself.print.Goals as goal
 
 pub returns : goal.returns
 returns c =
     let kind = rw c.word.ensures at c.in_ok-put_text.ensures in
-    prints_object (code_members c.args.self.now) refl c.in_ok-open_object.ensures
+    prints_object c.in_ok-open_object.ensures
     (c.in_ok-put_if.ensures ▸ kind ▸ c.in_ok-put.ensures
     ▸ c.in_ok-put_least_if.ensures ▸ c.in_ok-put_if-2.ensures ▸ c.in_ok-put-2.ensures
     ▸ c.in_ok-put_if-3.ensures ▸ c.in_ok-put_if-4.ensures ▸ c.in_ok-put_value_if.ensures)
-    c.in_ok-close_object.ensures
+    c.in_ok-close_object.ensures tt

@@ -1,5 +1,4 @@
-use Rattle.std.proofs.Common.{refl, lit≤}
-use Rattle.reg_print.specs.Trees.Ask.{early_members}
+use Rattle.std.proofs.Common.{lit≤}
 use Rattle.reg_print.proofs.PrintedTokens.{◌▸◌, printed_within, prints_object}
 use Rattle.reg_print.proofs.bodies.ask.EarlyAskPrintItself.print.Goals as goal
 
@@ -7,8 +6,8 @@ pub returns : goal.returns
 returns c =
     let kind = rw c.word.ensures at c.in_ok-put_text.ensures in
     printed_within (lit≤ tt)
-    (prints_object (early_members c.args.self.now) refl c.in_ok-open_object.ensures
+    (prints_object c.in_ok-open_object.ensures
     (c.in_ok-put_early_texts.ensures ▸ c.in_ok-put_true_if.ensures ▸ kind ▸ c.in_ok-put.ensures
     ▸ c.in_ok-put_least_if.ensures ▸ c.in_ok-put-2.ensures ▸ c.in_ok-put_true_if-2.ensures
     ▸ c.in_ok-put_value_if.ensures ▸ c.in_ok-put_true_if-3.ensures)
-    c.in_ok-close_object.ensures)
+    c.in_ok-close_object.ensures tt)

@@ -1,5 +1,3 @@
-use Rattle.std.proofs.Common.{refl}
-use Rattle.reg_print.specs.Trees.Ask.{permanence_members}
 use Rattle.reg_print.proofs.PrintedTokens.{◌▸◌, prints_object}
 use Rattle.reg_print.proofs.bodies.ask.PermanenceAskPrintItself.print.Goals as goal
 
@@ -7,7 +5,7 @@ pub returns : goal.returns
 returns c =
     let kind = rw c.word.ensures at c.in_ok-put_text.ensures in
     let value = rw c.from.ensures at c.in_ok-put_number.ensures in
-    prints_object (permanence_members c.args.self.now) refl c.in_ok-open_object.ensures
+    prints_object c.in_ok-open_object.ensures
     (c.in_ok-put_if.ensures ▸ kind ▸ c.in_ok-put_if-2.ensures
     ▸ c.in_ok-put.ensures ▸ c.in_ok-put_if-3.ensures ▸ c.in_ok-put_if-4.ensures ▸ value)
-    c.in_ok-close_object.ensures
+    c.in_ok-close_object.ensures tt

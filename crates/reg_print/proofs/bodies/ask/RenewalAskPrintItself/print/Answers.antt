@@ -1,5 +1,4 @@
-use Rattle.std.proofs.Common.{refl, lit≤}
-use Rattle.reg_print.specs.Trees.Ask.{renewal_members}
+use Rattle.std.proofs.Common.{lit≤}
 use Rattle.reg_print.proofs.PrintedTokens.{◌▸◌, printed_within, prints_object}
 use Rattle.reg_print.proofs.bodies.ask.RenewalAskPrintItself.print.Goals as goal
 
@@ -8,7 +7,7 @@ returns c =
     let kind = rw c.word.ensures at c.in_ok-put_text.ensures in
     let value = rw c.from.ensures at c.in_ok-put_number.ensures in
     printed_within (lit≤ tt)
-    (prints_object (renewal_members c.args.self.now) refl c.in_ok-open_object.ensures
+    (prints_object c.in_ok-open_object.ensures
     (c.in_ok-put_early_texts.ensures ▸ c.in_ok-put_if.ensures ▸ c.in_ok-put_true_if.ensures ▸ kind
     ▸ c.in_ok-put.ensures ▸ c.in_ok-put_true_if-2.ensures ▸ value ▸ c.in_ok-put_true_if-3.ensures)
-    c.in_ok-close_object.ensures)
+    c.in_ok-close_object.ensures tt)

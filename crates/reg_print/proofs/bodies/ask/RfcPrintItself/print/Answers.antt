@@ -1,5 +1,3 @@
-use Rattle.std.proofs.Common.{refl}
-use Rattle.reg_print.specs.Trees.Ask.{rfc_members}
 use Rattle.reg_print.proofs.PrintedTokens.{◌▸◌, prints_object}
 use Rattle.reg_print.proofs.bodies.ask.RfcPrintItself.print.Goals as goal
 
@@ -8,6 +6,6 @@ returns c =
     let number = rw (c.from.ensures, c.number.ensures.number) at c.in_ok-put_number.ensures in
     let stream = rw (c.word.ensures, c.stream.ensures) at c.in_ok-put_text.ensures in
     let track = rw (c.word-2.ensures, c.track.ensures) at c.in_ok-put_text-2.ensures in
-    prints_object (rfc_members c.args.self.now) refl c.in_ok-open_object.ensures
+    prints_object c.in_ok-open_object.ensures
     (number ▸ stream ▸ track)
-    c.in_ok-close_object.ensures
+    c.in_ok-close_object.ensures tt

@@ -1,9 +1,7 @@
-use Rattle.std.proofs.Common.{[], ◌∷◌, Some, true, codes, refl}
-use Rattle.serde_json.specs.Data.{boolean}
 use Rattle.reg_print.proofs.PrintedTokens.{prints_object}
 use Rattle.reg_print.proofs.bodies.capability.RevokedPrintItself.print.Goals as goal
 
 pub returns : goal.returns
 returns c =
-    prints_object ((codes "revoked", Some (boolean true)) ∷ []) refl c.in_ok-open_object.ensures
-    c.in_ok-put_flag.ensures c.in_ok-close_object.ensures
+    prints_object c.in_ok-open_object.ensures
+    c.in_ok-put_flag.ensures c.in_ok-close_object.ensures tt

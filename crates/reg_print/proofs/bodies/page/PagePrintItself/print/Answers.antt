@@ -1,9 +1,7 @@
-use Rattle.std.proofs.Common.{refl}
-use Rattle.reg_print.specs.Trees.Page.{page_members}
 use Rattle.reg_print.proofs.PrintedTokens.{◌▸◌, prints_object}
 use Rattle.reg_print.proofs.bodies.page.PagePrintItself.print.Goals as goal
 
 pub returns : goal.returns
 returns c =
-    prints_object (page_members c.args.self.now) refl c.in_ok-open_object.ensures
-    (c.in_ok-put.ensures ▸ c.in_ok-put_frame.ensures) c.in_ok-close_object.ensures
+    prints_object c.in_ok-open_object.ensures
+    (c.in_ok-put.ensures ▸ c.in_ok-put_frame.ensures) c.in_ok-close_object.ensures tt

@@ -1,5 +1,3 @@
-use Rattle.std.proofs.Common.{refl}
-use Rattle.reg_print.specs.Trees.Page.{range_members}
 use Rattle.reg_print.proofs.PrintedTokens.{◌▸◌, prints_object}
 use Rattle.reg_print.proofs.bodies.page.RangePrintItself.print.Goals as goal
 
@@ -9,5 +7,5 @@ returns c =
     let first = rw c.from-2.ensures at c.in_ok-put_number-2.ensures in
     let note = rw c.note_text.ensures at c.in_ok-put_text.ensures in
     let treatment = rw c.word.ensures at c.in_ok-put_text-2.ensures in
-    prints_object (range_members c.args.self.now) refl c.in_ok-open_object.ensures
-    (last ▸ first ▸ note ▸ treatment) c.in_ok-close_object.ensures
+    prints_object c.in_ok-open_object.ensures
+    (last ▸ first ▸ note ▸ treatment) c.in_ok-close_object.ensures tt

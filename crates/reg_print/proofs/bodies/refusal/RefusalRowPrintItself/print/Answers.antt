@@ -1,11 +1,8 @@
-use Rattle.std.proofs.Common.{refl}
-use Rattle.reg_print.specs.Refusal.{row_view}
-use Rattle.reg_print.specs.Trees.Refusal.{error_members}
 use Rattle.reg_print.proofs.PrintedTokens.{◌▸◌, prints_object}
 use Rattle.reg_print.proofs.bodies.refusal.RefusalRowPrintItself.print.Goals as goal
 
 pub returns : goal.returns
 returns c =
-    prints_object (error_members (row_view c.args.self.now)) refl c.in_ok-open_object.ensures
+    prints_object c.in_ok-open_object.ensures
     (c.in_ok-put_text.ensures ▸ c.in_ok-put_detail_if.ensures)
-    c.in_ok-close_object.ensures
+    c.in_ok-close_object.ensures tt

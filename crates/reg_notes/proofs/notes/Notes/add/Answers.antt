@@ -1,8 +1,0 @@
-use Rattle.std.proofs.Common.{string_bytes}
-use Rattle.std.proofs.lemmas.Map.Text.{btree_map_updates_text}
-use Rattle.reg_notes.proofs.notes.Notes.add.Goals as goal
-
-pub returns-clause-noted : goal.returns-clause-noted
-returns-clause-noted c =
-    btree_map_updates_text (string_bytes c.args.thing) c.args.self.now.rows c.insert.new.self _
-    c.in_ok-insert.ensures.updates
