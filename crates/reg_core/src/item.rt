@@ -1,6 +1,6 @@
 //! The parts of a request that a refusal can name.
 ghost use Rattle.std.specs.Prelude.{◌≡◌};
-ghost use Rattle.reg_core.specs.Item.{item_name};
+ghost use Rattle.reg_core.specs.Item.{item_name, segment_name};
 
 /// A part of a request: a segment of its path or a member of its body. `Number`, `Stream` and
 /// `Track` are the members of an RFC; a fault in one of them is a fault of `Rfc`.
@@ -8,15 +8,10 @@ ghost use Rattle.reg_core.specs.Item.{item_name};
 pub enum Item {
     Account,
     Address,
-    Agent,
-    Block,
     Chair,
     Contact,
-    /// The first digits of a token's digest.
-    Digits,
     Director,
     Draft,
-    Expert,
     /// A member that the body should not have.
     Extra,
     Held,
@@ -26,19 +21,17 @@ pub enum Item {
     Kind,
     Label,
     Least,
-    Max,
     Minute,
-    Name,
     Number,
     Organization,
-    Prefix,
     Private,
     /// Whether an agent reads.
     Reads,
     Reason,
-    Reference,
     Registry,
     Rfc,
+    /// A segment of the path.
+    Segment(Segment),
     Size,
     Specification,
     Stable,
@@ -60,14 +53,10 @@ impl Item {
         match self {
             Item::Account => "account",
             Item::Address => "address",
-            Item::Agent => "agent",
-            Item::Block => "block",
             Item::Chair => "chair",
             Item::Contact => "contact",
-            Item::Digits => "digits",
             Item::Director => "director",
             Item::Draft => "draft",
-            Item::Expert => "expert",
             Item::Extra => "extra",
             Item::Held => "held",
             Item::Iesg => "iesg",
@@ -75,18 +64,15 @@ impl Item {
             Item::Kind => "kind",
             Item::Label => "label",
             Item::Least => "least",
-            Item::Max => "max",
             Item::Minute => "minute",
-            Item::Name => "name",
             Item::Number => "number",
             Item::Organization => "organization",
-            Item::Prefix => "prefix",
             Item::Private => "private",
             Item::Reads => "reads",
             Item::Reason => "reason",
-            Item::Reference => "reference",
             Item::Registry => "registry",
             Item::Rfc => "rfc",
+            Item::Segment(segment) => segment.name(),
             Item::Size => "size",
             Item::Specification => "specification",
             Item::Stable => "stable",
@@ -98,6 +84,42 @@ impl Item {
             Item::Value => "value",
             Item::Verdict => "verdict",
             Item::WillBeRfc => "will_be_rfc",
+        }
+    }
+}
+
+/// A segment of a path, as the patterns of the routes name it.
+#[derive(Clone, Copy, Debug, PartialEq, Eq)]
+pub enum Segment {
+    Account,
+    Agent,
+    Block,
+    /// The first digits of a token's digest.
+    Digits,
+    Expert,
+    Max,
+    Name,
+    Prefix,
+    Reference,
+    Value,
+}
+
+impl Segment {
+    /// Its name, which stands in braces in a pattern.
+    pub fn name(self) -> &'static str
+        ensures { result.now ≡ segment_name self }
+    {
+        match self {
+            Segment::Account => "account",
+            Segment::Agent => "agent",
+            Segment::Block => "block",
+            Segment::Digits => "digits",
+            Segment::Expert => "expert",
+            Segment::Max => "max",
+            Segment::Name => "name",
+            Segment::Prefix => "prefix",
+            Segment::Reference => "reference",
+            Segment::Value => "value",
         }
     }
 }

@@ -18,7 +18,8 @@ use Rattle.reg_core.specs.declared.command.Command.TheVariants as command
 use Rattle.reg_core.specs.declared.command.PublicCommand.TheVariants as public
 use Rattle.reg_core.specs.declared.command.ApplicantCommand.TheVariants as applicant
 use Rattle.reg_core.specs.declared.command.ClerkCommand.TheVariants as clerk
-use Rattle.reg_core.specs.declared.item.Item.{Item}
+use Rattle.reg_core.specs.declared.item.Segment.{Segment}
+use Rattle.reg_core.specs.declared.item.Segment.TheVariants as in_path
 use Rattle.reg_core.specs.declared.item.Item.TheVariants as item
 use Rattle.reg_core.specs.declared.wire_refusal.WireRefusal.TheVariants as refusal
 use Rattle.reg_core.specs.declared.wire_refusal.ReadFault.{ReadFault}
@@ -35,19 +36,19 @@ use Rattle.reg_parse.proofs.FormedTables.{table_of-passes}
 
 -- ---- segments
 
-segment-passes : {A : Type 0} (test : A → Bool) (part : Item) (form : List ℕ → Option A)
+segment-passes : {A : Type 0} (test : A → Bool) (part : Segment) (form : List ℕ → Option A)
     (pattern path : List ℕ) → Gives test form → Passes test (segment part form pattern path)
 segment-passes test part form pattern path h =
-    or_refusal-passes test (refusal.Field part) _ (after test form h _)
+    or_refusal-passes test (refusal.Field (item.Segment part)) _ (after test form h _)
 
-name_at-passes : (part : Item) (pattern path : List ℕ) → Passes is_name (name_at part pattern path)
+name_at-passes : (part : Segment) (pattern path : List ℕ) → Passes is_name (name_at part pattern path)
 name_at-passes part pattern path =
     segment-passes is_name part (read_text is_name) pattern path (λ s t. guard is_name s t)
 
 digits_at-passes : (pattern path : List ℕ)
-    → Passes is_digits (segment item.Digits (read_text is_digits) pattern path)
+    → Passes is_digits (segment in_path.Digits (read_text is_digits) pattern path)
 digits_at-passes pattern path =
-    segment-passes is_digits item.Digits (read_text is_digits) pattern path
+    segment-passes is_digits in_path.Digits (read_text is_digits) pattern path
     (λ s t. guard is_digits s t)
 
 -- ---- capabilities
@@ -103,90 +104,90 @@ unfolding registry_of registry_csv_of own_one_of submit_of withdraw_of set_listi
 command_of-passes operation.Registries path body = plain_parts (empty body) _ refl
 command_of-passes operation.Registry path body =
     named_parts (λ s. command.Public (public.Registry s)) (λ s h. h) (empty body)
-    (name_at-passes item.Name registry_path path)
+    (name_at-passes in_path.Name registry_path path)
 command_of-passes operation.RegistryListing path body =
     named_parts (λ s. command.Public (public.RegistryListing s)) (λ s h. h) (empty body)
-    (name_at-passes item.Name listing_path path)
+    (name_at-passes in_path.Name listing_path path)
 command_of-passes operation.BlockListing path body = plain_parts (empty body) _ refl
 command_of-passes operation.PoolList path body = plain_parts (empty body) _ refl
 command_of-passes operation.Own path body = plain_parts (empty body) _ refl
 command_of-passes operation.OwnOne path body =
     named_parts (λ s. command.Applicant (applicant.OwnOne s)) (λ s h. h) (empty body)
-    (name_at-passes item.Reference request_path path)
+    (name_at-passes in_path.Reference request_path path)
 command_of-passes operation.Submit path body =
     after_any (object_of body)
-    (λ json. after_passing (name_at-passes item.Reference request_path path)
+    (λ json. after_passing (name_at-passes in_path.Reference request_path path)
     (λ r hr. after_passing (ask_of-passes json)
     (λ a ha. ok-passes has_command_form _ (rw (hr, ha) refl))))
 command_of-passes operation.Withdraw path body =
     named_parts (λ s. command.Applicant (applicant.Withdraw s)) (λ s h. h) (empty body)
-    (name_at-passes item.Reference request_path path)
+    (name_at-passes in_path.Reference request_path path)
 command_of-passes operation.Holdings path body = plain_parts (empty body) _ refl
 command_of-passes operation.SetListing path body =
     after_any (object_of body)
     (λ json. after_passing
-    (segment-passes is_block item.Block read_block holding_path path read_block-gives)
+    (segment-passes is_block in_path.Block read_block holding_path path read_block-gives)
     (λ b hb. after_any (needed item.Private truth_form json)
     (λ p. after_any (only (item.Private ∷ []) json) (λ o. ok-passes has_command_form _ hb))))
 command_of-passes operation.SetAgent path body =
     after_any (object_of body)
-    (λ json. after_passing (name_at-passes item.Agent agent_path path)
+    (λ json. after_passing (name_at-passes in_path.Agent agent_path path)
     (λ a ha. after_any (needed item.Reads truth_form json)
     (λ r. after_any (only (item.Reads ∷ []) json) (λ o. ok-passes has_command_form _ ha))))
 command_of-passes operation.Agents path body = plain_parts (empty body) _ refl
 command_of-passes operation.Principals path body = plain_parts (empty body) _ refl
 command_of-passes operation.PrincipalRows path body =
     named_parts (λ s. command.Applicant (applicant.PrincipalRows s)) (λ s h. h) (empty body)
-    (name_at-passes item.Account principal_path path)
+    (name_at-passes in_path.Account principal_path path)
 command_of-passes operation.Queue path body = plain_parts (empty body) _ refl
 command_of-passes operation.Advise path body =
     after_any (object_of body)
-    (λ json. after_passing (name_at-passes item.Account review_path path)
-    (λ a ha. after_passing (name_at-passes item.Reference review_path path)
+    (λ json. after_passing (name_at-passes in_path.Account review_path path)
+    (λ a ha. after_passing (name_at-passes in_path.Reference review_path path)
     (λ r hr. after_passing (advice_of-passes json)
     (λ v hv. after_any (only (item.Verdict ∷ item.Text ∷ []) json)
     (λ o. ok-passes has_command_form _ (both_true (both_true ha hr) hv))))))
 command_of-passes operation.AllRequests path body = plain_parts (empty body) _ refl
 command_of-passes operation.OneRequest path body =
     after_any (empty body)
-    (λ none. after_passing (name_at-passes item.Account case_path path)
-    (λ a ha. after_passing (name_at-passes item.Reference case_path path)
+    (λ none. after_passing (name_at-passes in_path.Account case_path path)
+    (λ a ha. after_passing (name_at-passes in_path.Reference case_path path)
     (λ r hr. ok-passes has_command_form _ (both_true ha hr))))
 command_of-passes operation.AssignExpert path body =
     after_any (empty body)
-    (λ none. after_passing (name_at-passes item.Account expert_path path)
-    (λ a ha. after_passing (name_at-passes item.Reference expert_path path)
-    (λ r hr. after_passing (name_at-passes item.Expert expert_path path)
+    (λ none. after_passing (name_at-passes in_path.Account expert_path path)
+    (λ a ha. after_passing (name_at-passes in_path.Reference expert_path path)
+    (λ r hr. after_passing (name_at-passes in_path.Expert expert_path path)
     (λ x hx. ok-passes has_command_form _ (both_true (both_true ha hr) hx)))))
 command_of-passes operation.Approve path body =
     after_any (empty body)
-    (λ none. after_passing (name_at-passes item.Account approval_path path)
-    (λ a ha. after_passing (name_at-passes item.Reference approval_path path)
+    (λ none. after_passing (name_at-passes in_path.Account approval_path path)
+    (λ a ha. after_passing (name_at-passes in_path.Reference approval_path path)
     (λ r hr. ok-passes has_command_form _ (both_true ha hr))))
 command_of-passes operation.Decline path body =
     after_any (object_of body)
-    (λ json. after_passing (name_at-passes item.Account decline_path path)
-    (λ a ha. after_passing (name_at-passes item.Reference decline_path path)
+    (λ json. after_passing (name_at-passes in_path.Account decline_path path)
+    (λ a ha. after_passing (name_at-passes in_path.Reference decline_path path)
     (λ r hr. after_passing (needed-passes is_text item.Reason _ json (text_form-gives is_text))
     (λ t ht. after_any (only (item.Reason ∷ []) json)
     (λ o. ok-passes has_command_form _ (both_true (both_true ha hr) ht))))))
 command_of-passes operation.SetHold path body =
     after_any (object_of body)
-    (λ json. after_passing (name_at-passes item.Name hold_path path)
+    (λ json. after_passing (name_at-passes in_path.Name hold_path path)
     (λ n hn. after_passing
-    (segment-passes is_below item.Value read_number hold_path path read_number-gives)
+    (segment-passes is_below in_path.Value read_number hold_path path read_number-gives)
     (λ v hv. after_any (needed item.Held truth_form json)
     (λ h. after_any (only (item.Held ∷ []) json)
     (λ o. ok-passes has_command_form _ (both_true hn hv))))))
 command_of-passes operation.Define path body =
-    after_passing (name_at-passes item.Name definition_path path)
+    after_passing (name_at-passes in_path.Name definition_path path)
     (λ n hn. after_passing
-    (segment-passes is_below item.Max read_number definition_path path read_number-gives)
+    (segment-passes is_below in_path.Max read_number definition_path path read_number-gives)
     (λ m hm. after_passing (table_of-passes m body hm)
     (λ t ht. ok-passes has_command_form _ (rw (hn, ht) refl))))
 command_of-passes operation.AddPool path body =
     after_any (empty body)
-    (λ none. after_any (segment item.Prefix read_prefix prefix_path path)
+    (λ none. after_any (segment in_path.Prefix read_prefix prefix_path path)
     (λ p. ok-passes has_command_form _ refl))
 command_of-passes operation.Grant path body =
     after_any (object_of body)
@@ -206,7 +207,7 @@ command_of-passes operation.RevokeDigits path body =
     (digits_at-passes token_path path)
 command_of-passes operation.RevokeAccount path body =
     named_parts (λ s. command.Clerk (clerk.RevokeAccount s)) (λ s h. h) (empty body)
-    (name_at-passes item.Account account_path path)
+    (name_at-passes in_path.Account account_path path)
 command_of-passes operation.CountRows path body = plain_parts (empty body) _ refl
 
 -- ---- whole

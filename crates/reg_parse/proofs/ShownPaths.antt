@@ -9,7 +9,7 @@ use Rattle.reg_core.specs.declared.command.Command.{Command}
 use Rattle.reg_core.specs.declared.command.Command.TheVariants as command
 use Rattle.reg_core.specs.declared.command.PublicCommand.{PublicCommand}
 use Rattle.reg_core.specs.declared.command.PublicCommand.TheVariants as public
-use Rattle.reg_core.specs.declared.item.Item.TheVariants as item
+use Rattle.reg_core.specs.declared.item.Segment.TheVariants as in_path
 use Rattle.reg_core.specs.declared.wire_refusal.WireRefusal.TheVariants as refusal
 use Rattle.reg_parse.specs.declared.route.Methods.{Methods}
 use Rattle.reg_parse.specs.declared.route.Operation.{Operation}
@@ -57,9 +57,9 @@ public_passes : (o : Operation) (path body : List ℕ) → is_public o ≡ true
 unfolding registry_of registry_csv_of
 public_passes operation.Registries path body h = spelled (empty body) public.Registries
 public_passes operation.Registry path body h =
-    named (λ s. public.Registry s) (empty body) (name_at item.Name registry_path path)
+    named (λ s. public.Registry s) (empty body) (name_at in_path.Name registry_path path)
 public_passes operation.RegistryListing path body h =
-    named (λ s. public.RegistryListing s) (empty body) (name_at item.Name listing_path path)
+    named (λ s. public.RegistryListing s) (empty body) (name_at in_path.Name listing_path path)
 public_passes operation.BlockListing path body h = spelled (empty body) public.BlockListing
 public_passes operation.PoolList path body h = spelled (empty body) public.PoolList
 public_passes private path body h = cc

@@ -11,7 +11,8 @@ use Rattle.reg_core.specs.declared.command.PublicCommand.TheVariants as public
 use Rattle.reg_core.specs.declared.command.ApplicantCommand.TheVariants as applicant
 use Rattle.reg_core.specs.declared.command.ExpertCommand.TheVariants as expert
 use Rattle.reg_core.specs.declared.command.ClerkCommand.TheVariants as clerk
-use Rattle.reg_core.specs.declared.item.Item.{Item}
+use Rattle.reg_core.specs.declared.item.Segment.{Segment}
+use Rattle.reg_core.specs.declared.item.Segment.TheVariants as in_path
 use Rattle.reg_core.specs.declared.item.Item.TheVariants as item
 use Rattle.reg_core.specs.declared.wire_refusal.WireRefusal.TheVariants.{Route, Method, Body, Field}
 use Rattle.reg_parse.specs.declared.route.Operation.{Operation}
@@ -35,48 +36,48 @@ without_body spelled body = do
   Ok spelled
 
 -- the segment where the pattern of a route names this part, in its form
-abbrev pub segment : {A : Type 0} → Item → (List ℕ → Option A) → List ℕ → List ℕ → Reading A
+abbrev pub segment : {A : Type 0} → Segment → (List ℕ → Option A) → List ℕ → List ℕ → Reading A
 segment part form pattern path =
-    or_refusal (Field part) (option_and_then form (segment_named part pattern path))
+    or_refusal (Field (item.Segment part)) (option_and_then form (segment_named part pattern path))
 
-abbrev pub name_at : Item → List ℕ → List ℕ → Reading (List ℕ)
+abbrev pub name_at : Segment → List ℕ → List ℕ → Reading (List ℕ)
 name_at part pattern path = segment part (read_text is_name) pattern path
 
 unfoldable pub registry_of : List ℕ → List ℕ → Reading Command
 registry_of path body = do
   nothing ← empty body
-  name ← name_at item.Name registry_path path
+  name ← name_at in_path.Name registry_path path
   Ok (command.Public (public.Registry name))
 
 unfoldable pub registry_csv_of : List ℕ → List ℕ → Reading Command
 registry_csv_of path body = do
   nothing ← empty body
-  name ← name_at item.Name listing_path path
+  name ← name_at in_path.Name listing_path path
   Ok (command.Public (public.RegistryListing name))
 
 unfoldable pub own_one_of : List ℕ → List ℕ → Reading Command
 own_one_of path body = do
   nothing ← empty body
-  reference ← name_at item.Reference request_path path
+  reference ← name_at in_path.Reference request_path path
   Ok (command.Applicant (applicant.OwnOne reference))
 
 unfoldable pub withdraw_of : List ℕ → List ℕ → Reading Command
 withdraw_of path body = do
   nothing ← empty body
-  reference ← name_at item.Reference request_path path
+  reference ← name_at in_path.Reference request_path path
   Ok (command.Applicant (applicant.Withdraw reference))
 
 unfoldable pub submit_of : List ℕ → List ℕ → Reading Command
 submit_of path body = do
   json ← object_of body
-  reference ← name_at item.Reference request_path path
+  reference ← name_at in_path.Reference request_path path
   asked ← ask_of json
   Ok (command.Applicant (applicant.Submit reference asked))
 
 unfoldable pub set_listing_of : List ℕ → List ℕ → Reading Command
 set_listing_of path body = do
   json ← object_of body
-  block ← segment item.Block read_block holding_path path
+  block ← segment in_path.Block read_block holding_path path
   private ← needed item.Private truth_form json
   others ← only (item.Private ∷ []) json
   Ok (command.Applicant (applicant.SetListing block private))
@@ -84,7 +85,7 @@ set_listing_of path body = do
 unfoldable pub set_agent_of : List ℕ → List ℕ → Reading Command
 set_agent_of path body = do
   json ← object_of body
-  agent ← name_at item.Agent agent_path path
+  agent ← name_at in_path.Agent agent_path path
   reads ← needed item.Reads truth_form json
   others ← only (item.Reads ∷ []) json
   Ok (command.Applicant (applicant.SetAgent agent reads))
@@ -92,14 +93,14 @@ set_agent_of path body = do
 unfoldable pub principal_rows_of : List ℕ → List ℕ → Reading Command
 principal_rows_of path body = do
   nothing ← empty body
-  principal ← name_at item.Account principal_path path
+  principal ← name_at in_path.Account principal_path path
   Ok (command.Applicant (applicant.PrincipalRows principal))
 
 unfoldable pub advise_of : List ℕ → List ℕ → Reading Command
 advise_of path body = do
   json ← object_of body
-  account ← name_at item.Account review_path path
-  reference ← name_at item.Reference review_path path
+  account ← name_at in_path.Account review_path path
+  reference ← name_at in_path.Reference review_path path
   advice ← advice_of json
   others ← only (item.Verdict ∷ item.Text ∷ []) json
   Ok (command.Expert (expert.Advise account reference advice))
@@ -107,30 +108,30 @@ advise_of path body = do
 unfoldable pub one_request_of : List ℕ → List ℕ → Reading Command
 one_request_of path body = do
   nothing ← empty body
-  account ← name_at item.Account case_path path
-  reference ← name_at item.Reference case_path path
+  account ← name_at in_path.Account case_path path
+  reference ← name_at in_path.Reference case_path path
   Ok (command.Clerk (clerk.OneRequest account reference))
 
 unfoldable pub assign_expert_of : List ℕ → List ℕ → Reading Command
 assign_expert_of path body = do
   nothing ← empty body
-  account ← name_at item.Account expert_path path
-  reference ← name_at item.Reference expert_path path
-  adviser ← name_at item.Expert expert_path path
+  account ← name_at in_path.Account expert_path path
+  reference ← name_at in_path.Reference expert_path path
+  adviser ← name_at in_path.Expert expert_path path
   Ok (command.Clerk (clerk.AssignExpert account reference adviser))
 
 unfoldable pub approve_of : List ℕ → List ℕ → Reading Command
 approve_of path body = do
   nothing ← empty body
-  account ← name_at item.Account approval_path path
-  reference ← name_at item.Reference approval_path path
+  account ← name_at in_path.Account approval_path path
+  reference ← name_at in_path.Reference approval_path path
   Ok (command.Clerk (clerk.Approve account reference))
 
 unfoldable pub decline_of : List ℕ → List ℕ → Reading Command
 decline_of path body = do
   json ← object_of body
-  account ← name_at item.Account decline_path path
-  reference ← name_at item.Reference decline_path path
+  account ← name_at in_path.Account decline_path path
+  reference ← name_at in_path.Reference decline_path path
   reason ← needed item.Reason (text_form is_text) json
   others ← only (item.Reason ∷ []) json
   Ok (command.Clerk (clerk.Decline account reference reason))
@@ -138,23 +139,23 @@ decline_of path body = do
 unfoldable pub set_hold_of : List ℕ → List ℕ → Reading Command
 set_hold_of path body = do
   json ← object_of body
-  name ← name_at item.Name hold_path path
-  value ← segment item.Value read_number hold_path path
+  name ← name_at in_path.Name hold_path path
+  value ← segment in_path.Value read_number hold_path path
   held ← needed item.Held truth_form json
   others ← only (item.Held ∷ []) json
   Ok (command.Clerk (clerk.SetHold name value held))
 
 unfoldable pub define_of : List ℕ → List ℕ → Reading Command
 define_of path body = do
-  name ← name_at item.Name definition_path path
-  max ← segment item.Max read_number definition_path path
+  name ← name_at in_path.Name definition_path path
+  max ← segment in_path.Max read_number definition_path path
   table ← table_of max body
   Ok (command.Clerk (clerk.Define name table))
 
 unfoldable pub add_pool_of : List ℕ → List ℕ → Reading Command
 add_pool_of path body = do
   nothing ← empty body
-  prefix ← segment item.Prefix read_prefix prefix_path path
+  prefix ← segment in_path.Prefix read_prefix prefix_path path
   Ok (command.Clerk (clerk.AddPool prefix))
 
 unfoldable pub grant_of : List ℕ → Reading Command
@@ -175,13 +176,13 @@ revoke_of body = do
 unfoldable pub revoke_digits_of : List ℕ → List ℕ → Reading Command
 revoke_digits_of path body = do
   nothing ← empty body
-  digits ← segment item.Digits (read_text is_digits) token_path path
+  digits ← segment in_path.Digits (read_text is_digits) token_path path
   Ok (command.Clerk (clerk.RevokeDigits digits))
 
 unfoldable pub revoke_account_of : List ℕ → List ℕ → Reading Command
 revoke_account_of path body = do
   nothing ← empty body
-  account ← name_at item.Account account_path path
+  account ← name_at in_path.Account account_path path
   Ok (command.Clerk (clerk.RevokeAccount account))
 
 abbrev pub command_of : Operation → List ℕ → List ℕ → Reading Command

@@ -2,8 +2,8 @@
 use Rattle.std.specs.Prelude.{ℕ, ◌==◌, List, length, Bool, drop, ◌++◌, codes, Option, option_and_then, slice_get, position}
 use Rattle.std.specs.List.{slice_split, list_any}
 use Rattle.std.specs.Str.{bytes_eq}
-use Rattle.reg_core.specs.Item.{item_name}
-use Rattle.reg_core.specs.declared.item.Item.{Item}
+use Rattle.reg_core.specs.Item.{segment_name}
+use Rattle.reg_core.specs.declared.item.Segment.{Segment}
 
 -- what stands before, between and behind the slashes
 abbrev pub segments : List ℕ → List (List ℕ)
@@ -16,10 +16,10 @@ abbrev pub has_empty_segment : List ℕ → Bool
 has_empty_segment path = list_any is_empty (drop 1 (segments path))
 
 -- in a pattern the name of a part in braces stands for the part
-abbrev pub stands_for : Item → List ℕ → Bool
-stands_for part segment = bytes_eq segment (codes "{" ++ item_name part ++ codes "}")
+abbrev pub stands_for : Segment → List ℕ → Bool
+stands_for part segment = bytes_eq segment (codes "{" ++ segment_name part ++ codes "}")
 
 -- the segment of a path at the place where its pattern names this part
-abbrev pub segment_named : Item → List ℕ → List ℕ → Option (List ℕ)
+abbrev pub segment_named : Segment → List ℕ → List ℕ → Option (List ℕ)
 segment_named part pattern path =
     option_and_then (slice_get (segments path)) (position (stands_for part) (segments pattern))

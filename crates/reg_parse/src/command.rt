@@ -19,7 +19,7 @@ use crate::route::{
 use reg_blocks::block::Block;
 use reg_blocks::prefix;
 use reg_core::command::{ApplicantCommand, ClerkCommand, Command, ExpertCommand, PublicCommand};
-use reg_core::item::Item;
+use reg_core::item::{Item, Segment};
 use reg_core::text::{Form, Word};
 use reg_core::wire_refusal::{ReadFault, WireRefusal};
 use reg_ranges::number::read_number;
@@ -69,15 +69,10 @@ pub(crate) fn routed<'p>(routes: &Routes, path: &'p [u8]) -> Option<(&'p str, Me
     Some((path, routes.at(path)?))
 }
 
-fn command_of(
-    alloc: Global,
-    operation: Operation,
-    path: &str,
-    body: &[u8],
-) -> Result<Command, ReadFault>
-    ensures { Gives result (command_of operation path.now body.now) }
+fn command_of(alloc: Global, call: Operation, path: &str, body: &[u8]) -> Result<Command, ReadFault>
+    ensures { Gives result (command_of call path.now body.now) }
 {
-    match operation {
+    match call {
         Operation::Registries => bodiless(Command::Public(PublicCommand::Registries), body),
         Operation::Registry => read_registry(path, body),
         Operation::RegistryListing => read_registry_csv(path, body),
@@ -118,7 +113,7 @@ fn read_registry(path: &str, body: &[u8]) -> Result<Command, ReadFault>
     ensures { Gives result (registry_of path.now body.now) }
 {
     empty(body)?;
-    let name = word_at(REGISTRY_PATH, path, Item::Name)?;
+    let name = word_at(REGISTRY_PATH, path, Segment::Name)?;
     Ok(Command::Public(PublicCommand::Registry(name)))
 }
 
@@ -127,7 +122,7 @@ fn read_registry_csv(path: &str, body: &[u8]) -> Result<Command, ReadFault>
     ensures { Gives result (registry_csv_of path.now body.now) }
 {
     empty(body)?;
-    let name = word_at(LISTING_PATH, path, Item::Name)?;
+    let name = word_at(LISTING_PATH, path, Segment::Name)?;
     Ok(Command::Public(PublicCommand::RegistryListing(name)))
 }
 
@@ -136,7 +131,7 @@ fn read_own_one(path: &str, body: &[u8]) -> Result<Command, ReadFault>
     ensures { Gives result (own_one_of path.now body.now) }
 {
     empty(body)?;
-    let reference = word_at(REQUEST_PATH, path, Item::Reference)?;
+    let reference = word_at(REQUEST_PATH, path, Segment::Reference)?;
     Ok(Command::Applicant(ApplicantCommand::OwnOne(reference)))
 }
 
@@ -145,7 +140,7 @@ fn read_withdraw(path: &str, body: &[u8]) -> Result<Command, ReadFault>
     ensures { Gives result (withdraw_of path.now body.now) }
 {
     empty(body)?;
-    let reference = word_at(REQUEST_PATH, path, Item::Reference)?;
+    let reference = word_at(REQUEST_PATH, path, Segment::Reference)?;
     Ok(Command::Applicant(ApplicantCommand::Withdraw(reference)))
 }
 
@@ -154,7 +149,7 @@ fn read_submit(alloc: Global, path: &str, body: &[u8]) -> Result<Command, ReadFa
     ensures { Gives result (submit_of path.now body.now) }
 {
     let json = members::object_of(alloc, body)?;
-    let reference = word_at(REQUEST_PATH, path, Item::Reference)?;
+    let reference = word_at(REQUEST_PATH, path, Segment::Reference)?;
     let ask = ask::read_ask(alloc, &json)?;
     Ok(Command::Applicant(ApplicantCommand::Submit(reference, ask)))
 }
@@ -164,7 +159,7 @@ fn read_set_listing(alloc: Global, path: &str, body: &[u8]) -> Result<Command, R
     ensures { Gives result (set_listing_of path.now body.now) }
 {
     let json = members::object_of(alloc, body)?;
-    let block = block_at(HOLDING_PATH, path, Item::Block)?;
+    let block = block_at(HOLDING_PATH, path, Segment::Block)?;
     let private = members::truth(&json, Item::Private)?;
     members::only(&[Item::Private], &json)?;
     Ok(Command::Applicant(ApplicantCommand::SetListing(block, private)))
@@ -175,7 +170,7 @@ fn read_set_agent(alloc: Global, path: &str, body: &[u8]) -> Result<Command, Rea
     ensures { Gives result (set_agent_of path.now body.now) }
 {
     let json = members::object_of(alloc, body)?;
-    let agent = word_at(AGENT_PATH, path, Item::Agent)?;
+    let agent = word_at(AGENT_PATH, path, Segment::Agent)?;
     let reads = members::truth(&json, Item::Reads)?;
     members::only(&[Item::Reads], &json)?;
     Ok(Command::Applicant(ApplicantCommand::SetAgent(agent, reads)))
@@ -186,7 +181,7 @@ fn read_principal_rows(path: &str, body: &[u8]) -> Result<Command, ReadFault>
     ensures { Gives result (principal_rows_of path.now body.now) }
 {
     empty(body)?;
-    let principal = word_at(PRINCIPAL_PATH, path, Item::Account)?;
+    let principal = word_at(PRINCIPAL_PATH, path, Segment::Account)?;
     Ok(Command::Applicant(ApplicantCommand::PrincipalRows(principal)))
 }
 
@@ -195,8 +190,8 @@ fn read_advise(alloc: Global, path: &str, body: &[u8]) -> Result<Command, ReadFa
     ensures { Gives result (advise_of path.now body.now) }
 {
     let json = members::object_of(alloc, body)?;
-    let account = word_at(REVIEW_PATH, path, Item::Account)?;
-    let reference = word_at(REVIEW_PATH, path, Item::Reference)?;
+    let account = word_at(REVIEW_PATH, path, Segment::Account)?;
+    let reference = word_at(REVIEW_PATH, path, Segment::Reference)?;
     let advice = advice::read_advice(alloc, &json)?;
     members::only(&[Item::Verdict, Item::Text], &json)?;
     Ok(Command::Expert(ExpertCommand::Advise(account, reference, advice)))
@@ -207,8 +202,8 @@ fn read_one_request(path: &str, body: &[u8]) -> Result<Command, ReadFault>
     ensures { Gives result (one_request_of path.now body.now) }
 {
     empty(body)?;
-    let account = word_at(CASE_PATH, path, Item::Account)?;
-    let reference = word_at(CASE_PATH, path, Item::Reference)?;
+    let account = word_at(CASE_PATH, path, Segment::Account)?;
+    let reference = word_at(CASE_PATH, path, Segment::Reference)?;
     Ok(Command::Clerk(ClerkCommand::OneRequest(account, reference)))
 }
 
@@ -217,9 +212,9 @@ fn read_assign_expert(path: &str, body: &[u8]) -> Result<Command, ReadFault>
     ensures { Gives result (assign_expert_of path.now body.now) }
 {
     empty(body)?;
-    let account = word_at(EXPERT_PATH, path, Item::Account)?;
-    let reference = word_at(EXPERT_PATH, path, Item::Reference)?;
-    let expert = word_at(EXPERT_PATH, path, Item::Expert)?;
+    let account = word_at(EXPERT_PATH, path, Segment::Account)?;
+    let reference = word_at(EXPERT_PATH, path, Segment::Reference)?;
+    let expert = word_at(EXPERT_PATH, path, Segment::Expert)?;
     Ok(Command::Clerk(ClerkCommand::AssignExpert(account, reference, expert)))
 }
 
@@ -228,8 +223,8 @@ fn read_approve(path: &str, body: &[u8]) -> Result<Command, ReadFault>
     ensures { Gives result (approve_of path.now body.now) }
 {
     empty(body)?;
-    let account = word_at(APPROVAL_PATH, path, Item::Account)?;
-    let reference = word_at(APPROVAL_PATH, path, Item::Reference)?;
+    let account = word_at(APPROVAL_PATH, path, Segment::Account)?;
+    let reference = word_at(APPROVAL_PATH, path, Segment::Reference)?;
     Ok(Command::Clerk(ClerkCommand::Approve(account, reference)))
 }
 
@@ -238,8 +233,8 @@ fn read_decline(alloc: Global, path: &str, body: &[u8]) -> Result<Command, ReadF
     ensures { Gives result (decline_of path.now body.now) }
 {
     let json = members::object_of(alloc, body)?;
-    let account = word_at(DECLINE_PATH, path, Item::Account)?;
-    let reference = word_at(DECLINE_PATH, path, Item::Reference)?;
+    let account = word_at(DECLINE_PATH, path, Segment::Account)?;
+    let reference = word_at(DECLINE_PATH, path, Segment::Reference)?;
     let reason = members::text(alloc, &json, Item::Reason)?;
     members::only(&[Item::Reason], &json)?;
     Ok(Command::Clerk(ClerkCommand::Decline(account, reference, reason)))
@@ -250,8 +245,8 @@ fn read_set_hold(alloc: Global, path: &str, body: &[u8]) -> Result<Command, Read
     ensures { Gives result (set_hold_of path.now body.now) }
 {
     let json = members::object_of(alloc, body)?;
-    let name = word_at(HOLD_PATH, path, Item::Name)?;
-    let value = number_at(HOLD_PATH, path, Item::Value)?;
+    let name = word_at(HOLD_PATH, path, Segment::Name)?;
+    let value = number_at(HOLD_PATH, path, Segment::Value)?;
     let held = members::truth(&json, Item::Held)?;
     members::only(&[Item::Held], &json)?;
     Ok(Command::Clerk(ClerkCommand::SetHold(name, value, held)))
@@ -261,8 +256,8 @@ fn read_set_hold(alloc: Global, path: &str, body: &[u8]) -> Result<Command, Read
 fn read_define(alloc: Global, path: &str, body: &[u8]) -> Result<Command, ReadFault>
     ensures { Gives result (define_of path.now body.now) }
 {
-    let name = word_at(DEFINITION_PATH, path, Item::Name)?;
-    let max = number_at(DEFINITION_PATH, path, Item::Max)?;
+    let name = word_at(DEFINITION_PATH, path, Segment::Name)?;
+    let max = number_at(DEFINITION_PATH, path, Segment::Max)?;
     let table = read_table(alloc, max, body)?;
     Ok(Command::Clerk(ClerkCommand::Define(name, table)))
 }
@@ -272,7 +267,7 @@ fn read_add_pool(path: &str, body: &[u8]) -> Result<Command, ReadFault>
     ensures { Gives result (add_pool_of path.now body.now) }
 {
     empty(body)?;
-    let prefix = prefix_at(PREFIX_PATH, path, Item::Prefix)?;
+    let prefix = prefix_at(PREFIX_PATH, path, Segment::Prefix)?;
     Ok(Command::Clerk(ClerkCommand::AddPool(prefix)))
 }
 
@@ -305,7 +300,7 @@ fn read_revoke_digits(path: &str, body: &[u8]) -> Result<Command, ReadFault>
     ensures { Gives result (revoke_digits_of path.now body.now) }
 {
     empty(body)?;
-    let digits = word_at(TOKEN_PATH, path, Item::Digits)?;
+    let digits = word_at(TOKEN_PATH, path, Segment::Digits)?;
     Ok(Command::Clerk(ClerkCommand::RevokeDigits(digits)))
 }
 
@@ -314,7 +309,7 @@ fn read_revoke_account(path: &str, body: &[u8]) -> Result<Command, ReadFault>
     ensures { Gives result (revoke_account_of path.now body.now) }
 {
     empty(body)?;
-    let account = word_at(ACCOUNT_PATH, path, Item::Account)?;
+    let account = word_at(ACCOUNT_PATH, path, Segment::Account)?;
     Ok(Command::Clerk(ClerkCommand::RevokeAccount(account)))
 }
 
@@ -339,43 +334,43 @@ fn empty(body: &[u8]) -> Result<(), ReadFault>
 fn word_at<F: Form<N>, const N: usize>(
     pattern: &str,
     path: &str,
-    part: Item,
+    part: Segment,
 ) -> Result<Word<F, N>, ReadFault>
     ensures { Gives result (segment part (read_text F.fits) pattern.now path.now) }
 {
     match path::segment(pattern, path, part) {
         Some(text) => match Word::read(text.as_bytes()) {
             Some(word) => Ok(word),
-            None => Err(ReadFault::field(part)),
+            None => Err(ReadFault::field(Item::Segment(part))),
         },
-        None => Err(ReadFault::field(part)),
+        None => Err(ReadFault::field(Item::Segment(part))),
     }
 }
 
 // The number of 0 to 4294967295 where the pattern names this part, in decimal without leading
 // zeros.
-fn number_at(pattern: &str, path: &str, part: Item) -> Result<u32, ReadFault>
+fn number_at(pattern: &str, path: &str, part: Segment) -> Result<u32, ReadFault>
     ensures { Gives result (segment part read_number pattern.now path.now) }
 {
     path::segment(pattern, path, part)
         .and_then(|text| read_number(text.as_bytes()))
-        .ok_or(ReadFault::field(part))
+        .ok_or(ReadFault::field(Item::Segment(part)))
 }
 
 // The block where the pattern names this part, in 6, 7 or 9 hexadecimal digits.
-fn block_at(pattern: &str, path: &str, part: Item) -> Result<Block, ReadFault>
+fn block_at(pattern: &str, path: &str, part: Segment) -> Result<Block, ReadFault>
     ensures { Gives result (segment part read_block pattern.now path.now) }
 {
     path::segment(pattern, path, part)
         .and_then(|text| Block::read(text.as_bytes()))
-        .ok_or(ReadFault::field(part))
+        .ok_or(ReadFault::field(Item::Segment(part)))
 }
 
 // The 24-bit prefix where the pattern names this part, in six hexadecimal digits.
-fn prefix_at(pattern: &str, path: &str, part: Item) -> Result<u32, ReadFault>
+fn prefix_at(pattern: &str, path: &str, part: Segment) -> Result<u32, ReadFault>
     ensures { Gives result (segment part read_prefix pattern.now path.now) }
 {
     path::segment(pattern, path, part)
         .and_then(|text| prefix::read(text.as_bytes()))
-        .ok_or(ReadFault::field(part))
+        .ok_or(ReadFault::field(Item::Segment(part)))
 }

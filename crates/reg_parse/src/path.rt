@@ -2,11 +2,11 @@
 ghost use Rattle.std.specs.Prelude.{◌≡◌, option_map, position, slice_get};
 ghost use Rattle.reg_parse.specs.Path.{segments, has_empty_segment, stands_for, segment_named};
 
-use reg_core::item::Item;
+use reg_core::item::Segment;
 
 /// The segment of a path at the place where its pattern names this part, as `{reference}` in
 /// `/requests/{reference}`.
-pub fn segment<'p>(pattern: &str, path: &'p str, part: Item) -> Option<&'p str>
+pub fn segment<'p>(pattern: &str, path: &'p str, part: Segment) -> Option<&'p str>
     ensures { option_map (λ s. s.now) result ≡ segment_named part pattern.now path.now }
 {
     let place = place_of(pattern, part)?;
@@ -27,7 +27,7 @@ fn segment_at(path: &str, place: usize) -> Option<&str>
 }
 
 // The place of the segment of a pattern that stands for this part.
-fn place_of(pattern: &str, part: Item) -> Option<usize>
+fn place_of(pattern: &str, part: Segment) -> Option<usize>
     ensures { result ≡ position (stands_for part) (segments pattern.now) }
 {
     pattern
@@ -35,7 +35,7 @@ fn place_of(pattern: &str, part: Item) -> Option<usize>
         .position(|segment| stands_for(segment, part))
 }
 
-fn stands_for(segment: &str, part: Item) -> bool
+fn stands_for(segment: &str, part: Segment) -> bool
     ensures { result ≡ stands_for part segment.now }
 {
     let Some(rest) = segment.strip_prefix('{') else {

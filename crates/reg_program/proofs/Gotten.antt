@@ -15,7 +15,7 @@ use Rattle.reg_core.specs.declared.command.PublicCommand.TheVariants as public
 use Rattle.reg_core.specs.declared.command.ApplicantCommand.TheVariants as applicant
 use Rattle.reg_core.specs.declared.command.ClerkCommand.TheVariants as clerk
 use Rattle.reg_core.specs.declared.command.ExpertCommand.TheVariants as expert
-use Rattle.reg_core.specs.declared.item.Item.TheVariants as item
+use Rattle.reg_core.specs.declared.item.Segment.TheVariants as in_path
 use Rattle.reg_core.specs.declared.wire_refusal.WireRefusal.TheVariants as refusal
 use Rattle.reg_parse.specs.Bodies.Members.{Reading, ◌>>=◌, or_refusal}
 use Rattle.reg_parse.specs.Command.{asked, command_of, empty, name_at, one_request_of, own_one_of, principal_rows_of, registry_csv_of, registry_of, routed}
@@ -195,17 +195,17 @@ unfolding registry_of registry_csv_of own_one_of principal_rows_of one_request_o
 operation_looks Registries path body h = plain (empty body) (command.Public public.Registries) refl
 operation_looks Registry path body h =
     named (λ s. command.Public (public.Registry s)) (λ s. refl) (empty body)
-    (name_at item.Name registry_path path)
+    (name_at in_path.Name registry_path path)
 operation_looks RegistryListing path body h =
     named (λ s. command.Public (public.RegistryListing s)) (λ s. refl) (empty body)
-    (name_at item.Name listing_path path)
+    (name_at in_path.Name listing_path path)
 operation_looks BlockListing path body h =
     plain (empty body) (command.Public public.BlockListing) refl
 operation_looks PoolList path body h = plain (empty body) (command.Public public.PoolList) refl
 operation_looks Own path body h = plain (empty body) (command.Applicant applicant.Own) refl
 operation_looks OwnOne path body h =
     named (λ s. command.Applicant (applicant.OwnOne s)) (λ s. refl) (empty body)
-    (name_at item.Reference request_path path)
+    (name_at in_path.Reference request_path path)
 operation_looks Holdings path body h =
     plain (empty body) (command.Applicant applicant.Holdings) refl
 operation_looks Agents path body h = plain (empty body) (command.Applicant applicant.Agents) refl
@@ -213,13 +213,13 @@ operation_looks Principals path body h =
     plain (empty body) (command.Applicant applicant.Principals) refl
 operation_looks PrincipalRows path body h =
     named (λ s. command.Applicant (applicant.PrincipalRows s)) (λ s. refl) (empty body)
-    (name_at item.Account principal_path path)
+    (name_at in_path.Account principal_path path)
 operation_looks Queue path body h = plain (empty body) (command.Expert expert.Queue) refl
 operation_looks AllRequests path body h =
     plain (empty body) (command.Clerk clerk.AllRequests) refl
 operation_looks OneRequest path body h =
     two_named (λ a r. command.Clerk (clerk.OneRequest a r)) (λ a r. refl) (empty body)
-    (name_at item.Account case_path path) (name_at item.Reference case_path path)
+    (name_at in_path.Account case_path path) (name_at in_path.Reference case_path path)
 operation_looks PendingRequests path body h =
     plain (empty body) (command.Clerk clerk.PendingRequests) refl
 operation_looks AllCapabilities path body h =

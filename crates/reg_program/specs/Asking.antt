@@ -2,11 +2,13 @@
 use Rattle.std.specs.Prelude.{◌≡◌, ◌⊎◌, ◌∷◌, ◌++◌, ⊤, ℕ, [], Bool, true, false, List, Option, Some, None}
 use Rattle.std.specs.Prelude.{Result, Err, Ok, MatchResult, codes}
 use Rattle.std.specs.Io.KnownBytes.{Appends}
+use Rattle.std.specs.Option.{option_copied}
 use Rattle.reg_core.specs.Laws.{is_refused}
 use Rattle.reg_core.specs.Step.{Stepped}
 use Rattle.reg_core.specs.World.{World}
 use Rattle.reg_core.specs.declared.command.Command.{Command}
 use Rattle.reg_core.specs.declared.wire_refusal.WireRefusal.{WireRefusal}
+use Rattle.reg_office.specs.Caller.{step_by}
 use Rattle.reg_parse.specs.Bodies.Members.{Reading}
 use Rattle.reg_print.specs.Answer.{answer_body, body_text}
 use Rattle.reg_print.specs.Body.{format_of}
@@ -18,6 +20,7 @@ use Rattle.reg_program.specs.Doing.{Does}
 use Rattle.reg_program.specs.Undone.{answer_line}
 use Rattle.reg_program.specs.declared.asking.Form.{Form}
 use Rattle.reg_program.specs.declared.asking.Form.TheVariants.{Body, Line}
+use Rattle.reg_program.specs.declared.asking.Question.{Question}
 use Rattle.reg_program.specs.declared.faults.JobFailure.TheVariants.{Memory}
 use Rattle.reg_program.specs.declared.faults.Undone.{Undone}
 use Rattle.reg_program.specs.declared.faults.Undone.TheVariants.{Fault, Explained, Refused}
@@ -61,6 +64,10 @@ abbrev pub printed : Form → Answer → List ℕ
 printed form a = in_form form a ++ after_body (format_of (answer_body a))
 
 -- ---- One step of an office
+
+-- the step of an office that a question asks for, at a moment
+abbrev pub step_of : Question → ℕ → World → Stepped
+step_of question moment world = step_by world (option_copied question.token) moment question.command
 
 -- the step is accepted, the office is as after it, and what it answers is printed
 pub record IsPrinted (form : Form) (had has : Option (List ℕ)) (step : Stepped) (new : World) :

@@ -1,6 +1,5 @@
 -- What is printed of the early allocations that expire soon.
 use Rattle.std.specs.Prelude.{◌≡◌, ℕ, List, Option, Some}
-use Rattle.std.specs.Io.KnownBytes.{Appends}
 use Rattle.reg_core.specs.View.{Published}
 use Rattle.reg_due.specs.Asking.{due_by}
 use Rattle.reg_due.specs.Table.{IsDueTable}

@@ -13,7 +13,7 @@ use Rattle.reg_program.specs.Inputs.{AreKnown, token_in}
 use Rattle.reg_program.specs.Tasks.{Streams, IsMoment}
 use Rattle.reg_program.specs.declared.faults.JobFailure.TheVariants.{Memory, Write, Header, Row}
 use Rattle.reg_program.specs.declared.faults.Undone.{Undone}
-use Rattle.reg_program.specs.declared.faults.Undone.TheVariants.{Fault, Explained, Refused}
+use Rattle.reg_program.specs.declared.faults.Undone.TheVariants.{Fault, Explained}
 
 -- the registry and the expert are those of the words, the clerk has this token, and today is the day of
 -- the moment

@@ -11,6 +11,7 @@ use Rattle.reg_jobs.specs.declared.jobs.JobFault.{JobFault}
 use Rattle.reg_jobs.specs.declared.jobs.JobFault.TheVariants as fault
 use Rattle.reg_jobs.specs.declared.jobs.Publication.{Publication}
 use Rattle.reg_jobs.specs.declared.jobs.Request.{Request}
+use Rattle.reg_jobs.specs.declared.jobs.Service.{Service}
 use Rattle.reg_jobs.specs.declared.jobs.Which.{Which}
 use Rattle.reg_jobs.specs.declared.jobs.Which.TheVariants as which
 use Rattle.reg_office.specs.declared.revocation.Choice.TheVariants as choice
@@ -32,6 +33,7 @@ use Rattle.reg_program.specs.Version.{version_line}
 use Rattle.reg_program.specs.declared.asking.Form.{Form}
 use Rattle.reg_program.specs.declared.asking.Form.TheVariants.{Body, Line}
 use Rattle.reg_program.specs.declared.faults.Undone.{Undone}
+use Rattle.reg_program.specs.declared.listening.Serving.{Serving}
 use Rattle.reg_program.specs.declared.tasks.Task.{Task}
 use Rattle.reg_program.specs.declared.tasks.Task.TheVariants.{Found, Run, Serve, Ask, Tokens, Revoke, Publish, Due}
 
@@ -41,6 +43,11 @@ refused_status fault.Line = 2
 refused_status fault.Memory = 1
 
 -- ---- Tasks
+
+-- a job's service says how an office is served
+abbrev pub serving_by : Service → Serving
+serving_by service =
+    record { port = service.port; connections = service.connections; log = service.log }
 
 -- the first clerk's token is the one that a word says
 abbrev pub IsFounding : List ℕ → Task → Type 0
@@ -54,25 +61,28 @@ IsRunning word _ = ⊥
 -- the token is the one that its word says, and the command is the one that the method, the path and
 -- the body spell, where so much stands on standard input
 abbrev pub IsRequestedBy : Request → Option (List ℕ) → Task → Type 0
-IsRequestedBy order input (Ask token command form) =
-    (form ≡ Body) × IsTokenOf (option_map string_bytes order.token) (option_copied token)
+IsRequestedBy order input (Ask question) =
+    (question.form ≡ Body) × IsTokenOf (option_map string_bytes order.token) (option_copied question.token)
     × (body : List ℕ) × AreKnown (body_in (option_map string_bytes order.body) input) body
-    × (asked (string_bytes order.method) (string_bytes order.path) body ≡ Ok command)
+    × (asked (string_bytes order.method) (string_bytes order.path) body ≡ Ok question.command)
 IsRequestedBy order input _ = ⊥
 
 -- the token is the one that its word says, and the command is the one that defines a registry of some
 -- range file
 abbrev pub IsDefinedBy : Definition → Task → Type 0
-IsDefinedBy order (Ask (Some token) command form) =
-    (form ≡ Line) × AreKnown (token_in (string_bytes order.clerk)) token.now × (ranges : List ℕ)
+IsDefinedBy order (Ask question) =
+    (question.form ≡ Line)
+    × IsTokenOf (Some (string_bytes order.clerk)) (option_copied question.token)
+    × (ranges : List ℕ)
     × (asked (codes "PUT") (definition_at (string_bytes order.name) (string_bytes order.max)) ranges
-    ≡ Ok command)
+    ≡ Ok question.command)
 IsDefinedBy order _ = ⊥
 
 -- the command is the one that lists a registry or, without one, the blocks, for anybody
 abbrev pub IsListedBy : Option (List ℕ) → Task → Type 0
-IsListedBy registry (Ask None command form) =
-    (form ≡ Body) × (asked (codes "GET") (listing_at registry) [] ≡ Ok command)
+IsListedBy registry (Ask question) =
+    (question.form ≡ Body) × IsTokenOf None (option_copied question.token)
+    × (asked (codes "GET") (listing_at registry) [] ≡ Ok question.command)
 IsListedBy registry _ = ⊥
 
 -- the office is published in this folder, with notes or without
@@ -204,7 +214,7 @@ module _ (Carried : ToldOfTasks) (Checked : List ℕ → Streams → Result ⊤ 
       Carries Carried (string_bytes file) (IsFounding (string_bytes clerk)) io done
   DoesJob io (job.Serve service) done =
       Carries Carried (string_bytes service.file)
-      (λ task. task ≡ Serve service.port service.connections service.log) io done
+      (λ task. task ≡ Serve (serving_by service)) io done
   DoesJob io (job.Request order) done = AnswersRequest order Carried Untouched io done
   DoesJob io (job.Define order) done = AnswersDefinition order Carried Untouched io done
   DoesJob io (job.Listing source registry) done =

@@ -4,10 +4,9 @@ use Rattle.std.specs.Option.{option_copied}
 use Rattle.std.specs.declared.time.Duration.{Duration}
 use Rattle.reg_core.specs.View.{published}
 use Rattle.reg_core.specs.World.{World}
-use Rattle.reg_office.specs.Caller.{step_by}
 use Rattle.reg_http.specs.Meeting.{ReadsMoment}
 use Rattle.reg_notes.specs.declared.notes.Notes.{Notes}
-use Rattle.reg_program.specs.Asking.{PrintsStep}
+use Rattle.reg_program.specs.Asking.{PrintsStep, step_of}
 use Rattle.reg_program.specs.Doing.{Does}
 use Rattle.reg_program.specs.Expiring.{PrintsDue}
 use Rattle.reg_program.specs.Founding.{IsReady, IsUnready, RunsAll, RunsUpTo, told_beside}
@@ -68,10 +67,10 @@ Did world Holds Sound fails before after io result (Run clerk) =
     MatchResult result
     (λ _. RunsAll world Holds Sound fails before after clerk.now io.unread io.left had has)
     (RunsUpTo world Holds Sound fails before after clerk.now io.unread io.left had has)
-Did world Holds Sound fails before after io result (Serve port connections log) = ⊤
-Did world Holds Sound fails before after io result (Ask token command form) =
+Did world Holds Sound fails before after io result (Serve serving) = ⊤
+Did world Holds Sound fails before after io result (Ask asked) =
     (moment : ℕ) × IsMoment io moment × PrintsStep world Holds Sound fails before after
-    (λ old. step_by old (option_copied token) moment command) form io.had io.has result
+    (step_of asked moment) asked.form io.had io.has result
 Did world Holds Sound fails before after io result Tokens =
     Does world Holds Sound fails before after result (IsListed io.had io.has)
     (λ old new why. new ≡ old)
@@ -87,8 +86,8 @@ Did world Holds Sound fails before after io result (Due days) =
 abbrev pub IfServes : (ℕ → ℕ → Type 0) → Task → Type 0
 IfServes Served (Found clerk) = ⊤
 IfServes Served (Run clerk) = ⊤
-IfServes Served (Serve port connections log) = Served port connections
-IfServes Served (Ask token command form) = ⊤
+IfServes Served (Serve serving) = Served serving.port serving.connections
+IfServes Served (Ask asked) = ⊤
 IfServes Served Tokens = ⊤
 IfServes Served (Revoke choice) = ⊤
 IfServes Served (Publish folder notes) = ⊤
@@ -98,8 +97,8 @@ IfServes Served (Due days) = ⊤
 abbrev pub IfPublishes : (List ℕ → Option Notes → Type 0) → Task → Type 0
 IfPublishes Placed (Found clerk) = ⊤
 IfPublishes Placed (Run clerk) = ⊤
-IfPublishes Placed (Serve port connections log) = ⊤
-IfPublishes Placed (Ask token command form) = ⊤
+IfPublishes Placed (Serve serving) = ⊤
+IfPublishes Placed (Ask asked) = ⊤
 IfPublishes Placed Tokens = ⊤
 IfPublishes Placed (Revoke choice) = ⊤
 IfPublishes Placed (Publish folder notes) = Placed folder.now (option_copied notes)
@@ -109,8 +108,8 @@ IfPublishes Placed (Due days) = ⊤
 abbrev pub looks_on : Task → Bool
 looks_on (Found clerk) = false
 looks_on (Run clerk) = false
-looks_on (Serve port connections log) = false
-looks_on (Ask token command form) = only_looks command
+looks_on (Serve serving) = false
+looks_on (Ask asked) = only_looks asked.command
 looks_on Tokens = true
 looks_on (Revoke choice) = false
 looks_on (Publish folder notes) = false
@@ -120,8 +119,8 @@ looks_on (Due days) = false
 abbrev pub begins : Task → Bool
 begins (Found clerk) = true
 begins (Run clerk) = true
-begins (Serve port connections log) = false
-begins (Ask token command form) = false
+begins (Serve serving) = false
+begins (Ask asked) = false
 begins Tokens = false
 begins (Revoke choice) = false
 begins (Publish folder notes) = false

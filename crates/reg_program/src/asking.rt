@@ -4,14 +4,11 @@
 //! answer.
 ghost use Rattle.std.specs.Prelude.{◌≡◌, ◌++◌, [], codes, option_map, IfOk, IfErr, OnOk, false, true};
 ghost use Rattle.std.specs.Io.KnownBytes.{Appends, Keeps};
-ghost use Rattle.std.specs.Option.{option_copied};
 ghost use Rattle.std.specs.String.{string_bytes};
 ghost use Rattle.reg_core.specs.Laws.{is_refused as refuses};
-ghost use Rattle.reg_core.specs.World.{World};
-ghost use Rattle.reg_office.specs.Caller.{step_by};
 ghost use Rattle.reg_parse.specs.Command.{asked};
 ghost use Rattle.reg_print.specs.declared.answer.Answer.TheVariants as answer;
-ghost use Rattle.reg_program.specs.Asking.{PrintsStep, Spells, after_body, definition_at, in_form, listing_at, printed};
+ghost use Rattle.reg_program.specs.Asking.{PrintsStep, Spells, after_body, definition_at, in_form, listing_at, printed, step_of};
 ghost use Rattle.reg_program.specs.Looking.{only_looks};
 ghost use Rattle.reg_program.specs.Undone.{IsRefusedBy, answer_line as line_of, line_by, refusal_line as text_of_refusal};
 
@@ -105,25 +102,32 @@ pub enum Form {
     Line,
 }
 
-/// Has an office answer one command of the caller with this token, or of anybody, and prints its
-/// answer. `Refused` where it refuses it.
+/// A command, who gives it, and how its answer is printed.
+#[derive(Drop)]
+pub struct Question<'a> {
+    /// The token of the caller, or none of anybody.
+    pub token: Option<&'a [u8]>,
+    /// The command.
+    pub command: Command,
+    /// What is printed of the answer.
+    pub form: Form,
+}
+
+/// Has an office answer a question, and prints its answer. `Refused` where it refuses it.
 pub fn ask_in<K: Keeper, W: Write>(
     alloc: Global,
     office: &mut Office<K>,
     moment: u64,
-    token: Option<&[u8]>,
-    command: &Command,
-    form: Form,
+    question: &Question<'_>,
     output: &mut W,
 ) -> Result<(), Undone>
-    ensures does { let step = λ (w : World). step_by w (option_copied token.entry) moment command.now in
-        PrintsStep K.world K.Holds K.Sound K.FAILS office.old office.new step form
-        (W.contents output.old) (W.contents output.new) result }
-    ensures looks { only_looks command.now ≡ true →
+    ensures does { PrintsStep K.world K.Holds K.Sound K.FAILS office.old office.new
+        (step_of question.now moment) question.now.form (W.contents output.old) (W.contents output.new) result }
+    ensures looks { only_looks question.now.command ≡ true →
         K.Holds office.new → K.world office.new ≡ K.world office.old }
 {
-    let reply = office.handle(moment, token, command)?;
-    let text = accepted_text(alloc, reply, form)?;
+    let reply = office.handle(moment, question.token, &question.command)?;
+    let text = accepted_text(alloc, reply, question.form)?;
     print(output, text.as_slice())
 }
 

@@ -1,6 +1,5 @@
 //! The job that turns a register into a script.
 ghost use Rattle.std.specs.Prelude.{◌≡◌, Some, IfOk, IfErr, OnOk};
-ghost use Rattle.std.specs.String.{string_bytes};
 ghost use Rattle.reg_early.specs.Moment.{day_of_moment};
 ghost use Rattle.reg_core.specs.declared.wire_refusal.WireRefusal.TheVariants.{Field};
 ghost use Rattle.reg_import.specs.Scripts.{script_of};
@@ -14,7 +13,7 @@ use crate::asking::{answer_line, print};
 use crate::faults::{JobFailure, Undone};
 use crate::inputs::{register_of, token_of};
 use crate::tokens::refused_as;
-use reg_core::item::Item;
+use reg_core::item::{Item, Segment};
 use reg_core::refusal::Refusal;
 use reg_core::text::{Account, Name, Token};
 use reg_core::wire_refusal::WireRefusal;
@@ -70,7 +69,7 @@ fn named(alloc: Global, name: &str) -> Result<Name, Undone>
 {
     match Name::read(name.as_bytes()) {
         Some(name) => Ok(name),
-        None => Err(ill_formed(alloc, Item::Name)?),
+        None => Err(ill_formed(alloc, Segment::Name)?),
     }
 }
 
@@ -79,15 +78,15 @@ fn expert_of(alloc: Global, name: &str) -> Result<Account, Undone>
 {
     match Account::read(name.as_bytes()) {
         Some(expert) => Ok(expert),
-        None => Err(ill_formed(alloc, Item::Expert)?),
+        None => Err(ill_formed(alloc, Segment::Expert)?),
     }
 }
 
 // Why a job is not done of which a word has not its form: the status and the body of the answer.
-fn ill_formed(alloc: Global, item: Item) -> Result<Undone, AllocError>
-    ensures { IfOk result (IsSaidBy (line_of (answer.Wire (Field item)))) }
+fn ill_formed(alloc: Global, part: Segment) -> Result<Undone, AllocError>
+    ensures { IfOk result (IsSaidBy (line_of (answer.Wire (Field (Item.Segment part))))) }
 {
-    let answer = Answer::Wire(WireRefusal::Field(item));
+    let answer = Answer::Wire(WireRefusal::Field(Item::Segment(part)));
     Ok(Undone::Refused(answer_line(alloc, &answer)?))
 }
 

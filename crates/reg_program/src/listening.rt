@@ -20,6 +20,17 @@ use std::io::{Read, Write};
 use std::net::{Ipv4Addr, SocketAddr, SocketAddrV4};
 use std::time::Duration;
 
+/// How an office is served.
+#[derive(Clone, Copy)]
+pub struct Serving {
+    /// The port of loopback, from 1.
+    pub port: u16,
+    /// How many connections are served.
+    pub connections: u32,
+    /// Whether a line on standard error tells of each connection.
+    pub log: bool,
+}
+
 /// Listens on a port of loopback, says so on standard output, and serves so many connections, one
 /// after the other. With a log, a line on standard error tells of each. `Port` where it cannot be
 /// listened on. Where it fails, nothing is served.
@@ -28,26 +39,23 @@ pub fn serve_in<N: Ports, D: Dates, K: Keeper, R: Read, W: Write, E: Write>(
     ports: &N,
     dates: &mut D,
     office: &mut Office<K>,
-    port: u16,
-    connections: u32,
-    log: bool,
+    serving: Serving,
     console: &mut Console<'_, R, W, E>,
 ) -> Result<(), Undone>
     ensures { ServesOrStays (AnswersOver K.world K.Holds K.Sound K.FAILS) (N.Opened ports.now)
         N.Given.blank N.Given.coming N.Given.written (D.readings dates.old) (D.readings dates.new)
-        office.old office.new result port connections }
+        office.old office.new result serving.port serving.connections }
 {
     let routes = Routes::new(alloc)?;
-    let mut peers = listening(ports, port)?;
-    say_listening(alloc, port, console.output)?;
+    let mut peers = listening(ports, serving.port)?;
+    say_listening(alloc, serving.port, console.output)?;
     serve_on(
         alloc,
         dates,
         office,
         &routes,
         &mut peers,
-        connections,
-        log,
+        serving,
         console.errors,
     );
     Ok(())
@@ -59,29 +67,20 @@ fn serve_on<D: Dates, K: Keeper, P: Peers, E: Write>(
     office: &mut Office<K>,
     routes: &Routes,
     peers: &mut P,
-    connections: u32,
-    log: bool,
+    serving: Serving,
     errors: &mut E,
 ) -> u32
-    ensures { ServesInTurn (AnswersOver K.world K.Holds K.Sound K.FAILS) P.blank connections
+    ensures { ServesInTurn (AnswersOver K.world K.Holds K.Sound K.FAILS) P.blank serving.connections
         result
         (P.coming peers.old) (P.coming peers.new) (D.readings dates.old) (D.readings dates.new)
         (P.written peers.old) (P.written peers.new) office.old office.new }
 {
-    if log {
+    let count = serving.connections;
+    if serving.log {
         let mut lines = Lines::new(alloc, errors);
-        serve_listener(alloc, dates, office, routes, peers, connections, &mut lines).answered
+        serve_listener(alloc, dates, office, routes, peers, count, &mut lines).answered
     } else {
-        serve_listener(
-            alloc,
-            dates,
-            office,
-            routes,
-            peers,
-            connections,
-            &mut Unlogged,
-        )
-        .answered
+        serve_listener(alloc, dates, office, routes, peers, count, &mut Unlogged).answered
     }
 }
 

@@ -1,10 +1,9 @@
 //! Doing the jobs of the program.
 ghost use Rattle.std.specs.Prelude.{◌≡◌, ◌⊎◌, OnOk, is_some, option_map};
 ghost use Rattle.std.specs.String.{string_bytes};
-ghost use Rattle.reg_program.specs.Copying.{PrintsCopied};
 ghost use Rattle.reg_program.specs.Founding.{RunsAllOn};
 ghost use Rattle.reg_program.specs.Importing.{IsImported};
-ghost use Rattle.reg_program.specs.Performing.{Carries, EndsJob, IsFounding, IsPublishedTo, PublishesFrom, RunsIn, TellsDue, TriesIn, TriesJob, TriesTask, refused_status};
+ghost use Rattle.reg_program.specs.Performing.{Carries, EndsJob, IsFounding, IsPublishedTo, PublishesFrom, RunsIn, TellsDue, TriesIn, TriesJob, TriesTask, refused_status, serving_by};
 ghost use Rattle.reg_program.specs.Tasks.{streams_by};
 ghost use Rattle.reg_program.specs.Verifying.{IsVerifiedBy};
 
@@ -17,6 +16,7 @@ use crate::expiring::print_due_served;
 use crate::faults::Undone;
 use crate::importing::import;
 use crate::inputs::token_of;
+use crate::listening::Serving;
 use crate::noting::notes_at;
 use crate::publishing::{port_of, publish_served};
 use crate::requesting::{define, list, request};
@@ -106,34 +106,24 @@ fn attempt<D: Dates, O: Offices, C: Copies, R: Read, W: Write, E: Write>(
         result }
 {
     match job {
-        Job::Script { clerk, file } => script(rt, dates, offices, clerk.as_str(), file, console),
+        Job::Script { clerk, file } => script(rt, dates, offices, clerk, file, console),
         Job::Import(order) => import_now(rt, dates, order, console),
-        Job::Init { file, clerk } => {
-            init(rt, dates, offices, file.as_str(), clerk.as_str(), console)
-        }
+        Job::Init { file, clerk } => init(rt, dates, offices, file, clerk, console),
         Job::Serve(order) => serve(rt, dates, offices, order, console),
         Job::Request(order) => request(rt, dates, offices, order, console),
         Job::Define(order) => define(rt, dates, offices, order, console),
-        Job::Listing { source, registry } => {
-            list(rt, dates, offices, source.as_str(), registry, console)
-        }
+        Job::Listing { source, registry } => list(rt, dates, offices, source, registry, console),
         Job::Publish(order) => publish_at(rt, dates, offices, order, console),
-        Job::Verify { folder, digest } => verify_at(rt, folder.as_str(), digest, console),
-        Job::Due { source, within } => {
-            due_at(rt, dates, offices, source.as_str(), *within, console)
-        }
-        Job::Check { file } => offices.check(rt, dates, file.as_str(), console),
-        Job::Copy { file, folder } => {
-            copies.copy(rt, file.as_str(), folder.as_str(), console.output)
-        }
-        Job::Tokens { source, token } => {
-            list_tokens(rt, dates, offices, source.as_str(), token, console)
-        }
+        Job::Verify { folder, digest } => verify_at(rt, folder, digest, console),
+        Job::Due { source, within } => due_at(rt, dates, offices, source, *within, console),
+        Job::Check { file } => offices.check(rt, dates, file, console),
+        Job::Copy { file, folder } => copies.copy(rt, file, folder, console.output),
+        Job::Tokens { source, token } => list_tokens(rt, dates, offices, source, token, console),
         Job::Revoke {
             source,
             token,
             which,
-        } => revoke(rt, dates, offices, source.as_str(), token, which, console),
+        } => revoke(rt, dates, offices, source, token, which, console),
         Job::Version => print_version(rt.alloc(), console.output),
         Job::Help { text } => print(console.output, text.as_bytes()),
     }
@@ -224,13 +214,13 @@ fn serve<D: Dates, O: Offices, R: Read, W: Write, E: Write>(
     ensures { let io = streams_by R.remaining W.contents D.readings console.old console.new dates.old
         dates.new in
         O.Carried offices.old offices.new (string_bytes order.now.file)
-        (Task.Serve order.now.port order.now.connections order.now.log) io result }
+        (Task.Serve (serving_by order.now)) io result }
 {
-    let task = Task::Serve {
+    let task = Task::Serve(Serving {
         port: order.port,
         connections: order.connections,
         log: order.log,
-    };
+    });
     carry_out(rt, dates, offices, order.file.as_str(), task, console)
 }
 
@@ -253,15 +243,7 @@ fn publish_at<D: Dates, O: Offices, R: Read, W: Write, E: Write>(
     let read = notes_at(rt, rt.alloc(), &order.notes)?;
     match port {
         Some(port) => {
-            publish_served(
-                rt,
-                port,
-                moment_now(dates),
-                folder,
-                read.as_ref(),
-                console.output,
-                console.errors,
-            )
+            publish_served(rt, port, moment_now(dates), folder, read.as_ref(), console)
         }
         None => publish_noted(rt, dates, offices, source, folder, read.as_ref(), console),
     }
@@ -282,7 +264,7 @@ fn due_at<D: Dates, O: Offices, R: Read, W: Write, E: Write>(
 {
     match port_of(source)? {
         Some(port) => print_due_served(rt, port, moment_now(dates), days, console.output),
-        None => carry_out(rt, dates, offices, source, Task::Due { days }, console),
+        None => carry_out(rt, dates, offices, source, Task::Due(days), console),
     }
 }
 

@@ -5,6 +5,7 @@ ghost use Rattle.reg_jobs.specs.Asking.{IsAddress};
 ghost use Rattle.reg_program.specs.Publishing.{PublishesIn};
 
 use crate::asking::{print, refusal_line};
+use crate::console::Console;
 use crate::faults::{JobFailure, Undone};
 use reg_history::change::{Class, Subject};
 use reg_jobs::jobs::SERVED;
@@ -22,7 +23,7 @@ use reg_site::files::File;
 use reg_site::portions::Portions;
 use std::alloc::{AllocError, Global};
 use std::fs;
-use std::io::Write;
+use std::io::{Read, Write};
 
 /// The port of the office that is served at this address, if it is such an address. `Read` where
 /// what comes after the colon is no port.
@@ -103,25 +104,24 @@ pub fn locked(rt: &HostRuntime, folder: &str) -> Result<fs::File, Unpublished> {
 }
 
 /// Publishes the office that is served on a port of loopback, in the folder at a path, with these notes.
-pub fn publish_served<W: Write, E: Write>(
+pub fn publish_served<R: Read, W: Write, E: Write>(
     rt: &HostRuntime,
     port: u16,
     moment: u64,
     folder: &str,
     notes: Option<&Notes>,
-    output: &mut W,
-    errors: &mut E,
+    console: &mut Console<'_, R, W, E>,
 ) -> Result<(), Undone> {
     let mut peer = Peer::new(rt, port);
+    let folders = Directories { rt };
     publish_in(
         rt.alloc(),
-        &Directories { rt },
+        &folders,
         &mut peer,
         moment,
         folder,
         notes,
-        output,
-        errors,
+        console,
     )
 }
 
@@ -129,21 +129,20 @@ pub fn publish_served<W: Write, E: Write>(
 /// the history there goes on, and prints how much that is. Says on standard error which notes no page
 /// shows. `Write` where the folder cannot be opened, or a file cannot be written, and `Explained` with
 /// `History` where the history is at fault.
-pub fn publish_in<S: Source, F: Folders, W: Write, E: Write>(
+pub fn publish_in<S: Source, F: Folders, R: Read, W: Write, E: Write>(
     alloc: Global,
     folders: &F,
     source: &mut S,
     moment: u64,
     folder: &str,
     notes: Option<&Notes>,
-    output: &mut W,
-    errors: &mut E,
+    console: &mut Console<'_, R, W, E>,
 ) -> Result<(), Undone>
     ensures { OnOk result (PublishesIn S.published S.Holds F.Given.Tells F.Given.held F.Given.Puts
         (F.Opened folders.now folder.now) source.old source.new (option_copied notes.entry) moment) }
 {
     match publish_to(alloc, folders, source, moment, folder, notes) {
-        Ok(count) => tell(alloc, &count, output, errors),
+        Ok(count) => tell(alloc, &count, console.output, console.errors),
         Err(why) => Err(failure_of(alloc, why)?),
     }
 }

@@ -4,7 +4,7 @@ ghost use Rattle.std.specs.String.{string_bytes};
 ghost use Rattle.reg_program.specs.Performing.{AnswersDefinition, AnswersListing, AnswersRequest, CarriesRequest, IsDefinedBy, IsListedBy, TriesIn, TriesTask};
 ghost use Rattle.reg_program.specs.Tasks.{streams_by};
 
-use crate::asking::{Form, definition, listing, requested};
+use crate::asking::{Form, Question, definition, listing, requested};
 use crate::carrying::carry_out;
 use crate::console::Console;
 use crate::faults::Undone;
@@ -49,11 +49,11 @@ fn request_in<D: Dates, O: Offices, R: Read, W: Write, E: Write>(
     let token = optional_token(rt, alloc, &order.token)?;
     let body = body_of(alloc, &order.body, console.input)?;
     let command = requested(alloc, order, body.as_slice())?;
-    let task = Task::Ask {
+    let task = Task::Ask(Question {
         token: token.as_deref(),
         command,
         form: Form::Body,
-    };
+    });
     carry_out(rt, dates, offices, order.source.as_str(), task, console)
 }
 
@@ -92,11 +92,11 @@ fn define_in<D: Dates, O: Offices, R: Read, W: Write, E: Write>(
     let token = token_of(rt, alloc, order.clerk.as_str())?;
     let ranges = bytes_of(rt, alloc, order.ranges.as_str())?;
     let command = definition(alloc, order, ranges.as_slice())?;
-    let task = Task::Ask {
+    let task = Task::Ask(Question {
         token: Some(token.as_slice()),
         command,
         form: Form::Line,
-    };
+    });
     carry_out(rt, dates, offices, order.source.as_str(), task, console)
 }
 
@@ -133,10 +133,10 @@ fn list_in<D: Dates, O: Offices, R: Read, W: Write, E: Write>(
         TriesTask O.Carried offices.old offices.new file.now
         (IsListedBy (option_map string_bytes registry.now)) io result }
 {
-    let task = Task::Ask {
+    let task = Task::Ask(Question {
         token: None,
         command: listing(rt.alloc(), registry)?,
         form: Form::Body,
-    };
+    });
     carry_out(rt, dates, offices, file, task, console)
 }

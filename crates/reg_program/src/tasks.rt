@@ -10,15 +10,14 @@ ghost use Rattle.reg_http.specs.Serving.{AnswersOver};
 ghost use Rattle.reg_program.specs.Tasks.{Did, IfPublishes, IfServes, begins, looks_on, streams_by};
 ghost use Rattle.reg_program.specs.declared.faults.JobFailure.TheVariants as failure;
 
-use crate::asking::{Form, ask_in, print};
+use crate::asking::{Question, ask_in, print};
 use crate::console::Console;
 use crate::expiring::print_due;
 use crate::faults::Undone;
-use crate::listening::serve_in;
+use crate::listening::{Serving, serve_in};
 use crate::publishing::{Folders, publish_in};
 use crate::scripts::run_in;
 use crate::tokens::{revoke_in, tokens_in};
-use reg_core::command::Command;
 use reg_http::dates::{Dates, moment_now};
 use reg_http::peers::Ports;
 use reg_keeper::keeper::Keeper;
@@ -37,18 +36,10 @@ pub enum Task<'a> {
     Run {
         clerk: &'a [u8],
     },
-    /// Serves it on this port of loopback, for so many connections, with a log of them or without.
-    Serve {
-        port: u16,
-        connections: u32,
-        log: bool,
-    },
-    /// Has it answer this command of the caller with this token, or of anybody.
-    Ask {
-        token: Option<&'a [u8]>,
-        command: Command,
-        form: Form,
-    },
+    /// Serves it.
+    Serve(Serving),
+    /// Has it answer a command.
+    Ask(Question<'a>),
     /// Prints all its capabilities.
     Tokens,
     /// Takes these capabilities away, and prints them.
@@ -61,9 +52,7 @@ pub enum Task<'a> {
         notes: Option<&'a Notes>,
     },
     /// Prints which of its early allocations are due within so many days.
-    Due {
-        days: u32,
-    },
+    Due(u32),
 }
 
 /// What has the offices in files.
@@ -121,7 +110,7 @@ impl Task<'_> {
 
     /// Whether it serves the office.
     pub fn serves(&self) -> bool {
-        matches!(self, Task::Serve { .. })
+        matches!(self, Task::Serve(_))
     }
 
     /// Does it with an office that is open, at the moment that these dates say, and serves it on one
@@ -151,39 +140,17 @@ impl Task<'_> {
         match self {
             Task::Found { clerk } => found_in(office, clerk, console.output),
             Task::Run { clerk } => run_in(rt, office, clerk, console),
-            Task::Serve {
-                port,
-                connections: count,
-                log,
-            } => serve_in(alloc, ports, dates, office, *port, *count, *log, console),
-            Task::Ask {
-                token,
-                command,
-                form,
-            } => {
-                let now = moment_now(dates);
-                ask_in(alloc, office, now, *token, command, *form, console.output)
-            }
+            Task::Serve(serving) => serve_in(alloc, ports, dates, office, *serving, console),
+            Task::Ask(asked) => ask_in(alloc, office, moment_now(dates), asked, console.output),
             Task::Tokens => tokens_in(alloc, office, console.output),
             Task::Revoke { choice } => {
                 revoke_in(alloc, office, moment_now(dates), *choice, console.output)
             }
             Task::Publish { folder, notes } => {
                 let now = moment_now(dates);
-                publish_in(
-                    alloc,
-                    folders,
-                    office,
-                    now,
-                    folder,
-                    *notes,
-                    console.output,
-                    console.errors,
-                )
+                publish_in(alloc, folders, office, now, folder, *notes, console)
             }
-            Task::Due { days } => {
-                print_due(alloc, office, moment_now(dates), *days, console.output)
-            }
+            Task::Due(days) => print_due(alloc, office, moment_now(dates), *days, console.output),
         }
     }
 }

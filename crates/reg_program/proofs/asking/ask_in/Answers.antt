@@ -20,8 +20,8 @@ returns-in_err-text-clause-does g c =
     let world = g.K.Keeper.world in
     let given = c.in_ok-reply.ensures in
     let stopped = c.in_err-text in
-    let a = answer_to token_digest (world c.args.office.now) (caller_of (option_copied c.args.token))
-    c.args.moment c.args.command.now in
+    let a = answer_to token_digest (world c.args.office.now) (caller_of (option_copied c.args.question.now.token))
+    c.args.moment c.args.question.now.command in
     undone_by world g.K.Keeper.Holds g.K.Keeper.Sound g.K.Keeper.FAILS c.args.office.now
     c.handle.new.self _ _ _ stopped.field-0.0 c.from_residual-in_err-text.ensures.1 given.premise
     (refused_may g.K.Keeper.FAILS c.in_ok-reply.reply stopped.field-0.0 stopped.ensures.refused)
@@ -31,21 +31,21 @@ returns-in_err-text-clause-does g c =
 pub returns-in_err-text-clause-looks : goal.returns-in_err-text-clause-looks
 returns-in_err-text-clause-looks g c =
     λ only h. c.in_ok-reply.ensures.world h
-    ∙ looks (g.K.Keeper.world c.args.office.now) (option_copied c.args.token) c.args.moment
-    c.args.command.now only
+    ∙ looks (g.K.Keeper.world c.args.office.now) (option_copied c.args.question.now.token) c.args.moment
+    c.args.question.now.command only
 
 pub returns-clause-does : goal.returns-clause-does
 returns-clause-does g c =
     let world = g.K.Keeper.world in
     let given = c.in_ok-reply.ensures in
-    let step = step_by (world c.args.office.now) (option_copied c.args.token) c.args.moment
-    c.args.command.now in
+    let step = step_by (world c.args.office.now) (option_copied c.args.question.now.token) c.args.moment
+    c.args.question.now.command in
     let had = g.W.Write.contents c.args.output.now in
     let has = g.W.Write.contents c.print.new.output in
     ends_printing world g.K.Keeper.Holds g.K.Keeper.Sound g.K.Keeper.FAILS c.args.office.now
     c.handle.new.self _ _ c.print.result (Appends had has c.as_slice.result.now) c.print.ensures.ok
     (err_as c.print.result write_prints c.print.ensures.err) given.premise
-    (λ h wrote. is_printed c.args.form had has step (world c.handle.new.self) c.in_ok-reply.reply
+    (λ h wrote. is_printed c.args.question.now.form had has step (world c.handle.new.self) c.in_ok-reply.reply
     c.as_slice.result.now (given.reply h) (given.world h) c.in_ok-text.ensures.accepted
     (c.as_slice.ensures.value ∙ c.in_ok-text.ensures.text) wrote)
     (λ h why of. printing_unprinted (world c.args.office.now) (world c.handle.new.self) step why
@@ -54,5 +54,5 @@ returns-clause-does g c =
 pub returns-clause-looks : goal.returns-clause-looks
 returns-clause-looks g c =
     λ only h. c.in_ok-reply.ensures.world h
-    ∙ looks (g.K.Keeper.world c.args.office.now) (option_copied c.args.token) c.args.moment
-    c.args.command.now only
+    ∙ looks (g.K.Keeper.world c.args.office.now) (option_copied c.args.question.now.token) c.args.moment
+    c.args.question.now.command only

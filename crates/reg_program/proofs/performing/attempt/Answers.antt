@@ -24,10 +24,10 @@ returns-in-Copy g c =
     let has = g.W.Write.contents c.copy.new.output in
     rw c.in-Copy.is
     (touches_none (c.args.offices.now ≡ c.args.offices.now) (λ done. OnOk done (PrintsCopied Copied had has)) c.copy.result refl
-    (rw (c.as_str-in-Copy.ensures.value, c.as_str-in-Copy-2.ensures.value) at c.copy.ensures))
+    (rw (c.deref-in-Copy.ensures, c.deref-in-Copy-2.ensures) at c.copy.ensures))
 
 pub returns-in-Due : goal.returns-in-Due
-returns-in-Due g c = rw c.in-Due.is (rw c.as_str-in-Due.ensures.value at c.due_at.ensures)
+returns-in-Due g c = rw c.in-Due.is (rw c.deref-in-Due.ensures at c.due_at.ensures)
 
 pub returns-in-Verify : goal.returns-in-Verify
 returns-in-Verify g c =
@@ -44,10 +44,10 @@ pub returns-in-Define : goal.returns-in-Define
 returns-in-Define g c = rw c.in-Define.is c.define.ensures
 
 pub returns-in-Listing : goal.returns-in-Listing
-returns-in-Listing g c = rw c.in-Listing.is (rw c.as_str-in-Listing.ensures.value at c.list.ensures)
+returns-in-Listing g c = rw c.in-Listing.is (rw c.deref-in-Listing.ensures at c.list.ensures)
 
 pub returns-in-Tokens : goal.returns-in-Tokens
-returns-in-Tokens g c = rw c.in-Tokens.is (rw c.as_str-in-Tokens.ensures.value at c.list_tokens.ensures)
+returns-in-Tokens g c = rw c.in-Tokens.is (rw c.deref-in-Tokens.ensures at c.list_tokens.ensures)
 
 pub returns-in-Revoke : goal.returns-in-Revoke
-returns-in-Revoke g c = rw c.in-Revoke.is (rw c.as_str-in-Revoke.ensures.value at c.revoke.ensures)
+returns-in-Revoke g c = rw c.in-Revoke.is (rw c.deref-in-Revoke.ensures at c.revoke.ensures)

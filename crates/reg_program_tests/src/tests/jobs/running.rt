@@ -1,7 +1,7 @@
 //! Offices over a keeper that are asked as jobs ask them.
 use reg_keeper::keeper::Keeper;
 use reg_office::Office;
-use reg_program::asking::{Form, ask_in, listing};
+use reg_program::asking::{Form, Question, ask_in, listing};
 use reg_program::faults::Undone;
 use reg_program::scripts::found_and_run;
 use std::alloc::Global;
@@ -18,9 +18,13 @@ pub fn list_in<K: Keeper>(
     office: &mut Office<K>,
     output: &mut Vec<u8>,
 ) -> Result<(), Undone> {
-    let command = listing(alloc, &None)?;
-    let done = ask_in(alloc, office, MOMENT, None, &command, Form::Body, output);
-    drop(command);
+    let question = Question {
+        token: None,
+        command: listing(alloc, &None)?,
+        form: Form::Body,
+    };
+    let done = ask_in(alloc, office, MOMENT, &question, output);
+    drop(question);
     done
 }
 

@@ -6,6 +6,7 @@ use crate::tests::sites::files::site;
 use crate::tests::sites::office::{FILES, LATER, MOMENT, opened};
 use reg_core::refusal::Refusal;
 use reg_keeper::keeper::Keeper;
+use reg_program::console::Console;
 use reg_program::faults::{JobFailure, Undone};
 use reg_program::publishing::{Directories, publish_in};
 use reg_publish::faults::PublishFault;
@@ -14,8 +15,8 @@ use reg_publish::source::Source;
 use reg_publish::unpublished::Unpublished;
 use reg_testing::facts::ensure;
 use reg_testing::folders::folder_for;
-use std::fs;
 use std::test::Fail;
+use std::{fs, io};
 
 // A source is published so far in a folder with room for so many files, and why no further.
 fn assert_stopped<S: Source>(
@@ -123,15 +124,21 @@ fn published<S: Source>(
 ) -> Result<Vec<u8>, Undone> {
     let mut output = Vec::new(rt.alloc());
     let mut errors = Vec::new(rt.alloc());
+    let mut console = Console {
+        input: &mut io::empty(),
+        output: &mut output,
+        errors: &mut errors,
+        is_watched: false,
+    };
+    let folders = Directories { rt };
     publish_in(
         rt.alloc(),
-        &Directories { rt },
+        &folders,
         source,
         moment,
         folder,
         None,
-        &mut output,
-        &mut errors,
+        &mut console,
     )?;
     Ok(output)
 }

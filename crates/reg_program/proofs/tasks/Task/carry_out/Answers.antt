@@ -3,13 +3,13 @@ use Rattle.reg_program.proofs.tasks.Task.carry_out.Goals as goal
 
 pub returns-in-Ask-clause-did : goal.returns-in-Ask-clause-did
 returns-in-Ask-clause-did g c =
-    rw c.in-Ask.is (c.moment_now-now.result, c.moment_now-now.ensures, c.ask_in.ensures.does)
+    rw c.in-Ask.is (c.moment_now.result, c.moment_now.ensures, c.ask_in.ensures.does)
 
 pub returns-in-Revoke-clause-did : goal.returns-in-Revoke-clause-did
 returns-in-Revoke-clause-did g c =
     rw c.in-Revoke.is (
-      c.moment_now.result,
-      c.moment_now.ensures,
+      c.moment_now-in-Revoke.result,
+      c.moment_now-in-Revoke.ensures,
       c.revoke_in.ensures.does,
     )
 
@@ -17,4 +17,4 @@ pub returns-in-Publish-clause-publishes : goal.returns-in-Publish-clause-publish
 returns-in-Publish-clause-publishes g c =
     rw c.in-Publish.is
     (ok_as c.publish_in.result
-    (λ placed. (c.moment_now-now-in-Publish.result, c.moment_now-now-in-Publish.ensures, placed)) c.publish_in.ensures)
+    (λ placed. (c.moment_now-now.result, c.moment_now-now.ensures, placed)) c.publish_in.ensures)
