@@ -3,7 +3,7 @@ use Rattle.std.proofs.Common.{◌≡◌, ℕ, ◌+◌, ◌<◌, ◌≤◌, List,
 use Rattle.std.proofs.lemmas.Grind.{common_steps}
 use Rattle.std.proofs.lemmas.List.{append_assoc, drop_all}
 use Rattle.reg_html.specs.Appended.{Appended, Shown}
-use Rattle.reg_html.specs.Markup.{Markup, markup_then}
+use Rattle.reg_html.specs.Markup.{Markup, nothing, beside, markup_then}
 
 -- some bytes alone
 pub bytes : (old new piece : List ℕ) → new ≡ old ++ piece → Appended old new (λ rest. piece ++ rest)
@@ -19,9 +19,6 @@ joined {g = g} first second = record { all = λ rest. second.all rest ∙ first.
 -- markup by its bytes
 pub shown : {x y : List ℕ} {m : Markup} → Appended x y (markup_then m) → Shown x y m
 shown h = record { bytes = h }
-
--- what shows that pieces were appended one after the other
-pub ruleset appended = (joined, shown)
 
 -- all that was appended to nothing
 pub whole : (old : List ℕ) {new : List ℕ} {f : List ℕ → List ℕ} → old ≡ [] → Appended old new f
@@ -88,5 +85,32 @@ bytes_end pieces none xs i h {y = y} last = record {
 abbrev pub from_place : {X : Type 0} → (List X → Markup) → List X → ℕ → List ℕ → List ℕ
 from_place pieces xs i rest = bytes_from (λ ys. markup_then (pieces ys)) xs i rest
 
--- what shows a loop that appends a piece for each item
-pub ruleset appended_each = (bytes_go_on, bytes_go_on_at, bytes_end, refl)
+-- the same of an item that is shown
+pub goes_on : {X : Type 0} (pieces : List X → Markup) (piece : X → Markup)
+    → ((x : X) (xs : List X) → pieces (x ∷ xs) ≡ beside (piece x) (pieces xs))
+    → (xs : List X) (i : ℕ) (x : X) → i < length xs → x ≡ get_or xs i x
+    → {old y z : List ℕ} {all : List ℕ → List ℕ}
+    → Leads old y (from_place pieces xs i) all → Shown y z (piece x)
+    → Leads old z (from_place pieces xs (i + 1)) all
+goes_on pieces piece step xs i x h is first second =
+    bytes_go_on (λ ys. markup_then (pieces ys)) (λ y. markup_then (piece y))
+    (λ y ys rest. ap (λ m. markup_then m rest) (step y ys)) xs i x h is first second.bytes
+
+-- the same of an item that is told by what stands where there is none
+pub goes_on_at : {X : Type 0} (pieces : List X → Markup) (piece : X → Markup)
+    → ((x : X) (xs : List X) → pieces (x ∷ xs) ≡ beside (piece x) (pieces xs))
+    → (xs : List X) (i : ℕ) (d : X) → i < length xs → {old y z : List ℕ} {all : List ℕ → List ℕ}
+    → Leads old y (from_place pieces xs i) all
+    → Shown y z (piece (get_or xs i d))
+    → Leads old z (from_place pieces xs (i + 1)) all
+goes_on_at pieces piece step xs i d h first second =
+    bytes_go_on_at (λ ys. markup_then (pieces ys)) (λ y. markup_then (piece y))
+    (λ y ys rest. ap (λ m. markup_then m rest) (step y ys)) xs i d h first second.bytes
+
+-- no item is left
+pub ends : {X : Type 0} (pieces : List X → Markup) → pieces [] ≡ nothing
+    → (xs : List X) (i : ℕ) → length xs ≤ i → {old y : List ℕ} {m : Markup}
+    → Leads old y (from_place pieces xs i) (markup_then m) → Shown old y m
+ends pieces none xs i h last =
+    shown
+    (bytes_end (λ ys. markup_then (pieces ys)) (λ rest. ap (λ m. markup_then m rest) none) xs i h last)

@@ -1,7 +1,7 @@
 //! The frame of a page: what stands above and below all that it shows.
-ghost use Rattle.std.specs.Prelude.{◌≡◌, ◌++◌, ◌∷◌, [], IfOk, OnOk};
+ghost use Rattle.std.specs.Prelude.{◌++◌, OnOk};
 ghost use Rattle.reg_html.specs.Appended.{Appended, Shown};
-ghost use Rattle.reg_html.specs.Document.{document, head, page, page_start, page_end};
+ghost use Rattle.reg_html.specs.Document.{head, page_start, page_end};
 
 use crate::markup::Piece::{Markup, Text};
 use crate::markup::{push, push_all};
@@ -9,7 +9,6 @@ use std::alloc::AllocError;
 
 /// Begins a page: its head, by the place of the style sheet and the title, and its heading. Only want
 /// of memory is an error.
-#[tactic(auto, using(crate::proofs::Pieces::joined))]
 pub fn push_start(out: &mut Vec<u8>, style: &str, title: &str) -> Result<(), AllocError>
     ensures { OnOk result (Appended out.old.items out.new.items (page_start style.now title.now)) }
 {

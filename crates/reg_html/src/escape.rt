@@ -7,7 +7,6 @@ use std::alloc::AllocError;
 
 /// Appends what stands for a text on a page (HTML Living Standard, 13.1.4). Only want of memory is an
 /// error.
-#[tactic(auto, using(crate::proofs::Pieces::bytes))]
 pub fn push_text(out: &mut Vec<u8>, text: &str) -> Result<(), AllocError>
     ensures { OnOk result (Appended out.old.items out.new.items (λ rest. escaped text.now ++ rest)) }
 {

@@ -1,5 +1,5 @@
 //! Pieces of a page, appended to it.
-ghost use Rattle.std.specs.Prelude.{◌≡◌, ◌++◌, OnOk};
+ghost use Rattle.std.specs.Prelude.{◌++◌, OnOk};
 ghost use Rattle.std.specs.Fmt.{decimal};
 ghost use Rattle.reg_html.specs.Appended.{Appended, Shown};
 ghost use Rattle.reg_html.specs.Document.{link};
@@ -23,7 +23,6 @@ pub enum Piece<'a> {
 }
 
 /// Appends pieces in turn. Only want of memory is an error.
-#[tactic(auto, using(crate::proofs::Pieces::appended_each))]
 pub fn push_all(out: &mut Vec<u8>, pieces: &[Piece<'_>]) -> Result<(), AllocError>
     ensures { OnOk result (Appended out.old.items out.new.items (pieces_then pieces.now)) }
 {

@@ -1,5 +1,5 @@
 //! Tables on a page.
-ghost use Rattle.std.specs.Prelude.{◌≡◌, ◌++◌, codes, map, option_map, OnOk};
+ghost use Rattle.std.specs.Prelude.{◌++◌, codes, map, option_map, OnOk};
 ghost use Rattle.reg_html.specs.Appended.{Appended, Shown};
 ghost use Rattle.reg_html.specs.Document.{link};
 ghost use Rattle.reg_html.specs.Markup.{all_of};
@@ -11,7 +11,6 @@ use crate::markup::{push, push_all};
 use std::alloc::AllocError;
 
 /// Begins a table: its caption, and the heads of its columns. Only want of memory is an error.
-#[tactic(auto, using(crate::proofs::Pieces::joined))]
 pub fn push_start(out: &mut Vec<u8>, caption: &str, columns: &[&str]) -> Result<(), AllocError>
     ensures { OnOk result
         (Appended out.old.items out.new.items (table_start caption.now (map (λ c. c.now) columns.now))) }
@@ -112,7 +111,6 @@ fn push_linked_head<'a>(out: &mut Vec<u8>, name: &'a str, words: &'a str) -> Res
     )
 }
 
-#[tactic(auto, using(crate::proofs::Pieces::appended_each))]
 fn push_columns(out: &mut Vec<u8>, columns: &[&str]) -> Result<(), AllocError>
     ensures { OnOk result
         (Shown out.old.items out.new.items (all_of (map column (map (λ c. c.now) columns.now)))) }
@@ -133,7 +131,6 @@ fn push_column(out: &mut Vec<u8>, name: &str) -> Result<(), AllocError>
 }
 
 /// Appends cells, in turn. Only want of memory is an error.
-#[tactic(auto, using(crate::proofs::Pieces::appended_each))]
 pub fn push_cells(out: &mut Vec<u8>, texts: &[&str]) -> Result<(), AllocError>
     ensures { OnOk result
         (Shown out.old.items out.new.items (all_of (map cell (map (λ t. t.now) texts.now)))) }

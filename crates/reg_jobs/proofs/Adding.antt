@@ -36,6 +36,3 @@ pub job_added : {E : Type 0} (p r sum : Result Command E) (app job : App)
     → IfOk sum (λ new. IsOkAnd p (λ c. IsOkAnd r (λ j. AddsSubcommand c j new))) → IfOk p (λ c. app_of c ≡ app)
     → IfOk r (λ j. app_of j ≡ job) → IfOk r (λ j. (out-Command j).has_globals ≡ false) → IfOk sum (λ new. app_of new ≡ with_subcommand app job.top)
 job_added p r sum app job adds at is local = IfOk-weaker sum _ _ (λ new h. added_job p r new app job h at is local) adds
-
--- what is tried at each goal of a function that adds arguments
-pub ruleset adding = (added_local, added_shape, last_local, last_shape)

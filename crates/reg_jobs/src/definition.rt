@@ -75,7 +75,6 @@ fn command<'a>(alloc: Global, name: &'a str, about: &'a str, example: &'a str) -
 }
 
 // A command whose first word is an office's file.
-#[tactic(auto, using(crate::proofs::Adding::adding))]
 fn file_command<'a>(
     alloc: Global,
     name: &'a str,
@@ -89,7 +88,6 @@ fn file_command<'a>(
 }
 
 // A command whose first word is an office's file, or where it is served.
-#[tactic(auto, using(crate::proofs::Adding::adding))]
 fn source_command<'a>(
     alloc: Global,
     name: &'a str,
@@ -104,7 +102,6 @@ fn source_command<'a>(
 
 // A command whose first words are an office's file, or where it is served, and these two, each by its
 // name and its help.
-#[tactic(auto, using(crate::proofs::Adding::adding))]
 fn words_command<'a>(
     alloc: Global,
     name: &'a str,
@@ -122,7 +119,6 @@ fn words_command<'a>(
         .arg(place(alloc, second.0, second.1))
 }
 
-#[tactic(auto, using(crate::proofs::Adding::adding))]
 fn script<'a>(alloc: Global) -> Result<Command<'a>, AllocError>
     ensures shape { IfOk result (λ c. app_of c ≡ script_app) }
     ensures local { IfOk result (λ c. (out-Command c).has_globals ≡ false) }
@@ -132,7 +128,6 @@ fn script<'a>(alloc: Global) -> Result<Command<'a>, AllocError>
         .arg(option(alloc, "file", "FILE", "The office's file"))
 }
 
-#[tactic(auto, using(crate::proofs::Adding::adding))]
 fn import<'a>(alloc: Global) -> Result<Command<'a>, AllocError>
     ensures shape { IfOk result (λ c. app_of c ≡ import_app) }
     ensures local { IfOk result (λ c. (out-Command c).has_globals ≡ false) }
@@ -143,7 +138,6 @@ fn import<'a>(alloc: Global) -> Result<Command<'a>, AllocError>
 }
 
 // The command `import` with its first words, which say which register, and of which registry.
-#[tactic(auto, using(crate::proofs::Adding::adding))]
 fn register_command<'a>(alloc: Global) -> Result<Command<'a>, AllocError>
     ensures shape { IfOk result (λ c. app_of c ≡ register_app) }
     ensures local { IfOk result (λ c. (out-Command c).has_globals ≡ false) }
@@ -157,7 +151,6 @@ fn register_command<'a>(alloc: Global) -> Result<Command<'a>, AllocError>
         ))
 }
 
-#[tactic(auto, using(crate::proofs::Adding::adding))]
 fn init<'a>(alloc: Global) -> Result<Command<'a>, AllocError>
     ensures shape { IfOk result (λ c. app_of c ≡ init_app) }
     ensures local { IfOk result (λ c. (out-Command c).has_globals ≡ false) }
@@ -165,7 +158,6 @@ fn init<'a>(alloc: Global) -> Result<Command<'a>, AllocError>
     file_command(alloc, "init", help::INIT_ABOUT, help::INIT_EXAMPLE)?.arg(clerk(alloc))
 }
 
-#[tactic(auto, using(crate::proofs::Adding::adding))]
 fn serve<'a>(alloc: Global) -> Result<Command<'a>, AllocError>
     ensures shape { IfOk result (λ c. app_of c ≡ serve_app) }
     ensures local { IfOk result (λ c. (out-Command c).has_globals ≡ false) }
@@ -180,7 +172,6 @@ fn serve<'a>(alloc: Global) -> Result<Command<'a>, AllocError>
         ))
 }
 
-#[tactic(auto, using(crate::proofs::Adding::adding))]
 fn define<'a>(alloc: Global) -> Result<Command<'a>, AllocError>
     ensures shape { IfOk result (λ c. app_of c ≡ define_app) }
     ensures local { IfOk result (λ c. (out-Command c).has_globals ≡ false) }
@@ -205,7 +196,6 @@ fn registry_command<'a>(alloc: Global) -> Result<Command<'a>, AllocError>
     )
 }
 
-#[tactic(auto, using(crate::proofs::Adding::adding))]
 fn listing<'a>(alloc: Global) -> Result<Command<'a>, AllocError>
     ensures shape { IfOk result (λ c. app_of c ≡ listing_app) }
     ensures local { IfOk result (λ c. (out-Command c).has_globals ≡ false) }
@@ -218,7 +208,6 @@ fn listing<'a>(alloc: Global) -> Result<Command<'a>, AllocError>
     ))
 }
 
-#[tactic(auto, using(crate::proofs::Adding::adding))]
 fn request<'a>(alloc: Global) -> Result<Command<'a>, AllocError>
     ensures shape { IfOk result (λ c. app_of c ≡ request_app) }
     ensures local { IfOk result (λ c. (out-Command c).has_globals ≡ false) }
@@ -252,7 +241,6 @@ fn path_command<'a>(alloc: Global) -> Result<Command<'a>, AllocError>
     )
 }
 
-#[tactic(auto, using(crate::proofs::Adding::adding))]
 fn publish<'a>(alloc: Global) -> Result<Command<'a>, AllocError>
     ensures shape { IfOk result (λ c. app_of c ≡ publish_app) }
     ensures local { IfOk result (λ c. (out-Command c).has_globals ≡ false) }
@@ -267,7 +255,6 @@ fn publish<'a>(alloc: Global) -> Result<Command<'a>, AllocError>
         ))
 }
 
-#[tactic(auto, using(crate::proofs::Adding::adding))]
 fn verify<'a>(alloc: Global) -> Result<Command<'a>, AllocError>
     ensures shape { IfOk result (λ c. app_of c ≡ verify_app) }
     ensures local { IfOk result (λ c. (out-Command c).has_globals ≡ false) }
@@ -282,7 +269,6 @@ fn verify<'a>(alloc: Global) -> Result<Command<'a>, AllocError>
         ))
 }
 
-#[tactic(auto, using(crate::proofs::Adding::adding))]
 fn due<'a>(alloc: Global) -> Result<Command<'a>, AllocError>
     ensures shape { IfOk result (λ c. app_of c ≡ due_app) }
     ensures local { IfOk result (λ c. (out-Command c).has_globals ≡ false) }
@@ -297,7 +283,6 @@ fn check<'a>(alloc: Global) -> Result<Command<'a>, AllocError>
     file_command(alloc, "check", help::CHECK_ABOUT, help::CHECK_EXAMPLE)
 }
 
-#[tactic(auto, using(crate::proofs::Adding::adding))]
 fn copy<'a>(alloc: Global) -> Result<Command<'a>, AllocError>
     ensures shape { IfOk result (λ c. app_of c ≡ copy_app) }
     ensures local { IfOk result (λ c. (out-Command c).has_globals ≡ false) }
@@ -305,7 +290,6 @@ fn copy<'a>(alloc: Global) -> Result<Command<'a>, AllocError>
     file_command(alloc, "copy", help::COPY_ABOUT, help::COPY_EXAMPLE)?.arg(folder(alloc))
 }
 
-#[tactic(auto, using(crate::proofs::Adding::adding))]
 fn tokens<'a>(alloc: Global) -> Result<Command<'a>, AllocError>
     ensures shape { IfOk result (λ c. app_of c ≡ tokens_app) }
     ensures local { IfOk result (λ c. (out-Command c).has_globals ≡ false) }
@@ -313,7 +297,6 @@ fn tokens<'a>(alloc: Global) -> Result<Command<'a>, AllocError>
     source_command(alloc, "tokens", help::TOKENS_ABOUT, help::TOKENS_EXAMPLE)?.arg(token(alloc))
 }
 
-#[tactic(auto, using(crate::proofs::Adding::adding))]
 fn revoke<'a>(alloc: Global) -> Result<Command<'a>, AllocError>
     ensures shape { IfOk result (λ c. app_of c ≡ revoke_app) }
     ensures local { IfOk result (λ c. (out-Command c).has_globals ≡ false) }

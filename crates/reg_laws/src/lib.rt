@@ -36,7 +36,6 @@ pub fn changes_fit()
 {}
 
 /// Every run from a well kept world ends in a well kept world.
-#[tactic(auto, using(reg_decisions::proofs::Keeping::RunsKeepWell::runs_keep))]
 pub fn runs_keep_well()
     ensures { (digest_of : List ℕ → List ℕ) → GivesDigests digest_of → RunsKeepWell digest_of }
 {}
@@ -83,7 +82,6 @@ pub fn commands_go_by_their_lines()
 /// at which no entry stands, the least one where that is asked for; or, to renew it or to make it
 /// permanent, an entry of the applicant's own; and what was approved has its entry, of the
 /// applicant's account.
-#[tactic(auto, using(crate::proofs::ValuesAreGivenOnce::asks_meet_their_policy))]
 pub fn asks_meet_their_policy()
     ensures { (digest_of : List ℕ → List ℕ) → AsksMeetTheirPolicy digest_of }
 {}
@@ -162,7 +160,6 @@ pub fn given_stays()
 
 /// Links are their principals': whatever a command does, who is whose agent stays as before; or the
 /// principal, with an applicant's capability of its own, said of its agent whether it reads.
-#[tactic(auto, using(crate::proofs::LinksAreTheirPrincipals::links_are_theirs))]
 pub fn links_are_their_principals()
     ensures { (digest_of : List ℕ → List ℕ) → LinksAreTheirPrincipals digest_of }
 {}

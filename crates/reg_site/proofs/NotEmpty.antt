@@ -2,7 +2,6 @@
 use Rattle.std.proofs.Common.{◌≡◌, ℕ, ◌<◌, List, [], ◌∷◌, codes, length, refl, arith}
 use Rattle.reg_html.specs.Document.{attribute, plain}
 use Rattle.reg_html.specs.Markup.{text, element, beside}
-use Rattle.reg_html.proofs.Pieces.{joined}
 use Rattle.reg_site.specs.Index.{changed_part}
 use Rattle.reg_site.specs.Noted.{apply_at, reference_shown}
 use Rattle.reg_site.specs.Reference.{reference_markup}
@@ -24,6 +23,3 @@ pub changed_part-some : (t : List ℕ) → 0 < length t
     (beside (text (codes "Last changed ")) (plain (codes "time") (text t)))
 changed_part-some [] h = absurd (omega arith)
 changed_part-some (b ∷ more) h = refl
-
--- what shows that a reference is shown, where there is one
-pub ruleset with_reference = (joined, reference_shown-some)

@@ -41,7 +41,6 @@ pub(crate) struct Part {
 
 /// Appends a bar of a registry's values: each range as long as it has values, and upon it the entries
 /// where they are; and how many there are of each kind, in words.
-#[tactic(auto, using(reg_html::proofs::Pieces::joined))]
 pub(crate) fn push_bar(
     out: &mut Vec<u8>,
     summary: &Summary,
@@ -57,7 +56,6 @@ pub(crate) fn push_bar(
     Ok(())
 }
 
-#[tactic(auto, using(reg_html::proofs::Pieces::joined))]
 fn push_picture(
     out: &mut Vec<u8>,
     summary: &Summary,
@@ -95,7 +93,6 @@ fn push_picture_start(out: &mut Vec<u8>, view: &str) -> Result<(), AllocError>
     )
 }
 
-#[tactic(auto, using(reg_html::proofs::Pieces::appended_each))]
 fn push_shares(out: &mut Vec<u8>, most: u32, shares: &[Share]) -> Result<(), AllocError>
     ensures { OnOk result
         (Shown out.old.items out.new.items (all_of (map (λ share. part (share_part most share)) shares.now))) }

@@ -184,7 +184,6 @@ fn name_of(alloc: Global, digits: &str) -> Result<String, AllocError>
     format!(in alloc; "b{digits}")
 }
 
-#[tactic(auto, using(reg_html::proofs::Pieces::joined))]
 fn push_block_texts<'a>(
     out: &mut Vec<u8>,
     name: &'a str,

@@ -95,7 +95,6 @@ fn push_changes(out: &mut Vec<u8>, changes: &[Change<'_>]) -> Result<(), AllocEr
     }
 }
 
-#[tactic(auto, using(reg_html::proofs::Pieces::joined))]
 fn push_table(out: &mut Vec<u8>, changes: &[Change<'_>]) -> Result<(), AllocError>
     ensures { OnOk result
         (Shown out.old.items out.new.items (changes_table (map shown changes.now))) }
@@ -114,7 +113,6 @@ fn push_table(out: &mut Vec<u8>, changes: &[Change<'_>]) -> Result<(), AllocErro
     Ok(())
 }
 
-#[tactic(auto, using(reg_html::proofs::Pieces::appended_each))]
 fn push_rows(out: &mut Vec<u8>, changes: &[Change<'_>]) -> Result<(), AllocError>
     ensures { OnOk result
         (Shown out.old.items out.new.items (all_of (map change_row (map shown changes.now)))) }
@@ -145,7 +143,6 @@ fn push_row(out: &mut Vec<u8>, change: &Change<'_>) -> Result<(), AllocError>
     )
 }
 
-#[tactic(auto, using(reg_html::proofs::Pieces::joined))]
 fn push_row_texts<'a>(
     out: &mut Vec<u8>,
     name: &'a str,
@@ -232,7 +229,6 @@ fn last_moment<'a>(changes: &[Change<'a>]) -> &'a str
     }
 }
 
-#[tactic(auto, using(reg_html::proofs::Pieces::joined))]
 fn push_feed_head(out: &mut Vec<u8>, title: &str, id: &str, moment: &str) -> Result<(), AllocError>
     ensures { OnOk result
         (Shown out.old.items out.new.items (feed_head title.now id.now moment.now)) }
@@ -257,7 +253,6 @@ fn push_said<'a>(
     push_all(out, &[Markup(before), Text(words), Markup(behind)])
 }
 
-#[tactic(auto, using(reg_html::proofs::Pieces::appended_each))]
 fn push_entries(out: &mut Vec<u8>, changes: &[Change<'_>]) -> Result<(), AllocError>
     ensures { OnOk result
         (Shown out.old.items out.new.items (all_of (map change_entry (map shown changes.now)))) }

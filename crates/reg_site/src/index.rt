@@ -71,7 +71,6 @@ fn page_of(
 }
 
 // What stands above the registries.
-#[tactic(auto, using(reg_html::proofs::Pieces::joined))]
 fn push_front(out: &mut Vec<u8>, authority: Option<&Note>) -> Result<(), AllocError>
     ensures { OnOk result
         (Shown out.old.items out.new.items (front (option_copied authority.entry))) }
@@ -146,7 +145,6 @@ fn push_registries(
     }
 }
 
-#[tactic(auto, using(reg_html::proofs::Pieces::joined))]
 fn push_table(
     out: &mut Vec<u8>,
     alloc: Global,
@@ -169,7 +167,6 @@ fn push_table(
     Ok(())
 }
 
-#[tactic(auto, using(reg_html::proofs::Pieces::appended_each))]
 fn push_registry_rows(
     out: &mut Vec<u8>,
     alloc: Global,
@@ -221,7 +218,6 @@ fn target_of(alloc: Global, name: &str) -> Result<String, AllocError>
     format!(in alloc; "registries/{name}.html")
 }
 
-#[tactic(auto, using(reg_html::proofs::Pieces::joined))]
 fn push_name_texts<'a>(
     out: &mut Vec<u8>,
     target: &'a str,
@@ -254,7 +250,6 @@ fn push_changed(out: &mut Vec<u8>, changed: &str) -> Result<(), AllocError>
     Ok(())
 }
 
-#[tactic(auto, using(reg_html::proofs::Pieces::appended_each))]
 fn push_shares(out: &mut Vec<u8>, alloc: Global, shares: &[Share]) -> Result<(), AllocError>
     ensures { OnOk result
         (Shown out.old.items out.new.items (all_of (map share_item shares.now))) }
@@ -299,7 +294,6 @@ fn push_number_cell(out: &mut Vec<u8>, n: u64) -> Result<(), AllocError>
     push_all(out, &[Markup("<td>"), Number(n), Markup("</td>")])
 }
 
-#[tactic(auto, using(reg_html::proofs::Pieces::joined))]
 fn push_pool(out: &mut Vec<u8>, alloc: Global, prefixes: &[u32]) -> Result<(), AllocError>
     ensures { OnOk result
         (Shown out.old.items out.new.items (pool_list prefixes.now)) }
@@ -319,7 +313,6 @@ fn push_prefix_list(out: &mut Vec<u8>, alloc: Global, prefixes: &[u32]) -> Resul
     }
 }
 
-#[tactic(auto, using(reg_html::proofs::Pieces::joined))]
 fn push_items(out: &mut Vec<u8>, alloc: Global, prefixes: &[u32]) -> Result<(), AllocError>
     ensures { OnOk result
         (Shown out.old.items out.new.items (plain (codes "ul") (all_of (map prefix_item prefixes.now)))) }
@@ -330,7 +323,6 @@ fn push_items(out: &mut Vec<u8>, alloc: Global, prefixes: &[u32]) -> Result<(), 
     Ok(())
 }
 
-#[tactic(auto, using(reg_html::proofs::Pieces::appended_each))]
 fn push_prefixes(out: &mut Vec<u8>, alloc: Global, prefixes: &[u32]) -> Result<(), AllocError>
     ensures { OnOk result
         (Shown out.old.items out.new.items (all_of (map prefix_item prefixes.now))) }
@@ -355,7 +347,6 @@ fn push_item(out: &mut Vec<u8>, words: &str) -> Result<(), AllocError>
 }
 
 // How many blocks were given of each size.
-#[tactic(auto, using(reg_html::proofs::Pieces::joined))]
 fn push_blocks(out: &mut Vec<u8>, blocks: &[Listed]) -> Result<(), AllocError>
     ensures { OnOk result
         (Shown out.old.items out.new.items (block_counts blocks.now)) }

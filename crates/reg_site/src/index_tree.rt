@@ -40,7 +40,6 @@ pub fn index_tree(
 }
 
 // Appends what stands for a text that has no control characters.
-#[tactic(auto, using(reg_html::proofs::Pieces::bytes))]
 fn push_json(out: &mut Vec<u8>, text: &str) -> Result<(), AllocError>
     ensures { OnOk result (Appended out.old.items out.new.items (λ rest. json_text text.now ++ rest)) }
 {
@@ -92,7 +91,6 @@ fn push_all<'a>(
     Ok(())
 }
 
-#[tactic(auto, using(reg_html::proofs::Pieces::appended_each))]
 fn push_more(out: &mut Vec<u8>, rows: &[Register<'_>]) -> Result<(), AllocError>
     ensures { OnOk result (Appended out.old.items out.new.items (more_then (map row_of rows.now))) }
 {

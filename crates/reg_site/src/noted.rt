@@ -87,7 +87,6 @@ fn push_title(out: &mut Vec<u8>, title: &str) -> Result<(), AllocError>
     )
 }
 
-#[tactic(auto, using(crate::proofs::NotEmpty::with_reference))]
 fn push_reference_part(out: &mut Vec<u8>, reference: &str) -> Result<(), AllocError>
     ensures { OnOk result (Shown out.old.items out.new.items (reference_shown reference.now)) }
 {

@@ -91,7 +91,6 @@ fn push_above(
     push_above_of(out, alloc, name, title, day, page.table.ranges())
 }
 
-#[tactic(auto, using(reg_html::proofs::Pieces::joined))]
 fn push_above_of(
     out: &mut Vec<u8>,
     alloc: Global,
@@ -153,7 +152,6 @@ fn push_updated(out: &mut Vec<u8>, day: &str) -> Result<(), AllocError>
     )
 }
 
-#[tactic(auto, using(reg_html::proofs::Pieces::appended_each))]
 fn push_ranges(out: &mut Vec<u8>, alloc: Global, ranges: &[Range]) -> Result<(), AllocError>
     ensures { OnOk result (Shown out.old.items out.new.items (all_of (map range_of ranges.now))) }
 {
@@ -255,7 +253,6 @@ fn early_text(
     format!(in alloc; "{label} ({word} - registered {first}, expires {expires})")
 }
 
-#[tactic(auto, using(reg_html::proofs::Pieces::joined))]
 fn push_record_texts<'a>(
     out: &mut Vec<u8>,
     first: &'a str,

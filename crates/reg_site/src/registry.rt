@@ -195,7 +195,6 @@ fn push_forms<'a>(
     )
 }
 
-#[tactic(auto, using(reg_html::proofs::Pieces::joined))]
 fn push_ranges(out: &mut Vec<u8>, alloc: Global, ranges: &[Range]) -> Result<(), AllocError>
     ensures { OnOk result
         (Shown out.old.items out.new.items (ranges_table ranges.now)) }
@@ -210,7 +209,6 @@ fn push_ranges(out: &mut Vec<u8>, alloc: Global, ranges: &[Range]) -> Result<(),
     Ok(())
 }
 
-#[tactic(auto, using(reg_html::proofs::Pieces::appended_each))]
 fn push_range_rows(out: &mut Vec<u8>, alloc: Global, ranges: &[Range]) -> Result<(), AllocError>
     ensures { OnOk result
         (Shown out.old.items out.new.items (all_of (map range_row ranges.now))) }
@@ -311,7 +309,6 @@ fn name_of(alloc: Global, row: &ListingRow<'_>) -> Result<Option<String>, AllocE
     }
 }
 
-#[tactic(auto, using(reg_html::proofs::Pieces::joined))]
 fn push_entry_texts<'a>(
     out: &mut Vec<u8>,
     name: Option<&'a str>,
@@ -339,7 +336,6 @@ fn push_entry_texts<'a>(
 }
 
 // What a value is for, and what is noted about it.
-#[tactic(auto, using(reg_html::proofs::Pieces::joined))]
 fn push_description(out: &mut Vec<u8>, words: &str, note: Option<&Note>) -> Result<(), AllocError>
     ensures { OnOk result
         (Shown out.old.items out.new.items (description_cell words.now (option_copied note.entry))) }

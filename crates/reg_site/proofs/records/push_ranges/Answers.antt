@@ -1,11 +1,21 @@
 use Rattle.std.proofs.Common.{map, refl}
 use Rattle.reg_html.specs.Markup.{all_of, markup_then}
-use Rattle.reg_html.proofs.Pieces.{bytes_go_on}
 use Rattle.reg_site.specs.Records.{range_of}
+use Rattle.reg_html.proofs.Pieces.{begins, ends, goes_on}
 use Rattle.reg_site.proofs.records.push_ranges.Goals as goal
+
+pub loop-range-init : goal.loop-range-init
+loop-range-init c =
+    begins c.args.out.now.items
+    (markup_then (all_of (map range_of c.args.ranges.now)))
 
 pub loop-range-preserved : goal.loop-range-preserved
 loop-range-preserved c =
-    bytes_go_on (λ rs. markup_then (all_of (map range_of rs))) (λ r. markup_then (range_of r))
-    (λ x xs rest. refl) c.args.ranges.now c.loop-range.range-index c.range-item.result
-    c.loop-range-test.true c.range-item.is c.loop-range.invariant c.in_ok-push_range.ensures.bytes
+    goes_on (λ rs. all_of (map range_of rs)) (range_of) (λ x xs. refl) c.args.ranges.now
+    c.loop-range.range-index c.range-item.result c.loop-range-test.true c.range-item.is c.loop-range.invariant
+    c.in_ok-push_range.ensures
+
+pub returns : goal.returns
+returns c =
+    ends (λ rs. all_of (map range_of rs)) refl c.args.ranges.now c.loop-range.range-index c.loop-range-test.false
+    c.loop-range.invariant

@@ -1,0 +1,14 @@
+use Rattle.reg_jobs.proofs.Adding.{added_local, added_shape, last_local, last_shape}
+use Rattle.reg_jobs.proofs.definition.revoke.Goals as goal
+
+pub returns-clause-shape : goal.returns-clause-shape
+returns-clause-shape c =
+    let one = added_shape c.in_ok-arg.ensures c.token.ensures.local c.in_ok-source_command.ensures.shape c.token.ensures.rule in
+    let two = added_shape c.in_ok-arg-2.ensures c.option.ensures.local one c.option.ensures.rule in
+    last_shape c.arg-3.result _ _ c.arg-3.ensures c.option-2.ensures.local two c.option-2.ensures.rule
+
+pub returns-clause-local : goal.returns-clause-local
+returns-clause-local c =
+    let one = added_local c.in_ok-arg.ensures c.token.ensures.local c.in_ok-source_command.ensures.local in
+    let two = added_local c.in_ok-arg-2.ensures c.option.ensures.local one in
+    last_local c.arg-3.result _ _ c.arg-3.ensures c.option-2.ensures.local two

@@ -1,0 +1,21 @@
+use Rattle.std.proofs.Common.{map, refl}
+use Rattle.reg_html.specs.Markup.{all_of, markup_then}
+use Rattle.reg_site.specs.Changes.{change_entry, shown}
+use Rattle.reg_html.proofs.Pieces.{begins, ends, goes_on_at}
+use Rattle.reg_site.proofs.changes.push_entries.Goals as goal
+
+pub loop-change-init : goal.loop-change-init
+loop-change-init c =
+    begins c.args.out.now.items
+    (markup_then (all_of (map change_entry (map shown c.args.changes.now))))
+
+pub loop-change-preserved : goal.loop-change-preserved
+loop-change-preserved c =
+    goes_on_at (λ cs. all_of (map change_entry (map shown cs))) (λ change. change_entry (shown change)) (λ x xs. refl) c.args.changes.now
+    c.loop-change.change-index _ c.loop-change-test.true c.loop-change.invariant
+    c.in_ok-push_entry.ensures
+
+pub returns : goal.returns
+returns c =
+    ends (λ cs. all_of (map change_entry (map shown cs))) refl c.args.changes.now c.loop-change.change-index c.loop-change-test.false
+    c.loop-change.invariant

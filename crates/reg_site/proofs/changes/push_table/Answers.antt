@@ -1,0 +1,9 @@
+use Rattle.reg_html.proofs.Pieces.{joined, shown}
+use Rattle.reg_site.proofs.changes.push_table.Goals as goal
+
+pub returns : goal.returns
+returns c =
+    shown
+    (joined c.in_ok-push_start.ensures
+    (joined c.in_ok-push_rows.ensures.bytes
+    (c.in_ok-push_end.ensures)))

@@ -1,0 +1,9 @@
+use Rattle.reg_html.proofs.Pieces.{joined, shown}
+use Rattle.reg_site.proofs.index.push_front.Goals as goal
+
+pub returns : goal.returns
+returns c =
+    shown
+    (joined c.in_ok-push_authority.ensures.bytes
+    (joined c.in_ok-push_apply.ensures.bytes
+    (c.in_ok-push_more_links.ensures.bytes)))

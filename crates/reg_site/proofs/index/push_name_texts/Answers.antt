@@ -1,0 +1,9 @@
+use Rattle.reg_html.proofs.Pieces.{joined, shown}
+use Rattle.reg_site.proofs.index.push_name_texts.Goals as goal
+
+pub returns : goal.returns
+returns c =
+    shown
+    (joined c.in_ok-push_all.ensures
+    (joined c.in_ok-push_changed.ensures.bytes
+    (c.in_ok-push.ensures)))
