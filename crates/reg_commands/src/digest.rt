@@ -2,7 +2,6 @@
 ghost use Rattle.std.specs.Prelude.{◌≡◌, true};
 ghost use Rattle.std.specs.Option.{option_copied};
 ghost use Rattle.hex.specs.Hex.{encode_lower};
-ghost use Rattle.sha2.specs.Sha256.{sha256};
 ghost use Rattle.reg_core.specs.Names.{is_digest};
 ghost use Rattle.reg_commands.specs.Caller.{token_digest, caller_of as caller};
 

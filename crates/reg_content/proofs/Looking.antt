@@ -9,7 +9,7 @@ use Rattle.reg_tables.specs.Connection.{Endures, Holds, IsIdle, Stays}
 use Rattle.reg_content.specs.Calls.{IsKeeping, Looks, LooksAt, LooksIn}
 use Rattle.reg_tables.proofs.Enduring.{endures_still, endures_then, holds_then, stays_on}
 use Rattle.reg_tables.proofs.RestLemmas.{stays_held, stays_same, stays_then}
-use Rattle.reg_statements.specs.Content.{AreTied, IsStored, assembled, content_of, parts_of}
+use Rattle.reg_statements.specs.Content.{AreTied, IsStored, assembled, parts_of}
 use Rattle.reg_statements.specs.Parts.{Parts}
 
 pub keeps_on : (old new : State) → IsKeeping old → IsIdle new → Stays old new → IsKeeping new

@@ -1,6 +1,6 @@
 -- What writes to the tables of requests and of their minutes make of the requests of an office.
-use Rattle.std.proofs.Common.{◌≡◌, ℕ, Bool, true, false, cond, if◌then◌else◌, List, Option, Some, None}
-use Rattle.std.proofs.Common.{is_some, option_and_then, option_map, refl, sym, ap, ◌∙◌}
+use Rattle.std.proofs.Common.{◌≡◌, ℕ, Bool, true, false, if◌then◌else◌, List, Option, Some, None}
+use Rattle.std.proofs.Common.{is_some, option_and_then, refl, sym, ap, ◌∙◌}
 use Rattle.std.specs.FinMap.{FinMap, get, insert}
 use Rattle.std.specs.Ordering.{eq_by_cmp}
 use Rattle.reg_maps.specs.Maps.{update}

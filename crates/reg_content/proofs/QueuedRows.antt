@@ -1,6 +1,6 @@
 -- What the query on the queue, the requests and the advice finds: the queue of an expert, without the
 -- minutes of its requests.
-use Rattle.std.proofs.Common.{◌≡◌, ℕ, Bool, true, false, cond, List, [], ◌∷◌, ◌++◌, filter}
+use Rattle.std.proofs.Common.{◌≡◌, ℕ, Bool, true, false, cond, List, [], ◌∷◌, filter}
 use Rattle.std.proofs.Common.{filter_map, refl, sym, ap, subst, ◌∙◌, inl, inr}
 use Rattle.std.proofs.Common.{Option, Some, None, option_map, option_to_list}
 use Rattle.std.specs.List.{cons_option, flat_map}

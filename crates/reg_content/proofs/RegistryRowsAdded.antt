@@ -1,13 +1,13 @@
 -- The rows of one registry more, and of one range more.
-use Rattle.std.proofs.Common.{◌≡◌, ℕ, ◌<◌, List, [], ◌∷◌, true, false, cond, Some, None}
+use Rattle.std.proofs.Common.{◌≡◌, ◌<◌, List, [], ◌∷◌, true, false, cond, Some, None}
 use Rattle.std.proofs.Common.{Option, IsSome, option_map, filter_map, refl, sym, ap, subst}
 use Rattle.std.proofs.Common.{◌∙◌}
-use Rattle.std.specs.FinMap.{FinMap, get, insert, find, get-from_entries}
+use Rattle.std.specs.FinMap.{get, insert, find, get-from_entries}
 use Rattle.std.specs.List.{AllByRecursion, cons_option}
 use Rattle.std.specs.Ordering.{eq_by_cmp}
 use Rattle.sqlite.specs.Effect.{Database}
 use Rattle.sqlite.specs.Order.{Row}
-use Rattle.reg_maps.specs.Maps.{text_cmp, update}
+use Rattle.reg_maps.specs.Maps.{update}
 use Rattle.reg_maps.specs.RowMaps.{held_in}
 use Rattle.reg_maps.proofs.KeySets.{each_key, still_in}
 use Rattle.reg_maps.proofs.MapLaws.{text_keys, tied}

@@ -1,5 +1,5 @@
 -- What one registry more, and one range more, make of the registries that two maps hold.
-use Rattle.std.proofs.Common.{◌≡◌, ℕ, ◌<◌, List, [], ◌∷◌, ◌++◌, Bool, true, false, cond, Some, None, Option, IsSome, map, refl, sym, ap, subst, ◌∙◌, option_map, option_and_then}
+use Rattle.std.proofs.Common.{◌≡◌, ℕ, ◌<◌, List, [], ◌∷◌, ◌++◌, true, false, cond, Some, None, Option, IsSome, map, refl, sym, ap, subst, ◌∙◌, option_map, option_and_then}
 use Rattle.std.specs.declared.cmp.Ordering.{Ordering}
 use Rattle.std.specs.declared.cmp.Ordering.TheVariants.{Less, Equal, Greater}
 use Rattle.std.specs.FinMap.{FinMap, get, insert, entries, entries_sorted, find, get-entries}

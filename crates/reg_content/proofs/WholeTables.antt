@@ -1,6 +1,5 @@
 -- What the statements that list a whole table select, and what is made of its rows.
-use Rattle.std.proofs.Common.{◌≡◌, ℕ, true, List, [], ◌∷◌, codes, map, refl, ap, ◌∙◌}
-use Rattle.std.specs.FinMap.{entries}
+use Rattle.std.proofs.Common.{◌≡◌, true, [], ◌∷◌, codes, map, refl, ap, ◌∙◌}
 use Rattle.sqlite.specs.Listing.{understood}
 use Rattle.sqlite_tied.specs.Compute.{everything}
 use Rattle.std.proofs.lemmas.Simd.{map-map}

@@ -1,5 +1,5 @@
 -- When a change can be made to the rows of an office.
-use Rattle.std.specs.Prelude.{◌≡◌, ℕ, Bool, true, false, List, [], ◌∷◌, IsSome, Some, None, Result}
+use Rattle.std.specs.Prelude.{◌≡◌, ℕ, Bool, true, false, List, [], IsSome, Some, None, Result}
 use Rattle.std.specs.FinMap.{get, insert}
 use Rattle.sqlite.specs.Order.{Row}
 use Rattle.sqlite.specs.State.{State as Store}

@@ -5,7 +5,6 @@ ghost use Rattle.std.specs.List.{list_any};
 ghost use Rattle.sqlite.specs.Held.{state};
 ghost use Rattle.reg_maps.specs.Maps.{update};
 ghost use Rattle.reg_core.specs.World.{World};
-ghost use Rattle.reg_core.specs.declared.request.Case.{Case};
 ghost use Rattle.reg_core.specs.Minutes.{ask_with, is_renewal, with_minute};
 ghost use Rattle.reg_statements.specs.Parts.{Parts};
 ghost use Rattle.reg_content.specs.Calls.{IsKeeping, LooksIn, Steps};

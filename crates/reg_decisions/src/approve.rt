@@ -1,5 +1,4 @@
 //! A clerk approves a request.
-ghost use Rattle.std.specs.Prelude.{◌≡◌};
 ghost use Rattle.reg_core.specs.Advice.{is_advised as given_advice};
 ghost use Rattle.reg_core.specs.Allowance.{allowance_on};
 ghost use Rattle.reg_decisions.specs.Ground.{seen};

@@ -1,9 +1,9 @@
 -- What terms are, in words of days and dates.
-use Rattle.std.proofs.Common.{◌≡◌, ◌↔◌, ◌⊎◌, inl, inr, ℕ, ◌<◌, ◌≤◌, max, Bool, true, false, refl, ap, ◌∙◌, arith}
+use Rattle.std.proofs.Common.{◌≡◌, ◌↔◌, inl, inr, ℕ, ◌<◌, ◌≤◌, max, Bool, true, false, refl, ap, ◌∙◌, arith}
 use Rattle.std.proofs.lemmas.Bool.Decides.{nat_tests}
 use Rattle.std.specs.Prelude.{Option, Some, None, Result, Ok, Err, IsSome, is_some, option_map, ◌&&◌, not, if◌then◌else◌}
 use Rattle.reg_early.specs.Calendar.{IsDay, year_after}
-use Rattle.reg_early.specs.Laws.{IsYearAfter, IsRenewedFrom, MayGoOn}
+use Rattle.reg_early.specs.Laws.{IsRenewedFrom, MayGoOn}
 use Rattle.reg_early.specs.Terms.{status_until, status_on, is_spent, renewed_term, renewal, renewable, settled_term, settlement, settleable}
 use Rattle.reg_early.specs.declared.term.Term.{Term}
 use Rattle.reg_early.specs.declared.term.Status.TheVariants as status

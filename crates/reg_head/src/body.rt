@@ -1,5 +1,5 @@
 //! Reads the body of a request.
-ghost use Rattle.std.specs.Prelude.{◌≡◌, ◌≤◌, ◌<◌, ◌++◌, List, ℕ, OnOk, IfErr, length};
+ghost use Rattle.std.specs.Prelude.{◌≤◌, ◌<◌, OnOk, IfErr, length};
 ghost use Rattle.reg_head.specs.Pieces.{Grows, LacksBytes};
 ghost use Rattle.reg_head.specs.Watched.{IsWatched};
 

@@ -1,6 +1,6 @@
 //! What a history says of each subject, and what has to be recorded of facts.
 ghost use Rattle.std.specs.Prelude.{◌≡◌, ◌++◌, true, IfOk, IfErr, OnOk, option_to_list};
-ghost use Rattle.reg_history.specs.Replay.{NothingIsLost, StandsIf, after, changes_to, is_no_earlier, nothing, recorded, same_given, same_standing, stands, with_standing_at, SaysAfter};
+ghost use Rattle.reg_history.specs.Replay.{NothingIsLost, StandsIf, after, changes_to, is_no_earlier, recorded, same_given, same_standing, stands, with_standing_at, SaysAfter};
 ghost use Rattle.reg_history.specs.Subjects.{is_entry};
 ghost use Rattle.reg_history.specs.Said.{Says, said_by, DoesNotStand, TellsLoss};
 ghost use Rattle.reg_history.specs.declared.change.Change.TheVariants.{Term};

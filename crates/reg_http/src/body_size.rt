@@ -1,5 +1,4 @@
 //! How many bytes the body of an answer has that is being written.
-ghost use Rattle.std.specs.Prelude.{◌≡◌, ◌<◌, ◌≤◌};
 
 /// The empty line that ends the head of an answer, with the end of the line before (RFC 9112
 /// section 2.1).

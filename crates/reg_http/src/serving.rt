@@ -1,5 +1,5 @@
 //! Serves one request.
-ghost use Rattle.std.specs.Prelude.{◌≡◌, IfOk, IfErr};
+ghost use Rattle.std.specs.Prelude.{IfOk, IfErr};
 ghost use Rattle.reg_http.specs.Serving.{AnswersOver, IsAnswered, IsServed, FailsBy, call_at};
 ghost use Rattle.reg_http.specs.Meeting.{IsSentBy};
 ghost use Rattle.reg_http.specs.Responding.{IsUnanswered};

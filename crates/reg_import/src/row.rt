@@ -1,5 +1,5 @@
 //! Reads rows of a register.
-ghost use Rattle.std.specs.Prelude.{◌≡◌, IfOk, IfErr, if◌then◌else◌, Ok, Err};
+ghost use Rattle.std.specs.Prelude.{◌≡◌, IfOk, IfErr, Ok, Err};
 ghost use Rattle.csv.specs.Records.{fields_of};
 ghost use Rattle.reg_import.specs.Columns.{stands_in};
 ghost use Rattle.reg_import.specs.Faults.{IsFaultOfImport};

@@ -1,7 +1,7 @@
 -- What the requests of an import are allowed.
-use Rattle.std.proofs.Common.{◌≡◌, ◌∙◌, ℕ, ◌<◌, Bool, true, false, List, refl, sym, ap, arith}
-use Rattle.std.specs.Prelude.{Option, Some, None, Ok, IsNone, nat_lt, ◌&&◌}
-use Rattle.std.specs.Cmp.{first_so, second_so}
+use Rattle.std.proofs.Common.{◌≡◌, ℕ, Bool, true, false, List, refl}
+use Rattle.std.specs.Prelude.{Some, None, Ok, IsNone, nat_lt}
+use Rattle.std.specs.Cmp.{second_so}
 use Rattle.std.specs.FinMap.{get}
 use Rattle.std.proofs.lemmas.Bool.{ltb-true}
 use Rattle.reg_early.specs.EarlyRequirements.{early_unmet}

@@ -1,5 +1,5 @@
 -- A filing of an import: its lines are accepted, and give what its request is allowed.
-use Rattle.std.proofs.Common.{◌≡◌, ◌∙◌, ℕ, ◌+◌, Bool, true, false, cond, List, [], ◌∷◌, ◌++◌, refl, sym, ap, subst}
+use Rattle.std.proofs.Common.{◌≡◌, ◌∙◌, ℕ, Bool, true, false, cond, List, [], ◌∷◌, refl, sym, ap, subst}
 use Rattle.std.specs.Prelude.{◌≢◌, ◌&&◌, not, Option, Some, None, Ok, is_some, option_map}
 use Rattle.std.specs.Cmp.{first_so, second_so}
 use Rattle.std.specs.declared.cmp.Ordering.{Ordering}
@@ -15,13 +15,13 @@ use Rattle.reg_core.specs.File.{was_advised}
 use Rattle.reg_core.specs.Rules.{change_to_give}
 use Rattle.reg_core.specs.Step.{acts_as_clerk, is_clerk}
 use Rattle.reg_core.specs.View.{published}
-use Rattle.reg_core.specs.World.{World, RequestName, applied, in_state, name_cmp, pending, seat_cmp}
+use Rattle.reg_core.specs.World.{World, RequestName, applied, pending}
 use Rattle.reg_core.specs.declared.capability.Cap.{Cap}
 use Rattle.reg_core.specs.declared.capability.Kind.TheVariants.{Applicant, Expert}
 use Rattle.reg_core.specs.declared.change.Change.TheVariants as change
 use Rattle.reg_core.proofs.KeyOrders.{name_keys, seat_keys}
 use Rattle.reg_decisions.proofs.Files.{advised_is}
-use Rattle.reg_import.specs.Lines.{Filing, Line, advice_line, applicant_token, approval_line, assignment_line, expert_token, filing_lines, grant_line, review_lines, submission_line}
+use Rattle.reg_import.specs.Lines.{Filing, advice_line, applicant_token, approval_line, assignment_line, expert_token, filing_lines, grant_line, submission_line}
 use Rattle.reg_import.specs.declared.import.Import.{Import}
 use Rattle.reg_import_laws.specs.Imported.{FilingIsNew, imported}
 use Rattle.reg_import_laws.proofs.Steps.{LineDoes, Runs, advised, applicant_cap, approved, assigned, expert_cap, granted, runs_cons, runs_nil, submitted}

@@ -1,23 +1,22 @@
 -- The lines of an entry make it.
-use Rattle.std.proofs.Common.{◌≡◌, ◌∙◌, ℕ, ◌+◌, ◌-◌, ◌*◌, ◌<◌, ◌≤◌, suc, Bool, true, false, cond, List, [], ◌∷◌, ◌++◌, get_or, refl, sym, ap, subst, arith}
-use Rattle.std.specs.Prelude.{◌≢◌, ◌⊎◌, Option, Some, None, Result, Ok, Err, is_some, nat_lt, nat_le, ◌==◌, ◌&&◌, max, option_map, IsSome}
+use Rattle.std.proofs.Common.{◌≡◌, ◌∙◌, ℕ, ◌+◌, ◌-◌, ◌*◌, ◌<◌, ◌≤◌, Bool, true, false, cond, List, [], ◌++◌, get_or, refl, sym, ap, subst, arith}
+use Rattle.std.specs.Prelude.{◌≢◌, Option, Some, None, Result, Ok, Err, is_some, nat_lt, nat_le, ◌==◌, ◌&&◌, max, option_map, IsSome}
 use Rattle.std.specs.Cmp.{first_so, second_so}
 use Rattle.std.specs.FinMap.{get, insert}
 use Rattle.std.proofs.lemmas.Bool.{lt-ltb}
 use Rattle.std.proofs.lemmas.Slice.Eq.{bytes_eq-Decides}
 use Rattle.std.proofs.lemmas.Bool.Decides.{nat_tests}
 use Rattle.std.proofs.Math.Nat.{mul-div_cancel}
-use Rattle.reg_maps.specs.Maps.{same_text, update}
+use Rattle.reg_maps.specs.Maps.{same_text}
 use Rattle.reg_maps.proofs.MapLaws.{get-inserted, get-updated}
-use Rattle.reg_ranges.specs.Requirements.{first_item, is_expert_policy}
+use Rattle.reg_ranges.specs.Requirements.{is_expert_policy}
 use Rattle.reg_ranges.specs.Tables.{Table, treatment_of}
 use Rattle.reg_ranges.specs.declared.evidence.Evidence.{Evidence}
 use Rattle.reg_ranges.specs.declared.policy.Treatment.TheVariants.{Under}
-use Rattle.reg_early.specs.Calendar.{IsDay, year_after}
+use Rattle.reg_early.specs.Calendar.{year_after}
 use Rattle.reg_early.specs.Moment.{is_in_clock, utc_day}
 use Rattle.reg_early.specs.Forms.{is_day}
-use Rattle.reg_early.specs.Terms.{early_term, permanent_term, renewed_term}
-use Rattle.reg_early.specs.declared.term.Term.{Term}
+use Rattle.reg_early.specs.Terms.{early_term, permanent_term}
 use Rattle.reg_early.proofs.YearAfter.{later}
 use Rattle.reg_core.specs.Award.{Allowance, AwardedEntry, awarded_entry, entry_on, renewed}
 use Rattle.reg_core.specs.Allowance.{allowance_on, entry_asked, entry_asked_early, entry_kept, ground_of}
@@ -30,15 +29,15 @@ use Rattle.reg_core.specs.declared.ask.CodeAsk.{CodeAsk}
 use Rattle.reg_core.specs.declared.ask.EarlyAsk.{EarlyAsk}
 use Rattle.reg_core.specs.declared.ask.Want.TheVariants.{Value}
 use Rattle.reg_core.specs.declared.decide.Decision.TheVariants.{Make}
-use Rattle.reg_core.specs.Step.{acts_as_clerk, is_clerk}
+use Rattle.reg_core.specs.Step.{acts_as_clerk}
 use Rattle.reg_core.specs.WellKept.{WellKept}
 use Rattle.reg_core.specs.World.{World, Place, RequestName, applied}
 use Rattle.reg_core.specs.declared.change.Change.TheVariants as change
 use Rattle.reg_core.specs.declared.entry.Registration.{Registration}
 use Rattle.reg_core.proofs.KeyOrders.{place_keys}
 use Rattle.reg_import.specs.Days.{midnight, or_else, year_before, year_before_by}
-use Rattle.reg_import.specs.Lines.{Filing, Line, applicant_token, entry_filing, entry_lines, filing_lines, hold_line, hold_lines, later_lines, reference_of, renewal_filing, renewal_lines}
-use Rattle.reg_import.specs.Rows.{may_renew, renewal_for, renewal_on, row_in}
+use Rattle.reg_import.specs.Lines.{Filing, applicant_token, entry_filing, entry_lines, filing_lines, hold_line, hold_lines, renewal_filing, renewal_lines}
+use Rattle.reg_import.specs.Rows.{may_renew, renewal_for, renewal_on}
 use Rattle.reg_import.specs.declared.entry.EarlyStanding.{EarlyStanding}
 use Rattle.reg_import.specs.declared.entry.ListedEntry.{ListedEntry}
 use Rattle.reg_import.specs.declared.entry.Standing.{Standing}
@@ -46,10 +45,10 @@ use Rattle.reg_import.specs.declared.entry.Standing.TheVariants.{ForGood, Early}
 use Rattle.reg_import.specs.declared.fault.RowFault.{RowFault}
 use Rattle.reg_import.specs.declared.fault.RowFault.TheVariants as fault
 use Rattle.reg_import.specs.declared.import.Import.{Import}
-use Rattle.reg_import_laws.specs.Imported.{AreMade, EntriesAreMade, FilingIsNew, IsNewRenewal, IsReadyFor, events_of, registration_said}
+use Rattle.reg_import_laws.specs.Imported.{AreMade, EntriesAreMade, IsNewRenewal, IsReadyFor, events_of, registration_said}
 use Rattle.reg_import_laws.proofs.Allowed.{allowed_early, allowed_for_good, allowed_renewal, not_above}
 use Rattle.reg_import_laws.proofs.Filings.{CanFile, IsFiled, filed_by, other_at, other_updated}
-use Rattle.reg_import_laws.proofs.RowFacts.{IsRead, IsShown, read_row}
+use Rattle.reg_import_laws.proofs.RowFacts.{IsRead, read_row}
 use Rattle.reg_import_laws.proofs.Steps.{Runs, held, runs_append, runs_cons, runs_nil}
 
 -- ---- Days

@@ -1,5 +1,5 @@
 -- What is so of an entry that was read from a row.
-use Rattle.std.proofs.Common.{◌≡◌, ◌∙◌, ℕ, Bool, true, false, cond, List, Result, Ok, Err, Option, Some, None, refl, sym, ap, subst}
+use Rattle.std.proofs.Common.{◌≡◌, ℕ, Bool, true, false, cond, List, Result, Ok, Err, Option, Some, None, refl, subst}
 use Rattle.std.specs.Prelude.{◌&&◌, not, length, ◌==◌, if◌then◌else◌}
 use Rattle.std.specs.Str.{bytes_eq}
 use Rattle.reg_early.specs.EarlyRequirements.{early_unmet}

@@ -1,6 +1,6 @@
 -- The commands of an import, each a step that is accepted.
-use Rattle.std.proofs.Common.{◌≡◌, ◌∙◌, ℕ, ◌+◌, Bool, true, false, List, [], ◌∷◌, ◌++◌, map, refl, sym, ap, subst, arith}
-use Rattle.std.specs.Prelude.{◌&&◌, not, nat_le, Option, Some, None, Ok, is_some, All, option_and_then}
+use Rattle.std.proofs.Common.{◌≡◌, ◌∙◌, ℕ, ◌+◌, true, false, List, [], ◌∷◌, ◌++◌, refl, sym, ap, subst, arith}
+use Rattle.std.specs.Prelude.{◌&&◌, not, nat_le, Some, None, Ok, is_some, All}
 use Rattle.std.specs.FinMap.{get}
 use Rattle.std.proofs.lemmas.Bool.Decides.{nat_tests}
 use Rattle.std.proofs.lemmas.List.Elements.{All-nil, All-cons, All-append}
@@ -19,7 +19,7 @@ use Rattle.reg_core.specs.Rules.{change_to_give, hold_rule}
 use Rattle.reg_core.specs.Run.{run, step_of, world_after}
 use Rattle.reg_core.specs.Step.{acts_as_clerk, answer_to, desk_by}
 use Rattle.reg_core.specs.View.{as_queued, published, queue_of, requests_of}
-use Rattle.reg_core.specs.World.{World, RequestName, applied, applied_if, pending}
+use Rattle.reg_core.specs.World.{World, applied, applied_if, pending}
 use Rattle.reg_core.specs.Answer.{item}
 use Rattle.reg_core.specs.declared.ask.Ask.{Ask}
 use Rattle.reg_core.specs.declared.capability.Cap.{Cap}

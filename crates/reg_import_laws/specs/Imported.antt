@@ -1,5 +1,5 @@
 -- What the lines that make an entry do to an office.
-use Rattle.std.specs.Prelude.{◌≡◌, ◌≢◌, ℕ, true, false, List, Option, Some, None, is_some, map, All, codes, Ok}
+use Rattle.std.specs.Prelude.{◌≡◌, ◌≢◌, ℕ, true, false, List, Some, None, is_some, map, All, codes, Ok}
 use Rattle.std.specs.FinMap.{get}
 use Rattle.reg_early.specs.Terms.{permanent_term}
 use Rattle.reg_early.specs.declared.term.Term.{Term}
@@ -21,7 +21,6 @@ use Rattle.reg_core.specs.declared.command.ExpertCommand.TheVariants.{Advise}
 use Rattle.reg_core.specs.declared.command.ClerkCommand.TheVariants.{AssignExpert, Approve, SetHold, Grant}
 use Rattle.reg_core.specs.declared.entry.Registration.{Registration}
 use Rattle.reg_core.specs.declared.reply.Reply.{Reply}
-use Rattle.reg_import.specs.Days.{midnight}
 use Rattle.reg_import.specs.Lines.{Errand, grant, submit, assign, advise, approve, hold, Filing, Line, applicant_token, entry_filing, entry_lines, expert_token, renewal_filing}
 use Rattle.reg_import.specs.Rows.{row_in}
 use Rattle.reg_import.specs.declared.entry.EarlyStanding.{EarlyStanding}

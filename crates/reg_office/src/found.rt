@@ -1,5 +1,5 @@
 //! The first clerk.
-ghost use Rattle.std.specs.Prelude.{◌≡◌, Err, IfOk, IfErr, OnOk, OnErr, false};
+ghost use Rattle.std.specs.Prelude.{◌≡◌, Err, IfErr, OnOk, OnErr, false};
 ghost use Rattle.reg_core.specs.Laws.{clerk_cap as first_clerk};
 ghost use Rattle.reg_core.specs.Names.{is_token};
 ghost use Rattle.reg_keeper.specs.Keeper.{GoesOn};

@@ -1,5 +1,5 @@
 -- Why registries and their ranges are not fed to an audit.
-use Rattle.std.proofs.Common.{◌≡◌, ◌⊎◌, inl, inr, List, [], map, Some, refl, subst, sym, ◌∙◌}
+use Rattle.std.proofs.Common.{◌⊎◌, inl, inr, List, [], refl, subst, sym, ◌∙◌}
 use Rattle.std.specs.declared.cmp.Ordering.{Ordering}
 use Rattle.sqlite.specs.Order.{Row}
 use Rattle.sqlite.specs.Held.{Held, state}

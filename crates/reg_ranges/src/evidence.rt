@@ -155,7 +155,6 @@ pub struct Rfc {
 }
 
 impl Model for Rfc {
-    ghost use Rattle.std.specs.Prelude.{◌≤◌};
     ghost use Rattle.reg_ranges.specs.Rfcs.{PublishedRfc, IsRfcNumber};
 
     ghost Value = { PublishedRfc };

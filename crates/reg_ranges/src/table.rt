@@ -2,7 +2,7 @@
 ghost use Rattle.std.specs.Prelude.{◌≡◌, ◌<◌, ◌↔◌, find, option_map, Some, IfOk, IsOk, IsNone, IsTrue};
 ghost use Rattle.std.specs.Result.{result_err};
 ghost use Rattle.reg_ranges.specs.FaultTexts.{range_fault_text};
-ghost use Rattle.reg_ranges.specs.Faults.{fault_at, fault_from, first_fault};
+ghost use Rattle.reg_ranges.specs.Faults.{fault_at, first_fault};
 ghost use Rattle.reg_ranges.specs.Tables.{IsPartition, lies_in, treatment_of};
 
 use crate::formed::Formed;

@@ -4,7 +4,7 @@ ghost use Rattle.std.specs.Cmp.{partial_equiv_from_equiv};
 ghost use Rattle.std.specs.Cmp.Lexicographic.{slice_cmp, pointwise, nat_list_cmp_total, nat_list_eq_equiv, texts_po, texts_ties};
 ghost use Rattle.std.specs.Ordering.{nat_cmp};
 ghost use Rattle.std.specs.List.{list_all};
-ghost use Rattle.reg_ranges.specs.Texts.{is_text_byte as text_byte, is_text as text, read_text, ascii_text};
+ghost use Rattle.reg_ranges.specs.Texts.{is_text_byte as text_byte, is_text as text, read_text};
 
 use crate::formed::Formed;
 use std::alloc::{AllocError, Global};

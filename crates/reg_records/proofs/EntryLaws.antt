@@ -2,7 +2,7 @@
 use Rattle.std.proofs.Common.{◌≡◌, true, Some, refl, sym, ap, ◌∙◌, subst}
 use Rattle.std.proofs.lemmas.Bool.{and_from, not-true}
 use Rattle.std.proofs.lemmas.Option.{same_Some}
-use Rattle.sqlite.specs.Order.{Row, column}
+use Rattle.sqlite.specs.Order.{column}
 use Rattle.sqlite.specs.Values.{or_null}
 use Rattle.reg_early.specs.Forms.{is_day}
 use Rattle.reg_ranges.specs.Forms.{is_none_or}

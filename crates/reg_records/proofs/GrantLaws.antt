@@ -1,11 +1,10 @@
 -- The rows of `caps` keep capabilities: what is written reads back, and only that reads.
-use Rattle.std.proofs.Common.{◌≡◌, true, Some, refl, subst}
+use Rattle.std.proofs.Common.{◌≡◌, true, refl, subst}
 use Rattle.std.proofs.lemmas.Option.{same_Some}
-use Rattle.sqlite.specs.Order.{Row, column}
+use Rattle.sqlite.specs.Order.{column}
 use Rattle.reg_core.specs.Names.{is_name, is_digest}
 use Rattle.reg_records.specs.Caps.{grant_columns, grant_in, grant_values, is_grant, is_until}
 use Rattle.reg_records.specs.Laws.{KeepsRows}
-use Rattle.reg_records.specs.declared.caps.Grant.{Grant}
 use Rattle.reg_records.proofs.ColumnLaws.{both, column-at, column_some, formed_texts, keeps_rows, numbers, words}
 use Rattle.reg_core.proofs.WordsReadBack.{kinds_read}
 

@@ -1,12 +1,11 @@
 -- The rows of `holds` keep marks: what is written reads back, and only that reads.
-use Rattle.std.proofs.Common.{◌≡◌, true, Some, refl, subst}
+use Rattle.std.proofs.Common.{◌≡◌, true, refl, subst}
 use Rattle.std.proofs.lemmas.Option.{same_Some}
-use Rattle.sqlite.specs.Order.{Row, column}
+use Rattle.sqlite.specs.Order.{column}
 use Rattle.reg_core.specs.Names.{is_name}
 use Rattle.reg_records.specs.Columns.{is_number}
 use Rattle.reg_records.specs.Holds.{hold_columns, hold_in, hold_values, is_hold}
 use Rattle.reg_records.specs.Laws.{KeepsRows}
-use Rattle.reg_records.specs.declared.holds.Hold.{Hold}
 use Rattle.reg_records.proofs.ColumnLaws.{both, column-at, column_some, formed_texts, keeps_rows, numbers}
 
 pub holds_kept : KeepsRows hold_columns hold_in hold_values is_hold

@@ -8,7 +8,7 @@ use Rattle.sqlite.specs.declared.types.Value.TheVariants.{Text}
 use Rattle.reg_blocks.specs.Block.{SizedPrefix, first_address, is_block, make_block}
 use Rattle.reg_blocks.specs.Size.{address_count, word_of}
 use Rattle.reg_blocks.specs.declared.size.Size.{Size}
-use Rattle.reg_blocks.specs.declared.size.Size.TheVariants.{MaL, MaM, MaS}
+use Rattle.reg_blocks.specs.declared.size.Size.TheVariants.{MaL}
 use Rattle.reg_ranges.specs.Texts.{is_text}
 use Rattle.reg_core.specs.Names.{is_name}
 use Rattle.reg_core.specs.declared.holding.Holding.{Holding}

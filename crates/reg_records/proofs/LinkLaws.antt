@@ -1,11 +1,10 @@
 -- Rows keep links: what is written reads back, and only that reads.
-use Rattle.std.proofs.Common.{◌≡◌, true, Some, refl, subst}
+use Rattle.std.proofs.Common.{◌≡◌, true, refl, subst}
 use Rattle.std.proofs.lemmas.Option.{same_Some}
-use Rattle.sqlite.specs.Order.{Row, column}
+use Rattle.sqlite.specs.Order.{column}
 use Rattle.reg_core.specs.Names.{is_name}
 use Rattle.reg_records.specs.Links.{is_link, link_columns, link_in, link_values}
 use Rattle.reg_records.specs.Laws.{KeepsRows}
-use Rattle.reg_records.specs.declared.links.Link.{Link}
 use Rattle.reg_records.proofs.ColumnLaws.{both, column-at, column_some, formed_texts, keeps_rows}
 
 pub links_kept : KeepsRows link_columns link_in link_values is_link

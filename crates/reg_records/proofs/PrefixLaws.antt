@@ -1,6 +1,6 @@
 -- The rows of `pool` keep prefixes: what is written reads back, and only that reads.
-use Rattle.std.proofs.Common.{◌≡◌, ℕ, true, [], ◌∷◌, Some, ap}
-use Rattle.sqlite.specs.Order.{Row, column}
+use Rattle.std.proofs.Common.{[], ◌∷◌, ap}
+use Rattle.sqlite.specs.Order.{column}
 use Rattle.reg_records.specs.Columns.{is_number}
 use Rattle.reg_records.specs.Laws.{KeepsRows}
 use Rattle.reg_records.specs.Pool.{is_prefix, prefix_columns, prefix_in, prefix_values}

@@ -1,7 +1,7 @@
 -- The rows of `ranges` keep ranges: what is written reads back, and only that reads.
 use Rattle.std.proofs.Common.{◌≡◌, ℕ, true, List, [], ◌∷◌, Option, Some, None, refl, subst}
 use Rattle.std.proofs.lemmas.Option.{none-some, same_Some}
-use Rattle.sqlite.specs.Order.{Row, column}
+use Rattle.sqlite.specs.Order.{column}
 use Rattle.reg_ranges.specs.Forms.{is_none_or}
 use Rattle.reg_ranges.specs.Texts.{is_text, read_text}
 use Rattle.reg_ranges.proofs.WordsReadBack.{treatments_read}
@@ -9,7 +9,6 @@ use Rattle.reg_core.specs.Names.{is_name}
 use Rattle.reg_records.specs.Columns.{is_number}
 use Rattle.reg_records.specs.Laws.{KeepsRows}
 use Rattle.reg_records.specs.Ranges.{is_registry_range, note_text, range_columns, range_in, range_values, read_note}
-use Rattle.reg_records.specs.declared.ranges.RegistryRange.{RegistryRange}
 use Rattle.reg_records.proofs.ColumnLaws.{ReadsTexts, both, column-at, column_some, formed_texts, keeps_rows, let_through, map_some, numbers, texts, words}
 
 -- ---- Notes

@@ -1,12 +1,11 @@
 -- The rows of `registries` keep registries: what is written reads back, and only that reads.
-use Rattle.std.proofs.Common.{◌≡◌, true, Some, refl, subst}
+use Rattle.std.proofs.Common.{◌≡◌, true, refl, subst}
 use Rattle.std.proofs.lemmas.Option.{same_Some}
-use Rattle.sqlite.specs.Order.{Row, column}
+use Rattle.sqlite.specs.Order.{column}
 use Rattle.reg_core.specs.Names.{is_name}
 use Rattle.reg_records.specs.Columns.{is_number}
 use Rattle.reg_records.specs.Laws.{KeepsRows}
 use Rattle.reg_records.specs.Registries.{registry_columns, registry_in, registry_values, is_registry}
-use Rattle.reg_records.specs.declared.registries.Registry.{Registry}
 use Rattle.reg_records.proofs.ColumnLaws.{both, column-at, column_some, formed_texts, keeps_rows, numbers}
 
 pub registries_kept : KeepsRows registry_columns registry_in registry_values is_registry

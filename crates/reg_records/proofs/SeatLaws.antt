@@ -1,11 +1,10 @@
 -- The rows of `queue` keep seats: what is written reads back, and only that reads.
-use Rattle.std.proofs.Common.{◌≡◌, true, Some, refl, subst}
+use Rattle.std.proofs.Common.{◌≡◌, true, refl, subst}
 use Rattle.std.proofs.lemmas.Option.{same_Some}
-use Rattle.sqlite.specs.Order.{Row, column}
+use Rattle.sqlite.specs.Order.{column}
 use Rattle.reg_core.specs.Names.{is_name}
 use Rattle.reg_records.specs.Laws.{KeepsRows}
 use Rattle.reg_records.specs.Queue.{seat_columns, seat_in, seat_values, is_seat}
-use Rattle.reg_records.specs.declared.queue.Seat.{Seat}
 use Rattle.reg_records.proofs.ColumnLaws.{both, column-at, column_some, formed_texts, keeps_rows}
 
 pub seats_kept : KeepsRows seat_columns seat_in seat_values is_seat

@@ -1,6 +1,6 @@
 -- The rows of `office` keep versions: what is written reads back, and only that reads.
-use Rattle.std.proofs.Common.{◌≡◌, ℤ, true, [], ◌∷◌, Some, refl, ap}
-use Rattle.sqlite.specs.Order.{Row, column}
+use Rattle.std.proofs.Common.{[], ◌∷◌, refl, ap}
+use Rattle.sqlite.specs.Order.{column}
 use Rattle.reg_records.specs.Laws.{KeepsRows}
 use Rattle.reg_records.specs.Office.{is_version, version_columns, version_in, version_values}
 use Rattle.reg_records.proofs.ColumnLaws.{ints}

@@ -1,5 +1,5 @@
 //! What copies the store of an office that is looked at.
-ghost use Rattle.std.specs.Prelude.{IsTrue, IfErr, IfOk};
+ghost use Rattle.std.specs.Prelude.{IsTrue, IfErr};
 ghost use Rattle.sqlite_disk.specs.Memory.{memory_bytes, memory_is_usable};
 ghost use Rattle.reg_sql.specs.Looking.{CopiesFiles, IsOfCopies, IsOfReading};
 ghost use Rattle.reg_sql.specs.Snapshots.{ReadsFiles, image_with};

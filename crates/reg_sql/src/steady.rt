@@ -16,7 +16,7 @@ pub const TRIES: u32 = 10;
 
 /// An office's file and its log, which are read, and which another may be writing meanwhile.
 pub trait Original {
-    ghost use Rattle.std.specs.Prelude.{ℕ, List, [] as nothing};
+    ghost use Rattle.std.specs.Prelude.{List, [] as nothing};
     ghost use Rattle.reg_sql.specs.Steady.{CopyReading};
 
     /// Whether what follows is known.

@@ -26,14 +26,14 @@ use Rattle.sqlite.specs.Term.{Term}
 use Rattle.sqlite.specs.Source.{Source}
 use Rattle.sqlite.specs.Source.TheVariants.{Values}
 use Rattle.sqlite.specs.Command.TheVariants.{Insert}
-use Rattle.sqlite.specs.Does.{AtPlace, OnRows, Concludes}
-use Rattle.sqlite.specs.Rows.{Written, Task, Part, Then, Gives, Sourced, Edited, Inserts, Counter}
+use Rattle.sqlite.specs.Does.{AtPlace, OnRows}
+use Rattle.sqlite.specs.Rows.{Written, Task, Part, Then, Gives, Edited, Inserts}
 use Rattle.sqlite.specs.Rows.{Counts, stamped, higher, count_of, last_id, rowids_for}
 use Rattle.sqlite.specs.Effect.{Database, IsSource, value_rows}
 use Rattle.sqlite.specs.declared.error.Error.{Error}
 use Rattle.sqlite.specs.State.{State, mode_of, Executes}
 use Rattle.sqlite.specs.Listing.{understood}
-use Rattle.sqlite.proofs.Callers.{IsPlain, command_of, runs_as, one_step, through}
+use Rattle.sqlite.proofs.Callers.{IsPlain, command_of, runs_as, one_step}
 use Rattle.reg_tables.specs.Schema.{office_schema}
 use Rattle.reg_tables.specs.Inserting.{AddedRow, AddedTo}
 use Rattle.reg_tables.proofs.Library.EachOf.{all_if, all_then}

@@ -1,6 +1,6 @@
 //! Whether a store has the tables of an office.
 
-ghost use Rattle.std.specs.Prelude.{◌≡◌, ◌==◌, ◌≤◌, false, not, IsTrue, IfOk, [], drop, filter, length, take};
+ghost use Rattle.std.specs.Prelude.{◌≡◌, ◌==◌, ◌≤◌, false, not, IsTrue, IfOk, drop, filter, length, take};
 ghost use Rattle.std.specs.List.{AllByRecursion};
 ghost use Rattle.sqlite_catalog.specs.Change.{is_used};
 ghost use Rattle.reg_tables.specs.Schema.{office_schema, office_table};

@@ -1,5 +1,5 @@
 //! Runs of numbers in a map, from the first to the last number of each. Two runs may touch.
-ghost use Rattle.std.specs.Prelude.{◌≡◌, ℕ, ◌+◌, ◌^◌, ◌<◌, ◌≤◌, ◌⊎◌, ◌↔◌, OnOk, OnErr};
+ghost use Rattle.std.specs.Prelude.{ℕ, ◌+◌, ◌^◌, ◌<◌, ◌≤◌, ◌⊎◌, ◌↔◌, OnOk, OnErr};
 ghost use Rattle.std.specs.BTreeMap.{IsUnchanged};
 ghost use Rattle.reg_maps.specs.Spans.{IsRun, Lies};
 ghost use Rattle.reg_vacancies.specs.BlockSpans.{AreDisjoint, BeginsIn, IsBelow, IsCut, IsInside, IsLeast, IsOutside, Splits};

@@ -1,5 +1,5 @@
 //! The pool, and the free places in it, from which blocks are given in any order.
-ghost use Rattle.std.specs.Prelude.{◌≡◌, ℕ, [], ◌⊎◌, ◌↔◌, List, Contains, IsTrue, Ok, IfSome, IsNone, OnOk, OnErr};
+ghost use Rattle.std.specs.Prelude.{◌≡◌, [], ◌⊎◌, ◌↔◌, List, Contains, IsTrue, Ok, IfSome, IsNone, OnOk, OnErr};
 ghost use Rattle.reg_blocks.specs.Block.{SizedPrefix, Clash, leading_24};
 ghost use Rattle.reg_blocks.specs.Due.{IsDue, NoneIsFree, block_due};
 ghost use Rattle.reg_blocks.specs.Pool.{is_pool_prefix, AddsPrefix, IsPool};

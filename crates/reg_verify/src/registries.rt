@@ -1,5 +1,5 @@
 //! What the files of a published folder publish, as facts.
-ghost use Rattle.std.specs.Prelude.{true, List, Some, None, OnOk, IfOk, IfErr, All};
+ghost use Rattle.std.specs.Prelude.{true, List, Some, None, OnOk, IfOk, IfErr};
 ghost use Rattle.reg_history.specs.declared.change.Record.{Record};
 ghost use Rattle.reg_print.specs.Listing.{listing_text};
 ghost use Rattle.reg_verify.specs.declared.part.Part.TheVariants as part;

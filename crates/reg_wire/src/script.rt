@@ -1,5 +1,5 @@
 //! A script: its lines are answered in turn.
-ghost use Rattle.std.specs.Prelude.{◌≡◌, OnOk, IfErr};
+ghost use Rattle.std.specs.Prelude.{OnOk, IfErr};
 ghost use Rattle.reg_wire.specs.Script.Lines.{AnswersAll, StopsAt};
 ghost use Rattle.reg_wire.specs.Script.Answers.{ServesOver};
 

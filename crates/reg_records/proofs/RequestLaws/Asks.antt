@@ -13,10 +13,6 @@ use Rattle.reg_core.specs.Ask.{has_ask_form, has_block_form, has_note_form, has_
 use Rattle.reg_core.specs.Names.{is_name}
 use Rattle.reg_core.specs.declared.ask.Ask.{Ask}
 use Rattle.reg_core.specs.declared.ask.Ask.TheVariants as ask
-use Rattle.reg_core.specs.declared.ask.BlockAsk.{BlockAsk}
-use Rattle.reg_core.specs.declared.ask.CodeAsk.{CodeAsk}
-use Rattle.reg_core.specs.declared.ask.EarlyAsk.{EarlyAsk}
-use Rattle.reg_core.specs.declared.ask.PermanenceAsk.{PermanenceAsk}
 use Rattle.reg_core.specs.declared.ask.RenewalAsk.{RenewalAsk}
 use Rattle.reg_records.specs.Columns.{is_number}
 use Rattle.reg_core.specs.Minutes.{is_bare}

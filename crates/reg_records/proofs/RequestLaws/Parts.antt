@@ -11,13 +11,11 @@ use Rattle.reg_ranges.specs.Forms.{is_none_or, is_rfc, has_evidence_form}
 use Rattle.reg_ranges.specs.Rfcs.{PublishedRfc}
 use Rattle.reg_ranges.specs.Texts.{is_text}
 use Rattle.reg_ranges.specs.Words.{policy_word, read_policy, stream_word, read_stream, track_word, read_track}
-use Rattle.reg_ranges.specs.declared.evidence.Evidence.{Evidence}
 use Rattle.reg_ranges.specs.declared.evidence.Stream.{Stream}
 use Rattle.reg_ranges.specs.declared.evidence.Track.{Track}
 use Rattle.reg_ranges.specs.declared.policy.Policy.{Policy}
 use Rattle.reg_ranges.proofs.WordsReadBack.{policies_read, streams_read, tracks_read}
 use Rattle.reg_early.specs.Forms.{has_early_form}
-use Rattle.reg_early.specs.declared.evidence.EarlyEvidence.{EarlyEvidence}
 use Rattle.reg_core.specs.Ask.{has_rfc_form, has_want_form}
 use Rattle.reg_core.specs.declared.ask.Want.{Want}
 use Rattle.reg_core.specs.declared.ask.Want.TheVariants as want

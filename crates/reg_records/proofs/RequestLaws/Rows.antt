@@ -11,12 +11,12 @@ use Rattle.reg_core.specs.Names.{is_name}
 use Rattle.reg_core.specs.Request.{case_of, has_state_form}
 use Rattle.reg_core.specs.WellKept.{has_request_form}
 use Rattle.reg_core.specs.declared.ask.Ask.{Ask}
-use Rattle.reg_core.specs.declared.ask.Ask.TheVariants.{Code, Early, Renew, Permanent, Block}
+use Rattle.reg_core.specs.declared.ask.Ask.TheVariants.{Code, Renew}
 use Rattle.reg_core.specs.declared.request.Request.{Request}
 use Rattle.reg_core.specs.declared.request.Given.{Given}
 use Rattle.reg_core.specs.declared.request.Given.TheVariants as given
 use Rattle.reg_core.specs.declared.request.State.{State}
-use Rattle.reg_core.specs.declared.request.State.TheVariants.{Pending, Approved, Declined, Withdrawn}
+use Rattle.reg_core.specs.declared.request.State.TheVariants.{Approved}
 use Rattle.reg_records.specs.Laws.{KeepsRows}
 use Rattle.reg_records.specs.Requests.Forms.{gives_its_kind, is_of_kind, is_request}
 use Rattle.reg_records.specs.Requests.Laws.{RequestsReadBare, StatesAreReplaced, with_state}

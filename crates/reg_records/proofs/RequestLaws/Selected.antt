@@ -3,7 +3,7 @@ use Rattle.std.proofs.Common.{◌≡◌, Option, Some, None, refl}
 use Rattle.sqlite.specs.Order.{Row, column}
 use Rattle.reg_core.specs.declared.ask.Ask.{Ask}
 use Rattle.reg_core.specs.declared.request.StateWord.{StateWord}
-use Rattle.reg_core.specs.declared.request.StateWord.TheVariants.{Pending, Approved, Declined, Withdrawn}
+use Rattle.reg_core.specs.declared.request.StateWord.TheVariants.{Pending}
 use Rattle.reg_core.specs.AskKind.{read_ask_kind}
 use Rattle.reg_core.specs.Request.{read_state}
 use Rattle.reg_core.specs.declared.ask_kind.AskKind.{AskKind}

@@ -9,7 +9,7 @@ use Rattle.sqlite.specs.declared.types.Value.{Value}
 use Rattle.sqlite.specs.declared.types.ValueRef.{ValueRef}
 use Rattle.sqlite.specs.declared.types.ValueRef.TheVariants.{Null}
 use Rattle.reg_core.specs.declared.ask.Ask.{Ask}
-use Rattle.reg_core.specs.declared.ask.Ask.TheVariants.{Code, Early, Renew, Permanent, Block}
+use Rattle.reg_core.specs.declared.ask.Ask.TheVariants.{Code}
 use Rattle.reg_records.specs.Requests.Reading.{columns}
 use Rattle.reg_records.specs.Requests.Values.{asked_values, block_wanted_values, early_shown_values, shown_values, wanted_values}
 

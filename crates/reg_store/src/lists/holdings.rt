@@ -5,7 +5,6 @@ ghost use Rattle.reg_maps.specs.Maps.{update, finite_map};
 ghost use Rattle.reg_blocks.specs.Block.{block_cmp};
 ghost use Rattle.reg_core.specs.Holding.{holder_in, holding_row as holding_of, holding_rows, listed_rows, masked_blocks, with_mark};
 ghost use Rattle.reg_core.specs.View.{holdings_of};
-ghost use Rattle.reg_core.specs.World.{empty_world};
 ghost use Rattle.reg_store.specs.Lists.Held.{AreHeld, account_of, all_held};
 
 use crate::groups::{change_row, list_group, put_row, row_in, take_row};

@@ -2,9 +2,8 @@
 use Rattle.std.proofs.Common.{◌≡◌, ℕ, Bool, true, false, if◌then◌else◌, List, [], length, ◌==◌}
 use Rattle.std.proofs.Common.{Option, Some, None, Ok, refl, ap, subst, inl, inr, slice_get}
 use Rattle.std.proofs.lemmas.Bool.{cases_Bool}
-use Rattle.sqlite.proofs.Callers.{through}
 use Rattle.sqlite.specs.Clock.{timed as timed_with}
-use Rattle.sqlite.specs.Does.{Tally, AtPlace, OnTable, OnRows, Concludes, WritesRows as WrittenBy}
+use Rattle.sqlite.specs.Does.{Tally, AtPlace, OnTable, OnRows}
 use Rattle.sqlite.specs.Effect.{Database}
 use Rattle.sqlite.specs.Order.{Row}
 use Rattle.sqlite.specs.Rows.{Part, Task}

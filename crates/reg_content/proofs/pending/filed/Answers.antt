@@ -1,4 +1,3 @@
-use Rattle.reg_core.specs.declared.case_file.CaseFile.{CaseFile}
 use Rattle.reg_content.proofs.Looking.{looks_told}
 use Rattle.reg_content.proofs.pending.filed.Goals as goal
 

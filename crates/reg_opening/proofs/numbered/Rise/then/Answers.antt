@@ -1,4 +1,4 @@
-use Rattle.std.proofs.Common.{◌≡◌, false, int_cmp, IsTrue, Some, ap, sym, subst, ◌∙◌, rules}
+use Rattle.std.proofs.Common.{◌≡◌, false, int_cmp, ap, sym, subst, ◌∙◌, rules}
 use Rattle.std.specs.declared.cmp.Ordering.TheVariants.{Less}
 use Rattle.reg_opening.specs.Numbered.{last_of}
 use Rattle.reg_opening.proofs.RowidLemmas.{first_rises, next_rises, parted, rises_to}
