@@ -63,7 +63,10 @@ fn with_job<'a>(
     ensures { IfOk result (λ c. IsOkAnd program.entry (λ p.
         IsOkAnd job.entry (λ j. AddsSubcommand p j c))) }
 {
-    program?.subcommand(job?)
+    match (program, job) {
+        (Ok(program), Ok(job)) => program.subcommand(job),
+        _ => Err(AllocError),
+    }
 }
 
 // A command with its texts, and no argument yet.
