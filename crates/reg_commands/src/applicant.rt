@@ -13,6 +13,7 @@ ghost use Rattle.reg_commands.specs.Performs.{LooksUp, Performs};
 
 use crate::agents::{list_agents, list_principal_rows, list_principals, set_agent};
 use crate::carrying::{conclude, conclude_on};
+use crate::decisions::{decide_submit, decide_withdraw};
 use crate::ground::ground_if;
 use crate::holdings::{list_holdings, set_listing};
 use crate::stop::Stop;
@@ -23,7 +24,6 @@ use reg_core::refusal::Refusal;
 use reg_core::request::{Request, State};
 use reg_core::text::{Account, Ref};
 use reg_core::told::Told;
-use reg_decisions::{decide_submit, decide_withdraw};
 use reg_keeper::keeper::Keeper;
 use reg_ranges::formed::Formed;
 use std::alloc::AllocError;

@@ -6,13 +6,13 @@ ghost use Rattle.reg_commands.specs.Performs.{Performs};
 ghost use Rattle.reg_commands.specs.Rows.{marked_row};
 
 use crate::carrying::conclude;
+use crate::decisions::decide_private;
 use crate::stop::Stop;
 use reg_blocks::block::Block;
 use reg_core::holding::Holding;
 use reg_core::refusal::Refusal;
 use reg_core::text::Account;
 use reg_core::told::Told;
-use reg_decisions::decide_private;
 use reg_keeper::keeper::Keeper;
 
 /// The applicant's own blocks.

@@ -9,6 +9,7 @@ pub mod capabilities;
 pub mod carrying;
 pub mod clerk;
 pub mod counting;
+pub mod decisions;
 mod desk;
 mod digest;
 pub mod expert;

@@ -7,13 +7,13 @@ ghost use Rattle.reg_commands.specs.Performs.{Performs};
 ghost use Rattle.reg_commands.specs.Rows.{held_row};
 
 use crate::carrying::conclude;
+use crate::decisions::{decide_define, decide_hold, decide_pool};
 use crate::public::show;
 use crate::stop::Stop;
 use reg_core::entry::Entry;
 use reg_core::refusal::Refusal;
 use reg_core::text::Name;
 use reg_core::told::Told;
-use reg_decisions::{decide_define, decide_hold, decide_pool};
 use reg_early::day::Day;
 use reg_keeper::keeper::Keeper;
 use reg_ranges::formed::Formed;

@@ -3,3 +3,5 @@ pub mod Entries
 pub mod OtherMaps
 pub mod Changes
 pub mod FirstWorlds
+pub mod Blocks
+pub mod RunsKeepWell

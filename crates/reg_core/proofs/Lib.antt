@@ -10,3 +10,11 @@ pub mod ValuesIn
 pub mod Terms
 pub mod Checks
 pub mod Keeping
+pub mod Common
+pub mod Stepping
+pub mod Blocks
+pub mod Files
+pub mod Allowances
+pub mod Chosen
+pub mod Outcomes
+pub mod Fitting

@@ -20,7 +20,7 @@ use Rattle.reg_core.specs.declared.capability.Cap.{Cap}
 use Rattle.reg_core.specs.declared.capability.Kind.TheVariants.{Applicant, Expert}
 use Rattle.reg_core.specs.declared.change.Change.TheVariants as change
 use Rattle.reg_core.proofs.KeyOrders.{name_keys, seat_keys}
-use Rattle.reg_decisions.proofs.Files.{advised_is}
+use Rattle.reg_core.proofs.Files.{advised_is}
 use Rattle.reg_import.specs.Lines.{Filing, advice_line, applicant_token, approval_line, assignment_line, expert_token, filing_lines, grant_line, submission_line}
 use Rattle.reg_import.specs.declared.import.Import.{Import}
 use Rattle.reg_import_laws.specs.Imported.{FilingIsNew, imported}

@@ -38,7 +38,7 @@ use Rattle.reg_core.specs.declared.reply.Reply.TheVariants.{Accepted}
 use Rattle.reg_core.specs.declared.told.Told.{Told}
 use Rattle.reg_core.specs.declared.told.Told.TheVariants as tells
 use Rattle.reg_core.proofs.Queues.{found_queued}
-use Rattle.reg_decisions.proofs.Stepping.{own_request}
+use Rattle.reg_core.proofs.Stepping.{own_request}
 use Rattle.reg_import.specs.Lines.{Line}
 use Rattle.reg_import_laws.specs.Imported.{command_of, event_of, events_of, imported}
 

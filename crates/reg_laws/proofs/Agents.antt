@@ -1,8 +1,8 @@
 -- How what an account sees of agents and principals changes with what it says of an agent.
 use Rattle.std.proofs.Common.{◌≡◌, ℕ, Bool, true, false, cond, List, refl, ap, ◌∙◌}
 use Rattle.std.specs.Prelude.{Option, Some, None, is_some}
-use Rattle.reg_decisions.proofs.Common.{eq_by_cmp, get, contains_key, both_ways, same_text, only_if, select}
-use Rattle.reg_decisions.proofs.Common.{principals_of, principal_rows_of, link_keys, same_text-itself}
+use Rattle.reg_core.proofs.Common.{eq_by_cmp, get, contains_key, both_ways, same_text, only_if, select}
+use Rattle.reg_core.proofs.Common.{principals_of, principal_rows_of, link_keys, same_text-itself}
 use Rattle.std.specs.FinSet.{FinSet}
 use Rattle.reg_maps.proofs.MapLaws.{tied, get-at_insert, get-at_remove, select-insert_same, select-remove_same, select-insert_unchosen, select-remove_unchosen}
 use Rattle.reg_core.specs.World.{World, Link, link_cmp, with_link}

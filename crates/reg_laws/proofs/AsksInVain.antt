@@ -2,12 +2,14 @@
 -- the permanence of an entry that is not the account's own, whoever has it.
 use Rattle.std.proofs.Common.{◌≡◌, ℕ, Bool, true, false, List, refl, sym, ap, subst, ◌∙◌}
 use Rattle.std.specs.Prelude.{Option, Some, None, Result, Ok, Err, is_some, option_map, if◌then◌else◌}
-use Rattle.reg_decisions.proofs.Common.{FinMap, get, bytes_eq-Decides, same_text, early_unmet, is_in_clock}
-use Rattle.reg_decisions.proofs.Common.{first_item, unmet, Table, Answer, admitted, as_kind, by_rule}
-use Rattle.reg_decisions.proofs.Common.{change_of, made_row, reply_of, same_ask, submit_rule, answer_to}
-use Rattle.reg_decisions.proofs.Common.{published, Personal, personal, cap_at, with_personal, World, Place}
-use Rattle.reg_decisions.proofs.Common.{RequestName, place_cmp, applied_if, Ask, Want, Cap, Told, Decision}
-use Rattle.reg_decisions.proofs.Common.{Registration, Refusal, Case, Given, Same, by_test}
+use Rattle.reg_core.proofs.Common.{FinMap, get, bytes_eq-Decides, same_text, early_unmet, is_in_clock}
+use Rattle.reg_core.proofs.Common.{first_item, unmet, Table, Answer, admitted, as_kind, by_rule}
+use Rattle.reg_core.proofs.Common.{change_of, made_row, reply_of, same_ask, submit_rule, answer_to}
+use Rattle.reg_core.proofs.Common.{published, Personal, personal, cap_at, with_personal, World, Place}
+use Rattle.reg_core.proofs.Common.{RequestName, place_cmp, applied_if}
+use Rattle.reg_laws.proofs.Types.{Ask, Want, Cap, Told, Decision}
+use Rattle.reg_core.proofs.Common.{by_test}
+use Rattle.reg_laws.proofs.Types.{Registration, Refusal, Case, Given, Same}
 use Rattle.reg_core.specs.Allowance.{◌>>=◌, or_refusal, policy_for, is_met, is_met_early, value_for, value_ground, own_entry, code_allowance, early_allowance, allowed}
 use Rattle.reg_core.specs.EarlyAllocations.{WantsNew, ExpiredValuesAreTaken, IsOfEntry, HasNoEntry, ForeignEntriesAreHidden}
 use Rattle.reg_core.specs.declared.ask.Ask.TheVariants.{Code, Early, Renew, Permanent, Block}
@@ -16,7 +18,7 @@ use Rattle.reg_core.specs.declared.capability.Kind.TheVariants as kind
 use Rattle.reg_core.specs.declared.command.Command.TheVariants.{Applicant}
 use Rattle.reg_core.specs.declared.command.ApplicantCommand.TheVariants as applicant
 use Rattle.reg_core.specs.declared.refusal.Refusal.TheVariants as no
-use Rattle.reg_decisions.proofs.Outcomes.Dues.{changes_due}
+use Rattle.reg_core.proofs.Outcomes.Dues.{changes_due}
 
 -- ---- Refusals in turn
 

@@ -2,15 +2,17 @@
 -- hidden.
 use Rattle.std.proofs.Common.{◌≡◌, ℕ, Bool, true, false, List, refl, sym, ap, subst, ◌∙◌, inl, inr}
 use Rattle.std.specs.Prelude.{Option, Some, None, Ok, Err, IsSome, is_some, option_map, option_and_then, ◌⊎◌, if◌then◌else◌}
-use Rattle.reg_decisions.proofs.Common.{first_so, second_so, FinMap, get, contains_key, bytes_eq-Decides}
-use Rattle.reg_decisions.proofs.Common.{same_text, only_if, same_at, get-select, SizedPrefix, block_cmp}
-use Rattle.reg_decisions.proofs.Common.{leading_24, is_in_clock, Answer, admitted, as_kind, change_of}
-use Rattle.reg_decisions.proofs.Common.{reply_of, by_rule, same_size, masked, masked_blocks, ShownHolding}
-use Rattle.reg_decisions.proofs.Common.{holding_row, with_mark, GivesDigests, private_rule, world_after}
-use Rattle.reg_decisions.proofs.Common.{answer_to, published, Personal, personal, holdings_of, view_of}
-use Rattle.reg_decisions.proofs.Common.{cap_at, with_personal, WellKept, is_held_by, stands_in, World}
-use Rattle.reg_decisions.proofs.Common.{pending, applied_if, Ask, BlockAsk, Cap, Holder, Holding, Given}
-use Rattle.reg_decisions.proofs.Common.{State, block_keys, same_size-is}
+use Rattle.reg_core.proofs.Common.{first_so, second_so, FinMap, get, contains_key, bytes_eq-Decides}
+use Rattle.reg_core.proofs.Common.{same_text, only_if, same_at, get-select, SizedPrefix, block_cmp}
+use Rattle.reg_core.proofs.Common.{leading_24, is_in_clock, Answer, admitted, as_kind, change_of}
+use Rattle.reg_core.proofs.Common.{reply_of, by_rule, same_size, masked, masked_blocks, ShownHolding}
+use Rattle.reg_core.proofs.Common.{holding_row, with_mark, GivesDigests, private_rule, world_after}
+use Rattle.reg_core.proofs.Common.{answer_to, published, Personal, personal, holdings_of, view_of}
+use Rattle.reg_core.proofs.Common.{cap_at, with_personal, WellKept, is_held_by, stands_in, World}
+use Rattle.reg_core.proofs.Common.{pending, applied_if}
+use Rattle.reg_laws.proofs.Types.{Ask, BlockAsk, Cap, Holder, Holding, Given}
+use Rattle.reg_core.proofs.Common.{block_keys, same_size-is}
+use Rattle.reg_laws.proofs.Types.{State}
 use Rattle.reg_core.specs.Allowance.{◌>>=◌, allowed, ground_of, or_refusal}
 use Rattle.reg_core.specs.BlocksGiven.{BlocksAreApart, IsDueIn, IsBlockGivenDuly, BlockAsksAreServedDuly, AreHidden, PrivateHoldersAreHidden, IsNotHeld, ForeignBlocksAreHidden}
 use Rattle.reg_core.specs.declared.ask.Ask.TheVariants.{Block}
@@ -19,10 +21,10 @@ use Rattle.reg_core.specs.declared.command.Command.TheVariants.{Applicant}
 use Rattle.reg_core.specs.declared.command.ApplicantCommand.TheVariants.{SetListing}
 use Rattle.reg_core.specs.declared.told.Told.TheVariants as tells
 use Rattle.reg_core.specs.declared.refusal.Refusal.TheVariants as no
-use Rattle.reg_decisions.proofs.Allowances.{allowance_of, allows_block}
-use Rattle.reg_decisions.proofs.Blocks.{due_is_due, holding_found}
-use Rattle.reg_decisions.proofs.Keeping.RunsKeepWell.{runs_keep}
-use Rattle.reg_decisions.proofs.Outcomes.Dues.{GivesBlock, changes_due}
+use Rattle.reg_core.proofs.Allowances.{allowance_of, allows_block}
+use Rattle.reg_core.proofs.Blocks.{due_is_due, holding_found}
+use Rattle.reg_core.proofs.Keeping.RunsKeepWell.{runs_keep}
+use Rattle.reg_core.proofs.Outcomes.Dues.{GivesBlock, changes_due}
 use Rattle.reg_laws.proofs.AsksInVain.{never_changes}
 use Rattle.reg_laws.proofs.TwoWorlds.{worlds_alike}
 

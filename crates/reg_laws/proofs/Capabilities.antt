@@ -3,17 +3,18 @@ use Rattle.std.proofs.Common.{◌≡◌, ℕ, suc, Bool, true, false, cond, ◌|
 use Rattle.std.specs.Prelude.{Option, Some, None, All, Contains}
 use Rattle.std.specs.FinMap.{FinMap, get, entries, remove}
 use Rattle.std.specs.List.{AllPairs, list_any}
-use Rattle.reg_decisions.proofs.Common.{false_from_ne_true, eq_by_cmp, eq_by_cmp_equiv, both_ways, text_cmp}
-use Rattle.reg_decisions.proofs.Common.{same_text, text_keys, tied, Contains-map, Contains-entries}
-use Rattle.reg_decisions.proofs.Common.{ascending-entries, get-at_remove, cap_row, cap_rows, caps_that}
-use Rattle.reg_decisions.proofs.Common.{TakesJust, HaveGone, has_token, World, without, Cap, CapRow}
-use Rattle.reg_decisions.proofs.Common.{same_text-itself}
+use Rattle.reg_core.proofs.Common.{false_from_ne_true, eq_by_cmp, eq_by_cmp_equiv, both_ways, text_cmp}
+use Rattle.reg_core.proofs.Common.{same_text, text_keys, tied, Contains-map, Contains-entries}
+use Rattle.reg_core.proofs.Common.{ascending-entries, get-at_remove, cap_row, cap_rows, caps_that}
+use Rattle.reg_core.proofs.Common.{TakesJust, HaveGone, has_token, World, without}
+use Rattle.reg_laws.proofs.Types.{Cap, CapRow}
+use Rattle.reg_core.proofs.Common.{same_text-itself}
 use Rattle.std.proofs.lemmas.List.{get_or-map, length-map}
 use Rattle.std.proofs.lemmas.List.Elements.{All-nil, All-cons, All-head, All-weaker, All-map, All-contains, filter_passes}
 use Rattle.std.proofs.lemmas.List.Folds.{list_any_none, list_any_at}
 use Rattle.std.proofs.lemmas.List.Kept.{AllPairs-filter}
 use Rattle.std.proofs.lemmas.Map.Keys.{IsDistinct-from_sorted, apart_from_distinct}
-use Rattle.reg_decisions.proofs.Chosen.{chosen_there}
+use Rattle.reg_core.proofs.Chosen.{chosen_there}
 
 -- ---- Without some of them
 

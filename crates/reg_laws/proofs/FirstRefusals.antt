@@ -1,8 +1,9 @@
 -- Of the refusals that apply to an ask the first is answered.
 use Rattle.std.proofs.Common.{◌≡◌, ◌<◌, ◌≤◌, ℕ, List, refl, sym, ◌∙◌, arith}
 use Rattle.std.specs.Prelude.{Option, Some, None, Result, is_some}
-use Rattle.reg_decisions.proofs.Common.{early_unmet, renewable, settleable, first_item, unmet, Table, Policy}
-use Rattle.reg_decisions.proofs.Common.{Allowance, SizedPrefix, Ask, Want, Refusal, was_some, own_is}
+use Rattle.reg_core.proofs.Common.{early_unmet, renewable, settleable, first_item, unmet, Table, Policy}
+use Rattle.reg_core.proofs.Common.{Allowance, SizedPrefix, was_some, own_is}
+use Rattle.reg_laws.proofs.Types.{Ask, Want, Refusal}
 use Rattle.reg_core.specs.Allowance.{Ground, ◌>>=◌, or_refusal, policy_for, is_met, is_met_early, value_for, own_entry, may_renew, may_settle, allowance_on}
 use Rattle.reg_core.specs.FirstRefusals.{want_of, Decides, UnderPolicy, IsAbove, IsShut, IsNotEarly, Lacks, Applies, line_of, FirstRefusalsAreAnswered}
 use Rattle.reg_core.specs.declared.ask.Ask.TheVariants.{Code, Early, Renew, Permanent, Block}

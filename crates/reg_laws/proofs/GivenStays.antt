@@ -1,25 +1,27 @@
 -- What a well kept world has stays in every run.
 use Rattle.std.proofs.Common.{◌≡◌, ℕ, Bool, true, false, cond, List, [], ◌∷◌, inl, inr, refl, sym, ap, subst, ◌∙◌}
 use Rattle.std.specs.Prelude.{Option, Some, None, IsSome, is_some, option_map}
-use Rattle.reg_decisions.proofs.Common.{false_from_ne_true, first_so, second_so, eq_by_cmp, update}
-use Rattle.reg_decisions.proofs.Common.{IsKeyOrder, number_keys, text_keys, tied, get-at_insert, get-update}
-use Rattle.reg_decisions.proofs.Common.{IsDay, is_in_clock, utc_day, Table, has_command_form, registration_in}
-use Rattle.reg_decisions.proofs.Common.{with_hold, holder_in, with_mark, SizedPrefix, IsDuly, place_of}
-use Rattle.reg_decisions.proofs.Common.{is_pending, Event, have_forms, step_of, world_after, WellKept, World}
-use Rattle.reg_decisions.proofs.Common.{RequestName, Place, Seat, place_cmp, seat_cmp, in_state, pending}
-use Rattle.reg_decisions.proofs.Common.{applied, applied_if, Advice, Ask, Change, Registration, Entry, Holder}
-use Rattle.reg_decisions.proofs.Common.{Holding, Case, State, Pending, Approved, name_keys, place_keys}
-use Rattle.reg_decisions.proofs.Common.{seat_keys, block_keys}
+use Rattle.reg_core.proofs.Common.{false_from_ne_true, first_so, second_so, eq_by_cmp, update}
+use Rattle.reg_core.proofs.Common.{IsKeyOrder, number_keys, text_keys, tied, get-at_insert, get-update}
+use Rattle.reg_core.proofs.Common.{IsDay, is_in_clock, utc_day, Table, has_command_form, registration_in}
+use Rattle.reg_core.proofs.Common.{with_hold, holder_in, with_mark, SizedPrefix, IsDuly, place_of}
+use Rattle.reg_core.proofs.Common.{is_pending, Event, have_forms, step_of, world_after, WellKept, World}
+use Rattle.reg_core.proofs.Common.{RequestName, Place, Seat, place_cmp, seat_cmp, in_state, pending}
+use Rattle.reg_core.proofs.Common.{applied, applied_if}
+use Rattle.reg_laws.proofs.Types.{Advice, Ask, Change, Registration, Entry, Holder}
+use Rattle.reg_core.proofs.Common.{name_keys, place_keys}
+use Rattle.reg_laws.proofs.Types.{Holding, Case, State, Pending, Approved}
+use Rattle.reg_core.proofs.Common.{seat_keys, block_keys}
 use Rattle.std.specs.declared.cmp.Ordering.{Ordering}
 use Rattle.std.specs.FinMap.{FinMap, get, insert}
 use Rattle.reg_maps.proofs.KeySets.{still_in}
 use Rattle.reg_early.proofs.MomentsHaveDays.{IsDay-utc_day}
 use Rattle.reg_core.specs.Laws.{GivesDigests, GivenStays, renewed_by, IsRenewedIn, SameReview, StaysGiven, StillGiven, StillHeld, StillStands, StillAsks}
 use Rattle.reg_core.specs.declared.request.Given.TheVariants.{Value, Block}
-use Rattle.reg_decisions.proofs.Keeping.RunsKeepWell.{step_keeps_well}
+use Rattle.reg_core.proofs.Keeping.RunsKeepWell.{step_keeps_well}
 use Rattle.reg_core.specs.declared.change.Change.TheVariants.{Define, AddPool, Submit, Close, Assign, Advise, GiveValue, GiveBlock, SetPrivate, SetHold}
-use Rattle.reg_decisions.proofs.Blocks.{due_is_new}
-use Rattle.reg_decisions.proofs.Outcomes.Dues.{WasPending, MarksEntry, Due, each_step}
+use Rattle.reg_core.proofs.Blocks.{due_is_new}
+use Rattle.reg_core.proofs.Outcomes.Dues.{WasPending, MarksEntry, Due, each_step}
 use Rattle.reg_laws.proofs.TermsStand.{Renews, GoOn, term_stands, marked_stands, term_stands_on, given_duly, still_given}
 
 -- ---- Nothing goes away

@@ -1,3 +1,4 @@
+pub mod Types
 pub mod Capabilities
 pub mod Outcomes
 pub mod Agents

@@ -1,14 +1,15 @@
 -- Links are their principals'.
 use Rattle.std.proofs.Common.{◌≡◌, ℕ, Bool, true, false, List, refl, sym, ap, ◌∙◌, inl, inr, Option, ◌⊎◌}
-use Rattle.reg_decisions.proofs.Common.{contains_key, eq_by_cmp, tied, World, Link, link_cmp, applied}
-use Rattle.reg_decisions.proofs.Common.{applied_if, Change, Command, link_keys, link_is, link_stays}
-use Rattle.reg_decisions.proofs.Common.{same_kind-is}
+use Rattle.reg_core.proofs.Common.{contains_key, eq_by_cmp, tied, World, Link, link_cmp, applied}
+use Rattle.reg_core.proofs.Common.{applied_if, link_keys, link_is, link_stays}
+use Rattle.reg_laws.proofs.Types.{Change, Command}
+use Rattle.reg_core.proofs.Common.{same_kind-is}
 use Rattle.reg_core.specs.Agents.{IsSaid, LinksAreTheirPrincipals}
 use Rattle.reg_core.specs.declared.capability.Kind.TheVariants as kind
 use Rattle.reg_core.specs.declared.change.Change.TheVariants.{SetAgent}
 use Rattle.reg_core.specs.declared.command.Command.TheVariants.{Applicant}
 use Rattle.reg_core.specs.declared.command.ApplicantCommand.TheVariants as applicant
-use Rattle.reg_decisions.proofs.Outcomes.Dues.{IsDue, each_step}
+use Rattle.reg_core.proofs.Outcomes.Dues.{IsDue, each_step}
 
 module _ (digest_of : List ℕ → List ℕ) (w : World) (caller : Option (List ℕ)) (moment : ℕ)
     (command : Command) (link : Link) where

@@ -1,14 +1,15 @@
 -- A clerk who takes capabilities away without their tokens takes just those that were chosen.
 use Rattle.std.proofs.Common.{◌≡◌, ◌≤◌, ℕ, Bool, false, List, length, refl, sym, ap, subst, ◌∙◌, arith}
 use Rattle.std.specs.Prelude.{Option, Ok, Err}
-use Rattle.reg_decisions.proofs.Common.{false_from_ne_true, both_ways, Answer, Outcome, reply_of, change_of}
-use Rattle.reg_decisions.proofs.Common.{begins_with, is_of, cap_row, caps_that, answer_to, cap_at, World}
-use Rattle.reg_decisions.proofs.Common.{applied_if, CapRow, ClerkCommand, Accepted}
+use Rattle.reg_core.proofs.Common.{false_from_ne_true, both_ways, Answer, Outcome, reply_of, change_of}
+use Rattle.reg_core.proofs.Common.{begins_with, is_of, cap_row, caps_that, answer_to, cap_at, World}
+use Rattle.reg_core.proofs.Common.{applied_if}
+use Rattle.reg_laws.proofs.Types.{CapRow, ClerkCommand, Accepted}
 use Rattle.reg_core.specs.Laws.{TakesJust, RevocationsTakeJust}
 use Rattle.reg_core.specs.declared.command.ClerkCommand.TheVariants.{RevokeDigits, RevokeAccount}
 use Rattle.reg_core.specs.declared.command.Command.TheVariants.{Clerk}
 use Rattle.reg_core.specs.declared.told.Told.TheVariants.{Capabilities}
-use Rattle.reg_decisions.proofs.Outcomes.Accepted.{ClerkServes, CommandSo, accepted}
+use Rattle.reg_core.proofs.Outcomes.Accepted.{ClerkServes, CommandSo, accepted}
 use Rattle.reg_laws.proofs.Capabilities.{is_in_use, takes_just}
 use Rattle.reg_laws.proofs.Outcomes.AnswersAreDone.{gone, Took, decided, took_one, took_all}
 

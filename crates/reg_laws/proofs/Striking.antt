@@ -2,12 +2,13 @@
 use Rattle.std.proofs.Common.{◌≡◌, ℕ, Bool, true, false, cond, ◌&&◌, not, List, [], ◌∷◌, map, refl, sym, ap, subst, ◌∙◌}
 use Rattle.std.specs.Prelude.{Option, filter}
 use Rattle.std.specs.List.{list_any, AllZip}
-use Rattle.reg_decisions.proofs.Common.{contains_key, or_parts, not-false, same_text, change_of, reply_of}
-use Rattle.reg_decisions.proofs.Common.{Event, step_of, world_after, ShowSame, HasNoneUnseen, AreAlikeTo}
-use Rattle.reg_decisions.proofs.Common.{UnseenLeaveNoTrace, StagesAreOfRun, World, RequestName, applied_if}
-use Rattle.reg_decisions.proofs.Common.{Change, not_some}
+use Rattle.reg_core.proofs.Common.{contains_key, or_parts, not-false, same_text, change_of, reply_of}
+use Rattle.reg_core.proofs.Common.{Event, step_of, world_after, ShowSame, HasNoneUnseen, AreAlikeTo}
+use Rattle.reg_core.proofs.Common.{UnseenLeaveNoTrace, StagesAreOfRun, World, RequestName, applied_if}
+use Rattle.reg_core.proofs.Common.{not_some}
+use Rattle.reg_laws.proofs.Types.{Change}
 use Rattle.reg_core.specs.Unseen.{Stage, stage, stages, about_at, reveals_if, is_unseen, is_hidden, stays_in}
-use Rattle.reg_decisions.proofs.Outcomes.Dues.{changes_due}
+use Rattle.reg_core.proofs.Outcomes.Dues.{changes_due}
 use Rattle.reg_laws.proofs.Striking.Answers.{same_answer, answer_at}
 use Rattle.reg_laws.proofs.Striking.Lists.{answer_plain}
 use Rattle.reg_laws.proofs.Striking.Untouched.{kept_apart, left_if}

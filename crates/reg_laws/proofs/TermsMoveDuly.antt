@@ -2,16 +2,18 @@
 use Rattle.std.proofs.Common.{◌≡◌, ℕ, Bool, true, false, not, cond, List, refl, sym, ap, subst, ◌∙◌, inl, inr}
 use Rattle.std.specs.Prelude.{Option, Some, IsSome, option_map, ◌⊎◌}
 use Rattle.std.specs.FinMap.{get, insert}
-use Rattle.reg_decisions.proofs.Common.{eq_by_cmp, update, tied, get-at_insert, get-update, utc_day}
-use Rattle.reg_decisions.proofs.Common.{status_on, registration_in, with_hold, place_of, WellKept, World}
-use Rattle.reg_decisions.proofs.Common.{Place, place_cmp, applied, applied_if, Change, Command, Entry}
-use Rattle.reg_decisions.proofs.Common.{Registration, place_keys}
+use Rattle.reg_core.proofs.Common.{eq_by_cmp, update, tied, get-at_insert, get-update, utc_day}
+use Rattle.reg_core.proofs.Common.{status_on, registration_in, with_hold, place_of, WellKept, World}
+use Rattle.reg_core.proofs.Common.{Place, place_cmp, applied, applied_if}
+use Rattle.reg_laws.proofs.Types.{Change, Command, Entry}
+use Rattle.reg_core.proofs.Common.{place_keys}
+use Rattle.reg_laws.proofs.Types.{Registration}
 use Rattle.reg_early.specs.declared.term.Status.TheVariants as status
 use Rattle.reg_core.specs.EarlyAllocations.{MovesTerm, IsMoved, IsMarked, TermsMoveDuly}
 use Rattle.reg_core.specs.declared.change.Change.TheVariants.{GiveValue, SetHold}
 use Rattle.reg_core.specs.declared.command.Command.TheVariants.{Clerk}
 use Rattle.reg_core.specs.declared.command.ClerkCommand.TheVariants.{Approve, SetHold as SetHoldOf}
-use Rattle.reg_decisions.proofs.Outcomes.Dues.{IsDue, each_step}
+use Rattle.reg_core.proofs.Outcomes.Dues.{IsDue, each_step}
 use Rattle.reg_laws.proofs.TermsStand.{given_duly, given_moves}
 
 module _ (digest_of : List ℕ → List ℕ) (w : World) (caller : Option (List ℕ)) (moment : ℕ)

@@ -3,16 +3,17 @@
 use Rattle.std.proofs.Common.{◌≡◌, ℕ, ◌≤◌, max, Bool, true, false, List, ◌⊎◌, refl, sym, ap, subst, ◌∙◌, inl, inr, arith}
 use Rattle.std.specs.Prelude.{Option, Some, None, Ok, Err, IsSome, is_some, option_map, if◌then◌else◌}
 use Rattle.std.specs.FinMap.{get}
-use Rattle.reg_decisions.proofs.Common.{IsDay, year_after, has_term_form, held_term, renewed_term, is_spent}
-use Rattle.reg_decisions.proofs.Common.{renewal, settled_term, settlement, Term, MovesTerm, registration_in}
-use Rattle.reg_decisions.proofs.Common.{WellKept, World, Place, pending, Ask, Entry, Registration}
+use Rattle.reg_core.proofs.Common.{IsDay, year_after, has_term_form, held_term, renewed_term, is_spent}
+use Rattle.reg_core.proofs.Common.{renewal, settled_term, settlement, Term, MovesTerm, registration_in}
+use Rattle.reg_core.proofs.Common.{WellKept, World, Place, pending}
+use Rattle.reg_laws.proofs.Types.{Ask, Entry, Registration}
 use Rattle.reg_early.specs.declared.term.RenewFault.TheVariants as renew_fault
 use Rattle.reg_early.specs.declared.term.SettleFault.TheVariants as settle_fault
 use Rattle.reg_core.specs.Laws.{TermStands, StillGiven}
 use Rattle.reg_core.specs.MayBeGiven.{IsDuly, IsOwnEntry, IsEntry, IsGivenDuly, place_of}
 use Rattle.reg_core.specs.declared.ask.Ask.TheVariants.{Code, Early, Renew, Permanent, Block}
-use Rattle.reg_decisions.proofs.Allowances.{allowed_duly}
-use Rattle.reg_decisions.proofs.Outcomes.Dues.{Gives}
+use Rattle.reg_core.proofs.Allowances.{allowed_duly}
+use Rattle.reg_core.proofs.Outcomes.Dues.{Gives}
 use Rattle.reg_core.proofs.Keeping.Entries.{standing_term}
 use Rattle.reg_core.proofs.Terms.{renewal_is, settlement_is, latest_day}
 use Rattle.reg_early.proofs.YearAfter.{no_earlier}

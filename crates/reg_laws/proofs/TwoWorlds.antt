@@ -1,27 +1,29 @@
 -- Two worlds that show a caller the same view answer it alike, and show it the same view after its
 -- step.
 use Rattle.std.proofs.Common.{◌≡◌, ℕ, Bool, true, false, ◌&&◌, List, refl, sym, ap, subst, ◌∙◌}
-use Rattle.reg_decisions.proofs.Common.{same_text, only_if, update, same_kind, is_in_clock, utc_day}
-use Rattle.reg_decisions.proofs.Common.{SizedPrefix, masked, with_mark, with_advice, is_clerk, clerk_answer}
-use Rattle.reg_decisions.proofs.Common.{answer_to, WellKept, Advice, Ask, Cap, Kind, Change, Command, Holder}
-use Rattle.reg_decisions.proofs.Common.{Case, State, Declined, Withdrawn, reply_of, change_of, answer, World}
-use Rattle.reg_decisions.proofs.Common.{RequestName, name_cmp, in_state, applied, applied_if, pending}
-use Rattle.reg_decisions.proofs.Common.{name_keys, block_keys, SameOthers, others_after_insert}
-use Rattle.reg_decisions.proofs.Common.{others_after_update, queue_same, principal_rows_same, queue_advised}
-use Rattle.reg_decisions.proofs.Common.{FinMap, get, same_kind-is}
+use Rattle.reg_core.proofs.Common.{same_text, only_if, update, same_kind, is_in_clock, utc_day}
+use Rattle.reg_core.proofs.Common.{SizedPrefix, masked, with_mark, with_advice, is_clerk, clerk_answer}
+use Rattle.reg_core.proofs.Common.{answer_to, WellKept}
+use Rattle.reg_laws.proofs.Types.{Advice, Ask, Cap, Kind, Change, Command, Holder}
+use Rattle.reg_core.proofs.Common.{reply_of, change_of, answer, World}
+use Rattle.reg_laws.proofs.Types.{Case, State, Declined, Withdrawn}
+use Rattle.reg_core.proofs.Common.{RequestName, name_cmp, in_state, applied, applied_if, pending}
+use Rattle.reg_core.proofs.Common.{name_keys, block_keys, SameOthers, others_after_insert}
+use Rattle.reg_core.proofs.Common.{others_after_update, queue_same, principal_rows_same, queue_advised}
+use Rattle.reg_core.proofs.Common.{FinMap, get, same_kind-is}
 use Rattle.reg_maps.proofs.MapLaws.{select-insert_same, select-update_same}
 use Rattle.reg_core.specs.Laws.{TwoWorlds, IsNoClerk}
 use Rattle.reg_core.specs.View.{published, Published, Personal, personal, requests_of, holdings_of, queue_of, principal_rows_of, View, view_of, cap_at, with_personal}
 use Rattle.reg_core.specs.declared.capability.Kind.TheVariants.{Clerk}
 use Rattle.reg_core.specs.declared.change.Change.TheVariants.{Submit, Close, Advise, SetPrivate, SetAgent}
 use Rattle.reg_core.specs.declared.command.Command.TheVariants as command
-use Rattle.reg_decisions.proofs.Blocks.{holding_found, own_holding}
+use Rattle.reg_core.proofs.Blocks.{holding_found, own_holding}
 use Rattle.reg_laws.proofs.Agents.{select-with_link_same, principals_unchanged, principal_rows_unchanged}
-use Rattle.reg_decisions.proofs.Stepping.{own_request}
+use Rattle.reg_core.proofs.Stepping.{own_request}
 use Rattle.std.specs.Prelude.{Option, Some, None, option_map, unwrap_or, nat_lt, if◌then◌else◌}
 use Rattle.reg_core.specs.declared.capability.Kind.TheVariants as kind
-use Rattle.reg_decisions.proofs.Outcomes.Accepted.{ClerkServes}
-use Rattle.reg_decisions.proofs.Outcomes.Dues.{Due, each_step}
+use Rattle.reg_core.proofs.Outcomes.Accepted.{ClerkServes}
+use Rattle.reg_core.proofs.Outcomes.Dues.{Due, each_step}
 
 -- ---- The capability of a view
 

@@ -1,16 +1,17 @@
 -- What is given may be given, and is given once.
 use Rattle.std.proofs.Common.{◌≡◌, ℕ, true, List, refl, sym, ap, subst, ◌∙◌, Option, Some, None}
-use Rattle.reg_decisions.proofs.Common.{get, bytes_eq-Decides, get-inserted, IsDay, registration_in}
-use Rattle.reg_decisions.proofs.Common.{GivesDigests, IsRenewedIn, StillGiven, Event, world_after, step}
-use Rattle.reg_decisions.proofs.Common.{WellKept, is_registered_to, is_registered_at, stands_in, World}
-use Rattle.reg_decisions.proofs.Common.{applied, applied_if, Ask, Entry, Registration, place_keys}
+use Rattle.reg_core.proofs.Common.{get, bytes_eq-Decides, get-inserted, IsDay, registration_in}
+use Rattle.reg_core.proofs.Common.{GivesDigests, IsRenewedIn, StillGiven, Event, world_after, step}
+use Rattle.reg_core.proofs.Common.{WellKept, is_registered_to, is_registered_at, stands_in, World}
+use Rattle.reg_core.proofs.Common.{applied, applied_if, place_keys}
+use Rattle.reg_laws.proofs.Types.{Ask, Entry, Registration}
 use Rattle.reg_early.proofs.MomentsHaveDays.{IsDay-utc_day}
 use Rattle.reg_core.specs.MayBeGiven.{IsDuly, AsksMeetTheirPolicy, IsSameEntry, NoValueIsGivenTwice, place_of}
 use Rattle.reg_core.specs.declared.change.Change.TheVariants.{GiveValue}
-use Rattle.reg_decisions.proofs.Allowances.{allowed_asked}
+use Rattle.reg_core.proofs.Allowances.{allowed_asked}
 use Rattle.reg_laws.proofs.GivenStays.{runs_stay}
-use Rattle.reg_decisions.proofs.Keeping.RunsKeepWell.{step_keeps_well, runs_keep}
-use Rattle.reg_decisions.proofs.Outcomes.Dues.{changes_due}
+use Rattle.reg_core.proofs.Keeping.RunsKeepWell.{step_keeps_well, runs_keep}
+use Rattle.reg_core.proofs.Outcomes.Dues.{changes_due}
 use Rattle.reg_laws.proofs.TermsStand.{given_duly, still_given}
 
 -- an entry of this account is there

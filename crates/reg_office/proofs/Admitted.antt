@@ -25,7 +25,7 @@ use Rattle.reg_core.specs.declared.told.Told.TheVariants as tells
 use Rattle.reg_core.specs.declared.refusal.Refusal.{Refusal}
 use Rattle.reg_core.specs.declared.refusal.Refusal.TheVariants as no
 use Rattle.reg_core.proofs.Links.{own_agent, own_principal, own_principal_rows}
-use Rattle.reg_decisions.proofs.Stepping.{admitted-ok, own_request}
+use Rattle.reg_core.proofs.Stepping.{admitted-ok, own_request}
 use Rattle.reg_commands.specs.Answers.{answer_to_account, answer_to_clerk, answer_to_expert}
 use Rattle.reg_commands.specs.Caller.{token_digest, admission}
 use Rattle.reg_commands.specs.declared.admission.Caller.{Caller}

@@ -1,9 +1,10 @@
 -- New entries, and entries that stand, are checked in turn.
 use Rattle.std.proofs.Common.{◌≡◌, ◌<◌, ◌≤◌, ℕ, Bool, true, false, not, ◌&&◌, List, refl, sym, ap, ◌∙◌, arith}
 use Rattle.std.specs.Prelude.{Option, Some, None, Ok, Err, is_some, if◌then◌else◌}
-use Rattle.reg_decisions.proofs.Common.{bytes_eq-Decides, same_text, renewable, settleable, Table, Policy}
-use Rattle.reg_decisions.proofs.Common.{Ground, or_refusal, value_for, own_entry, may_renew, may_settle, Ask}
-use Rattle.reg_decisions.proofs.Common.{Want, Registration, Refusal}
+use Rattle.reg_core.proofs.Common.{bytes_eq-Decides, same_text, renewable, settleable, Table, Policy}
+use Rattle.reg_core.proofs.Common.{Ground, or_refusal, value_for, own_entry, may_renew, may_settle}
+use Rattle.reg_laws.proofs.Types.{Ask}
+use Rattle.reg_laws.proofs.Types.{Want, Registration, Refusal}
 use Rattle.reg_early.specs.declared.term.RenewFault.TheVariants as renew_fault
 use Rattle.reg_early.specs.declared.term.SettleFault.TheVariants as settle_fault
 use Rattle.reg_core.specs.FirstRefusals.{IsForEntry, IsPlainRenewal, IsForValue, IsExhausted, Applies, line_of}

@@ -5,9 +5,10 @@ use Rattle.std.specs.List.{list_any}
 use Rattle.std.proofs.lemmas.Bool.Decides.{nat_tests}
 use Rattle.std.proofs.lemmas.List.Elements.{All-contains, filter_passes}
 use Rattle.reg_early.specs.EarlyRequirements.{is_eligible, early_items, early_unmet, is_early_met}
-use Rattle.reg_decisions.proofs.Common.{not-true, EarlyEvidence, first_item, is_closed_policy, same_treatment}
-use Rattle.reg_decisions.proofs.Common.{Table, treatment_of, EvidenceItem, Policy, Ground, or_refusal}
-use Rattle.reg_decisions.proofs.Common.{open_policy, policy_for, is_met, is_met_early, Ask, Want, Refusal}
+use Rattle.reg_core.proofs.Common.{not-true, EarlyEvidence, first_item, is_closed_policy, same_treatment}
+use Rattle.reg_core.proofs.Common.{Table, treatment_of, EvidenceItem, Policy, Ground, or_refusal}
+use Rattle.reg_core.proofs.Common.{open_policy, policy_for, is_met, is_met_early}
+use Rattle.reg_laws.proofs.Types.{Ask, Want, Refusal}
 use Rattle.reg_ranges.specs.declared.evidence.EvidenceItem.TheVariants as item
 use Rattle.reg_ranges.specs.declared.policy.Treatment.{Treatment}
 use Rattle.reg_ranges.specs.declared.policy.Treatment.TheVariants.{Under, Reserved}

@@ -1,7 +1,8 @@
 -- Checks in turn, each of which refuses by the first refusal of its lines that applies.
 use Rattle.std.proofs.Common.{◌≡◌, ◌<◌, ◌≤◌, ℕ, List, inl, inr, refl, sym, ap, subst, ◌∙◌, arith}
 use Rattle.std.specs.Prelude.{Result, Ok, Err}
-use Rattle.reg_decisions.proofs.Common.{cases_lt, Applies, line_of, Ask, Refusal}
+use Rattle.reg_core.proofs.Common.{cases_lt, Applies, line_of}
+use Rattle.reg_laws.proofs.Types.{Ask, Refusal}
 use Rattle.reg_core.specs.Allowance.{Ground, ◌>>=◌}
 use Rattle.reg_core.specs.declared.refusal.Refusal.TheVariants as no
 

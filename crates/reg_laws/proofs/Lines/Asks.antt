@@ -1,10 +1,11 @@
 -- An ask goes by its lines.
 use Rattle.std.proofs.Common.{◌≡◌, ℕ, Bool, true, false, not, ◌&&◌, List, inl, inr, refl, sym, ap, subst, ◌∙◌}
 use Rattle.std.specs.Prelude.{Option, Some, None, IsNone, Result, Ok, Err, is_some, option_and_then, ◌↔◌, if◌then◌else◌}
-use Rattle.reg_decisions.proofs.Common.{second_so, get, SizedPrefix, Size, early_unmet, renewable, settleable}
-use Rattle.reg_decisions.proofs.Common.{Term, same_text, first_item, is_expert_policy, unmet, Table, Policy}
-use Rattle.reg_decisions.proofs.Common.{Answer, Allowance, is_name, has_table_form, published, WellKept}
-use Rattle.reg_decisions.proofs.Common.{World, Ask, Want, Registration, Refusal, table_partition}
+use Rattle.reg_core.proofs.Common.{second_so, get, SizedPrefix, Size, early_unmet, renewable, settleable}
+use Rattle.reg_core.proofs.Common.{Term, same_text, first_item, is_expert_policy, unmet, Table, Policy}
+use Rattle.reg_core.proofs.Common.{Answer, Allowance, is_name, has_table_form, published, WellKept}
+use Rattle.reg_core.proofs.Common.{World, table_partition}
+use Rattle.reg_laws.proofs.Types.{Ask, Want, Registration, Refusal}
 use Rattle.reg_early.specs.declared.term.RenewFault.TheVariants as renew_fault
 use Rattle.reg_early.specs.declared.term.SettleFault.TheVariants as settle_fault
 use Rattle.reg_ranges.specs.FreeValues.{IsLeastFree, least_value}
@@ -18,7 +19,7 @@ use Rattle.reg_core.specs.declared.ask.Ask.TheVariants.{Code, Early, Renew, Perm
 use Rattle.reg_core.specs.declared.ask.Want.TheVariants.{Value, Least}
 use Rattle.reg_core.specs.declared.refusal.Refusal.TheVariants as no
 use Rattle.reg_core.proofs.ValuesIn.{has_entry}
-use Rattle.reg_decisions.proofs.Blocks.{blocks_due_are_least, due_published}
+use Rattle.reg_core.proofs.Blocks.{blocks_due_are_least, due_published}
 use Rattle.reg_laws.proofs.FirstRefusals.Policies.{policy_comes, policy_found}
 use Rattle.reg_laws.proofs.Lines.Evidence.{open_is, reviewed_is, under_is, evidence_fair, early_fair}
 use Rattle.reg_laws.proofs.Lines.Turns.{IsFair, Goes, fair_refused, fair_passed, turn, row_turn, fails, other_text, same_texts}

@@ -1,11 +1,13 @@
 -- Each command of each caller goes by its lines.
 use Rattle.std.proofs.Common.{◌≡◌, ◌<◌, ◌≤◌, ℕ, Bool, true, false, ◌&&◌, List, inl, inr, refl, ap, ◌∙◌, arith}
 use Rattle.std.specs.Prelude.{Option, Some, None, Ok, Err, option_map, nat_le, nat_lt, if◌then◌else◌}
-use Rattle.reg_decisions.proofs.Common.{first_so, second_so, both_true, get, nat_tests, is_in_clock, utc_day}
-use Rattle.reg_decisions.proofs.Common.{Answer, as_kind, answer_at, answer, same_kind, is_clerk}
-use Rattle.reg_decisions.proofs.Common.{acts_as_clerk, clerk_answer, answer_to, Personal, personal}
-use Rattle.reg_decisions.proofs.Common.{with_personal, cap_at, view_of, WellKept, World, Cap, Kind, Command}
-use Rattle.reg_decisions.proofs.Common.{ClerkCommand, same_kind-decides, by_test}
+use Rattle.reg_core.proofs.Common.{first_so, second_so, both_true, get, nat_tests, is_in_clock, utc_day}
+use Rattle.reg_core.proofs.Common.{Answer, as_kind, answer_at, answer, same_kind, is_clerk}
+use Rattle.reg_core.proofs.Common.{acts_as_clerk, clerk_answer, answer_to, Personal, personal}
+use Rattle.reg_core.proofs.Common.{with_personal, cap_at, view_of, WellKept, World}
+use Rattle.reg_laws.proofs.Types.{Cap, Kind, Command}
+use Rattle.reg_core.proofs.Common.{same_kind-decides, by_test}
+use Rattle.reg_laws.proofs.Types.{ClerkCommand}
 use Rattle.reg_core.specs.Allowance.{◌>>=◌}
 use Rattle.reg_core.specs.declared.capability.Kind.TheVariants as kind
 use Rattle.reg_core.specs.declared.command.Command.TheVariants.{Public, Applicant, Expert, Clerk}

@@ -1,22 +1,24 @@
 -- Each command of a caller who may give it goes by its lines.
 use Rattle.std.proofs.Common.{◌≡◌, ◌<◌, ◌≤◌, ◌/◌, ◌%◌, ◌^◌, ℕ, Bool, true, false, not, ◌&&◌, List, inl, inr, refl, sym, ap, subst, ◌∙◌, arith}
 use Rattle.std.specs.Prelude.{Option, Some, None, Result, Ok, Err, IsSome, is_some, nat_lt, nat_eq, option_and_then, if◌then◌else◌}
-use Rattle.reg_decisions.proofs.Common.{get, contains_key, nat_tests, same_text, only_if, get-select}
-use Rattle.reg_decisions.proofs.Common.{SizedPrefix, Term, same_table, Table, is_given, Answer, by_rule, item}
-use Rattle.reg_decisions.proofs.Common.{public_answer, own_answer, expert_answer, same_ask, Allowance}
-use Rattle.reg_decisions.proofs.Common.{given_in, begins_with, is_of, same_cap, was_advised, holding_row}
-use Rattle.reg_decisions.proofs.Common.{with_mark, IsApproved, IsAdvised, with_advice, submit_rule}
-use Rattle.reg_decisions.proofs.Common.{withdraw_rule, private_rule, link_rule, new_hold_rule, hold_rule}
-use Rattle.reg_decisions.proofs.Common.{decline_rule, assign_rule, new_advice_rule, advise_rule}
-use Rattle.reg_decisions.proofs.Common.{change_to_give, give_rule, approve_rule, define_rule, pool_rule}
-use Rattle.reg_decisions.proofs.Common.{grant_rule, revoke_rule, clerk_answer, published, personal, queued_to}
-use Rattle.reg_decisions.proofs.Common.{as_queued, WellKept, World, RequestName, Place, Advice, Ask, Cap}
-use Rattle.reg_decisions.proofs.Common.{ApplicantCommand, ExpertCommand, ClerkCommand, PublicCommand}
-use Rattle.reg_decisions.proofs.Common.{Decision, Holder, Refusal, Case, State, Pending, Approved, Declined}
-use Rattle.reg_decisions.proofs.Common.{Withdrawn, Told, block_keys, Make, Same, by_test, own_agent}
-use Rattle.reg_decisions.proofs.Common.{own_principal, get-queue_of, same_ask-is, same_ask-itself}
-use Rattle.reg_decisions.proofs.Common.{same_cap-is, same_cap-itself, same_table-is, same_table-itself}
-use Rattle.reg_decisions.proofs.Common.{is_given-is, same_advice-itself}
+use Rattle.reg_core.proofs.Common.{get, contains_key, nat_tests, same_text, only_if, get-select}
+use Rattle.reg_core.proofs.Common.{SizedPrefix, Term, same_table, Table, is_given, Answer, by_rule, item}
+use Rattle.reg_core.proofs.Common.{public_answer, own_answer, expert_answer, same_ask, Allowance}
+use Rattle.reg_core.proofs.Common.{given_in, begins_with, is_of, same_cap, was_advised, holding_row}
+use Rattle.reg_core.proofs.Common.{with_mark, IsApproved, IsAdvised, with_advice, submit_rule}
+use Rattle.reg_core.proofs.Common.{withdraw_rule, private_rule, link_rule, new_hold_rule, hold_rule}
+use Rattle.reg_core.proofs.Common.{decline_rule, assign_rule, new_advice_rule, advise_rule}
+use Rattle.reg_core.proofs.Common.{change_to_give, give_rule, approve_rule, define_rule, pool_rule}
+use Rattle.reg_core.proofs.Common.{grant_rule, revoke_rule, clerk_answer, published, personal, queued_to}
+use Rattle.reg_core.proofs.Common.{as_queued, WellKept, World, RequestName, Place}
+use Rattle.reg_laws.proofs.Types.{Advice, Ask, Cap}
+use Rattle.reg_laws.proofs.Types.{ApplicantCommand, ExpertCommand, ClerkCommand, PublicCommand}
+use Rattle.reg_laws.proofs.Types.{Decision, Holder, Refusal, Case, State, Pending, Approved, Declined}
+use Rattle.reg_core.proofs.Common.{block_keys, by_test, own_agent}
+use Rattle.reg_laws.proofs.Types.{Withdrawn, Told, Make, Same}
+use Rattle.reg_core.proofs.Common.{own_principal, get-queue_of, same_ask-is, same_ask-itself}
+use Rattle.reg_core.proofs.Common.{same_cap-is, same_cap-itself, same_table-is, same_table-itself}
+use Rattle.reg_core.proofs.Common.{is_given-is, same_advice-itself}
 use Rattle.reg_blocks.specs.Pool.{first_octet, is_pool_prefix}
 use Rattle.reg_early.specs.declared.term.Status.TheVariants as status
 use Rattle.reg_core.specs.Allowance.{◌>>=◌, or_refusal, allowance_on, allowed, ground_of}
@@ -28,8 +30,8 @@ use Rattle.reg_core.specs.declared.command.PublicCommand.TheVariants.{Registry, 
 use Rattle.reg_core.specs.declared.change.Change.TheVariants as change
 use Rattle.reg_core.specs.declared.refusal.Refusal.TheVariants as no
 use Rattle.reg_core.specs.declared.told.Told.TheVariants as tells
-use Rattle.reg_decisions.proofs.Files.{advised_by, advised_is}
-use Rattle.reg_decisions.proofs.Stepping.{own_request}
+use Rattle.reg_core.proofs.Files.{advised_by, advised_is}
+use Rattle.reg_core.proofs.Stepping.{own_request}
 use Rattle.reg_laws.proofs.Lines.Asks.{asks}
 use Rattle.reg_laws.proofs.Lines.Revocations.{revoke_digits_goes, revoke_account_goes}
 use Rattle.reg_laws.proofs.Lines.Turns.{By, row, fails, other_text, same_texts}

@@ -1,9 +1,10 @@
 -- The first item of evidence that is wanting is named.
 use Rattle.std.proofs.Common.{◌≡◌, Bool, true, false, cond, not, ◌&&◌, List, [], ◌∷◌, ◌⊎◌, inl, inr, refl, sym, ap, subst, ◌∙◌}
 use Rattle.std.specs.Prelude.{Option, Some, None, Result, Ok, Err, filter, is_some}
-use Rattle.reg_decisions.proofs.Common.{is_eligible, early_unmet, is_early_met, EarlyEvidence, PublishedRfc}
-use Rattle.reg_decisions.proofs.Common.{Table, Evidence, EvidenceItem, Stream, Track, Policy, is_met}
-use Rattle.reg_decisions.proofs.Common.{is_met_early, World, Want, Refusal, Refused}
+use Rattle.reg_core.proofs.Common.{is_eligible, early_unmet, is_early_met, EarlyEvidence, PublishedRfc}
+use Rattle.reg_core.proofs.Common.{Table, Evidence, EvidenceItem, Stream, Track, Policy, is_met}
+use Rattle.reg_core.proofs.Common.{is_met_early, World}
+use Rattle.reg_laws.proofs.Types.{Want, Refusal, Refused}
 use Rattle.reg_ranges.specs.Requirements.{first_item, is_closed_policy, is_expert_policy, asked_items, is_ietf, is_standards_or_bcp, has_rfc, is_met as meets, unmet}
 use Rattle.reg_ranges.specs.declared.evidence.EvidenceItem.TheVariants as item
 use Rattle.reg_ranges.specs.declared.evidence.Stream.TheVariants as stream

@@ -1,10 +1,12 @@
 -- Commands that take away capabilities that a test chooses go by their lines.
 use Rattle.std.proofs.Common.{◌≡◌, ℕ, Bool, true, false, List, [], ◌∷◌, inl, inr, refl, sym, ap, subst, ◌∙◌, arith}
 use Rattle.std.specs.Prelude.{Some, Ok, Err, Contains}
-use Rattle.reg_decisions.proofs.Common.{eq_by_cmp_equiv, eq_by_cmp, both_ways, bytes_eq-Decides, text_cmp}
-use Rattle.reg_decisions.proofs.Common.{same_text, text_keys, cap_row, caps_that, has_token, one_rule}
-use Rattle.reg_decisions.proofs.Common.{all_rule, revoke_digits_rule, revoke_account_rule, World, CapRow}
-use Rattle.reg_decisions.proofs.Common.{Decision, Told, by_rule, by_test}
+use Rattle.reg_core.proofs.Common.{eq_by_cmp_equiv, eq_by_cmp, both_ways, bytes_eq-Decides, text_cmp}
+use Rattle.reg_core.proofs.Common.{same_text, text_keys, cap_row, caps_that, has_token, one_rule}
+use Rattle.reg_core.proofs.Common.{all_rule, revoke_digits_rule, revoke_account_rule, World}
+use Rattle.reg_laws.proofs.Types.{CapRow}
+use Rattle.reg_core.proofs.Common.{by_rule, by_test}
+use Rattle.reg_laws.proofs.Types.{Decision, Told}
 use Rattle.std.specs.List.{AllPairs}
 use Rattle.std.proofs.lemmas.List.Elements.{All-nil, All-cons, All-contains}
 use Rattle.std.proofs.lemmas.List.Folds.{Any-from_list_any}

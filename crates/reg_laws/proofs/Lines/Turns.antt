@@ -1,7 +1,8 @@
 -- An answer goes by lines, check after check.
 use Rattle.std.proofs.Common.{◌≡◌, ℕ, Bool, true, false, List, refl, sym, subst, ◌∙◌}
 use Rattle.std.specs.Prelude.{Option, Some, None, Result, Ok, Err}
-use Rattle.reg_decisions.proofs.Common.{bytes_eq-Decides, same_text, Answer, World, Refusal}
+use Rattle.reg_core.proofs.Common.{bytes_eq-Decides, same_text, Answer, World}
+use Rattle.reg_laws.proofs.Types.{Refusal}
 use Rattle.reg_core.specs.Allowance.{◌>>=◌, or_refusal}
 use Rattle.reg_core.specs.Step.{stepped}
 use Rattle.reg_laws.specs.AnswerLines.{Lines, of_row, GoesBy}

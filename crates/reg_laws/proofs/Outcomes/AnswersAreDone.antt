@@ -1,16 +1,19 @@
 -- The world after a command has what its reply says.
 use Rattle.std.proofs.Common.{◌≡◌, ℕ, Bool, false, List, map, refl, sym, ap, subst, ◌∙◌}
 use Rattle.std.specs.Prelude.{Option, Some, None, Ok, Err, is_some, option_map}
-use Rattle.reg_decisions.proofs.Common.{get, update, number_keys, text_keys, get-inserted, get-updated}
-use Rattle.reg_decisions.proofs.Common.{get-removed, utc_day, held_term, Award, awarded_entry, new_holding}
-use Rattle.reg_decisions.proofs.Common.{begins_with, is_of, caps_that, page_entry, with_hold, with_mark}
-use Rattle.reg_decisions.proofs.Common.{World, RequestName, in_state, without, applied, applied_if, pending}
-use Rattle.reg_decisions.proofs.Common.{Seat, CapRow, Change, Command, Decision, Registration, Holder, Case}
-use Rattle.reg_decisions.proofs.Common.{State, Approved, Declined, Withdrawn, name_keys, place_keys}
-use Rattle.reg_decisions.proofs.Common.{seat_keys, block_keys, Outcome, Answer, reply_of, change_of}
-use Rattle.reg_decisions.proofs.Common.{change_by, made_row, has_token, change_to_give, desk_by, answer_to}
-use Rattle.reg_decisions.proofs.Common.{HaveGone, cap_at, Told, Make, Same, link_is, agent_list}
-use Rattle.reg_decisions.proofs.Common.{principal_list}
+use Rattle.reg_core.proofs.Common.{get, update, number_keys, text_keys, get-inserted, get-updated}
+use Rattle.reg_core.proofs.Common.{get-removed, utc_day, held_term, Award, awarded_entry, new_holding}
+use Rattle.reg_core.proofs.Common.{begins_with, is_of, caps_that, page_entry, with_hold, with_mark}
+use Rattle.reg_core.proofs.Common.{World, RequestName, in_state, without, applied, applied_if, pending}
+use Rattle.reg_core.proofs.Common.{Seat}
+use Rattle.reg_laws.proofs.Types.{CapRow, Change, Command, Decision, Registration, Holder, Case}
+use Rattle.reg_core.proofs.Common.{name_keys, place_keys}
+use Rattle.reg_laws.proofs.Types.{State, Approved, Declined, Withdrawn}
+use Rattle.reg_core.proofs.Common.{seat_keys, block_keys, Outcome, Answer, reply_of, change_of}
+use Rattle.reg_core.proofs.Common.{change_by, made_row, has_token, change_to_give, desk_by, answer_to}
+use Rattle.reg_core.proofs.Common.{HaveGone, cap_at, link_is, agent_list}
+use Rattle.reg_laws.proofs.Types.{Told, Make, Same}
+use Rattle.reg_core.proofs.Common.{principal_list}
 use Rattle.reg_maps.proofs.KeySets.{is_inserted}
 use Rattle.reg_core.specs.declared.command.Command.TheVariants.{Public, Applicant, Expert, Clerk}
 use Rattle.reg_core.specs.declared.command.ApplicantCommand.TheVariants.{Own, OwnOne, Submit, Withdraw, Holdings, SetListing, SetAgent, Agents, Principals, PrincipalRows}
@@ -20,9 +23,9 @@ use Rattle.reg_core.specs.declared.command.PublicCommand.TheVariants.{Registries
 use Rattle.reg_core.specs.declared.request.Given.TheVariants.{Value, Block}
 use Rattle.reg_core.specs.Laws.{IsDone, WasDone, AnswersAreDone, TakesJust, is_refused}
 use Rattle.reg_core.specs.declared.told.Told.TheVariants as tells
-use Rattle.reg_decisions.proofs.Outcomes.Deciding.{Rule, Decides, RevokesOne, RevokesAll}
+use Rattle.reg_core.proofs.Outcomes.Deciding.{Rule, Decides, RevokesOne, RevokesAll}
 use Rattle.reg_core.specs.declared.change.Change.TheVariants as change
-use Rattle.reg_decisions.proofs.Outcomes.Accepted.{Comes, CommandSo, accepted}
+use Rattle.reg_core.proofs.Outcomes.Accepted.{Comes, CommandSo, accepted}
 use Rattle.reg_laws.proofs.Capabilities.{takes_just, have_gone}
 use Rattle.reg_laws.proofs.Lines.Turns.{other_text}
 use Rattle.reg_laws.proofs.Outcomes.ClerkLists.{pending_list, cap_list_whole}

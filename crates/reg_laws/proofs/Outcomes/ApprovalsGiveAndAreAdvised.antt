@@ -1,16 +1,17 @@
 -- What goes with an approval that changes something.
 use Rattle.std.proofs.Common.{◌≡◌, ℕ, true, List, sym, ap, subst, Option, Some, Ok}
-use Rattle.reg_decisions.proofs.Common.{get, Allowance, given_in, utc_day, change_of, was_advised, answer_to}
-use Rattle.reg_decisions.proofs.Common.{published, World, Change, Case, Make}
+use Rattle.reg_core.proofs.Common.{get, Allowance, given_in, utc_day, change_of, was_advised, answer_to}
+use Rattle.reg_core.proofs.Common.{published, World}
+use Rattle.reg_laws.proofs.Types.{Change, Case, Make}
 use Rattle.reg_core.specs.Allowance.{◌>>=◌, ground_of, needs_advice}
 use Rattle.reg_core.specs.Laws.{ApprovalsGiveWhatIsAllowed, ApprovalsAreAdvised}
 use Rattle.reg_core.specs.declared.command.Command.TheVariants.{Clerk}
 use Rattle.reg_core.specs.declared.command.ClerkCommand.TheVariants.{Approve}
-use Rattle.reg_decisions.proofs.Allowances.{allowed_of_ask}
-use Rattle.reg_decisions.proofs.Files.{advised_by}
-use Rattle.reg_decisions.proofs.Outcomes.Accepted.{Row, accepted}
-use Rattle.reg_decisions.proofs.Outcomes.Deciding.{Decides, Approves}
-use Rattle.reg_decisions.proofs.Outcomes.Dues.{makes, outcome_of}
+use Rattle.reg_core.proofs.Allowances.{allowed_of_ask}
+use Rattle.reg_core.proofs.Files.{advised_by}
+use Rattle.reg_core.proofs.Outcomes.Accepted.{Row, accepted}
+use Rattle.reg_core.proofs.Outcomes.Deciding.{Decides, Approves}
+use Rattle.reg_core.proofs.Outcomes.Dues.{makes, outcome_of}
 
 -- the request was there, and the rule decided that the change is made
 approval : (digest_of : List ℕ → List ℕ) (w : World) (caller : Option (List ℕ)) (moment : ℕ)

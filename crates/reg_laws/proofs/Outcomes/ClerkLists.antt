@@ -3,12 +3,13 @@ use Rattle.std.proofs.Common.{◌≡◌, ℕ, suc, Bool, true, false, cond, List
 use Rattle.std.specs.Prelude.{Option, Some, option_and_then, All, Contains}
 use Rattle.std.specs.FinMap.{FinMap, get, entries, find, get-entries, get-from_entries}
 use Rattle.std.specs.List.Sorted.{IsStrictlySortedBy}
-use Rattle.reg_decisions.proofs.Common.{false_from_ne_true, eq_by_cmp_equiv, eq_by_cmp, both_ways, text_cmp}
-use Rattle.reg_decisions.proofs.Common.{only_if, IsKeyOrder, text_keys, pair_keys, tied, get-select}
-use Rattle.reg_decisions.proofs.Common.{All-entries, Contains-map, Contains-entries, ascending-entries}
-use Rattle.reg_decisions.proofs.Common.{ascending-keys, CapPlace, cap_place, cap_place_cmp, cap_row, cap_list}
-use Rattle.reg_decisions.proofs.Common.{file, name_of, waiting, waiting_files, is_pending, World, RequestName}
-use Rattle.reg_decisions.proofs.Common.{name_cmp, Cap, CapRow, Case, name_keys, get-chosen}
+use Rattle.reg_core.proofs.Common.{false_from_ne_true, eq_by_cmp_equiv, eq_by_cmp, both_ways, text_cmp}
+use Rattle.reg_core.proofs.Common.{only_if, IsKeyOrder, text_keys, pair_keys, tied, get-select}
+use Rattle.reg_core.proofs.Common.{All-entries, Contains-map, Contains-entries, ascending-entries}
+use Rattle.reg_core.proofs.Common.{ascending-keys, CapPlace, cap_place, cap_place_cmp, cap_row, cap_list}
+use Rattle.reg_core.proofs.Common.{file, name_of, waiting, waiting_files, is_pending, World, RequestName}
+use Rattle.reg_core.proofs.Common.{name_cmp, name_keys, get-chosen}
+use Rattle.reg_laws.proofs.Types.{Cap, CapRow, Case}
 use Rattle.std.proofs.lemmas.List.Elements.{All-head, All-tail, All-map, All-contains}
 use Rattle.std.proofs.lemmas.Simd.{map-map}
 use Rattle.reg_core.specs.CapRows.{by_account}

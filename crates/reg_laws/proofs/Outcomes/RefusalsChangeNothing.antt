@@ -1,6 +1,7 @@
 -- A refusal changes nothing.
 use Rattle.std.proofs.Common.{◌≡◌, List, ℕ, refl, Ok, Err}
-use Rattle.reg_decisions.proofs.Common.{Answer, reply_of, change_of, answer_to, World, applied_if, Refusal}
+use Rattle.reg_core.proofs.Common.{Answer, reply_of, change_of, answer_to, World, applied_if}
+use Rattle.reg_laws.proofs.Types.{Refusal}
 use Rattle.reg_core.specs.Laws.{RefusalsChangeNothing}
 use Rattle.reg_core.specs.declared.reply.Reply.TheVariants.{Refused}
 

@@ -1,13 +1,15 @@
 -- Pages and listings, an account's own list, its holdings and an expert's queue are whole.
 use Rattle.std.proofs.Common.{◌≡◌, ℕ, List, not, refl, sym, ap, subst, ◌∙◌}
 use Rattle.std.specs.Prelude.{Option, Some, None, option_and_then}
-use Rattle.reg_decisions.proofs.Common.{FinMap, get, entries, only_if, get-select, All-entries, Contains-map}
-use Rattle.reg_decisions.proofs.Common.{Contains-entries, ascending-entries, page_entry, SizedPrefix}
-use Rattle.reg_decisions.proofs.Common.{block_cmp, Holder, Holding, queue_row, queue_rows, request_row}
-use Rattle.reg_decisions.proofs.Common.{request_rows, published, entries_of, Queued, as_queued, requests_of}
-use Rattle.reg_decisions.proofs.Common.{holdings_of, queue_of, World, Place, RequestName, name_cmp, place_cmp}
-use Rattle.reg_decisions.proofs.Common.{PageEntry, Registration, Case, Request, name_keys, place_keys}
-use Rattle.reg_decisions.proofs.Common.{block_keys, IsQueued, queued_found, found_queued}
+use Rattle.reg_core.proofs.Common.{FinMap, get, entries, only_if, get-select, All-entries, Contains-map}
+use Rattle.reg_core.proofs.Common.{Contains-entries, ascending-entries, page_entry, SizedPrefix}
+use Rattle.reg_core.proofs.Common.{block_cmp, queue_row, queue_rows, request_row}
+use Rattle.reg_laws.proofs.Types.{Holder, Holding}
+use Rattle.reg_core.proofs.Common.{request_rows, published, entries_of, Queued, as_queued, requests_of}
+use Rattle.reg_core.proofs.Common.{holdings_of, queue_of, World, Place, RequestName, name_cmp, place_cmp}
+use Rattle.reg_core.proofs.Common.{name_keys, place_keys}
+use Rattle.reg_laws.proofs.Types.{PageEntry, Registration, Case, Request}
+use Rattle.reg_core.proofs.Common.{block_keys, IsQueued, queued_found, found_queued}
 use Rattle.std.proofs.lemmas.List.Elements.{All-map}
 use Rattle.reg_core.specs.Lists.{EntryList, ShowsEntry, ShowsStanding, BlockList, ShowsHolder, ShowsHeld, HasRowOf, HasHoldingOf, HoldingList, IsItem, OwnList, QueueList}
 use Rattle.reg_early.proofs.TermsInWords.{assigned, temporary, held as held_term, expired}
@@ -15,9 +17,9 @@ use Rattle.reg_core.specs.Page.{page_entries}
 use Rattle.reg_core.specs.Holding.{ShownHolding, masked, masked_blocks, listed_row, listed_rows, holding_row, holding_rows}
 use Rattle.reg_core.specs.declared.holding.Listed.{Listed}
 use Rattle.reg_core.specs.declared.queue.QueueRow.{QueueRow}
-use Rattle.reg_decisions.proofs.Blocks.{holding_found, own_holding}
+use Rattle.reg_core.proofs.Blocks.{holding_found, own_holding}
 use Rattle.reg_core.proofs.ValuesIn.{own_found, found_own, page_ascends}
-use Rattle.reg_decisions.proofs.Stepping.{own_request, own_row_found}
+use Rattle.reg_core.proofs.Stepping.{own_request, own_row_found}
 
 -- ---- Registers
 

@@ -2,20 +2,22 @@
 -- was told is so.
 use Rattle.std.proofs.Common.{◌≡◌, ℕ, Bool, true, false, List, [], refl, sym, ap, subst, ◌∙◌, arith}
 use Rattle.std.specs.Prelude.{Option, Some, None, IsSome, is_some, Ok, nat_le, nat_lt}
-use Rattle.reg_decisions.proofs.Common.{false_from_ne_true, get, contains_key, keys, nat_tests}
-use Rattle.reg_decisions.proofs.Common.{bytes_eq-Decides, same_text, is_in_clock, utc_day, status_on}
-use Rattle.reg_decisions.proofs.Common.{page_entry, with_hold, holder_in, holding_row, listed_rows, with_mark}
-use Rattle.reg_decisions.proofs.Common.{page, same_ask, Answer, Outcome, reply_of, change_of, unchanged}
-use Rattle.reg_decisions.proofs.Common.{own_answer, own_row, desk_row, item, begins_with, is_of, same_kind}
-use Rattle.reg_decisions.proofs.Common.{kind_of, file, queue_rows, IsRow, IsOwnRow, SizedPrefix, case_of}
-use Rattle.reg_decisions.proofs.Common.{request_rows, private_rule, link_rule, mark_rule, clerk_answer}
-use Rattle.reg_decisions.proofs.Common.{answer_to, step, Queued, as_queued, published, personal, requests_by}
-use Rattle.reg_decisions.proofs.Common.{queue_of, agents_of, principals_of, principal_rows_of, cap_at, World}
-use Rattle.reg_decisions.proofs.Common.{RequestName, Place, Link, in_state, applied_if, Ask, Cap, Kind}
-use Rattle.reg_decisions.proofs.Common.{Command, ApplicantCommand, ExpertCommand, ClerkCommand, PublicCommand}
-use Rattle.reg_decisions.proofs.Common.{Told, Case, Given, Request, Approved, Same, same_text-itself}
-use Rattle.reg_decisions.proofs.Common.{same_advice-itself, same_cap-itself, same_ask-itself}
-use Rattle.reg_decisions.proofs.Common.{same_table-itself, own_agent, own_principal, found_queued}
+use Rattle.reg_core.proofs.Common.{false_from_ne_true, get, contains_key, keys, nat_tests}
+use Rattle.reg_core.proofs.Common.{bytes_eq-Decides, same_text, is_in_clock, utc_day, status_on}
+use Rattle.reg_core.proofs.Common.{page_entry, with_hold, holder_in, holding_row, listed_rows, with_mark}
+use Rattle.reg_core.proofs.Common.{page, same_ask, Answer, Outcome, reply_of, change_of, unchanged}
+use Rattle.reg_core.proofs.Common.{own_answer, own_row, desk_row, item, begins_with, is_of, same_kind}
+use Rattle.reg_core.proofs.Common.{kind_of, file, queue_rows, IsRow, IsOwnRow, SizedPrefix, case_of}
+use Rattle.reg_core.proofs.Common.{request_rows, private_rule, link_rule, mark_rule, clerk_answer}
+use Rattle.reg_core.proofs.Common.{answer_to, step, Queued, as_queued, published, personal, requests_by}
+use Rattle.reg_core.proofs.Common.{queue_of, agents_of, principals_of, principal_rows_of, cap_at, World}
+use Rattle.reg_core.proofs.Common.{RequestName, Place, Link, in_state, applied_if}
+use Rattle.reg_laws.proofs.Types.{Ask, Cap, Kind}
+use Rattle.reg_laws.proofs.Types.{Command, ApplicantCommand, ExpertCommand, ClerkCommand, PublicCommand}
+use Rattle.reg_core.proofs.Common.{same_text-itself}
+use Rattle.reg_laws.proofs.Types.{Told, Case, Given, Request, Approved, Same}
+use Rattle.reg_core.proofs.Common.{same_advice-itself, same_cap-itself, same_ask-itself}
+use Rattle.reg_core.proofs.Common.{same_table-itself, own_agent, own_principal, found_queued}
 use Rattle.reg_early.specs.declared.term.Status.{Status}
 use Rattle.reg_core.specs.Laws.{is_refused, IsStillValid, MayRepeat, IsDone, RepeatsActOnce}
 use Rattle.reg_core.specs.declared.capability.Kind.TheVariants as kind
@@ -25,11 +27,11 @@ use Rattle.reg_core.specs.declared.command.ExpertCommand.TheVariants.{Queue, Adv
 use Rattle.reg_core.specs.declared.command.ClerkCommand.TheVariants.{AllRequests, OneRequest, AssignExpert, Approve, Decline, SetHold, Define, AddPool, Grant, Revoke, PendingRequests, AllCapabilities, RevokeDigits, RevokeAccount, CountRows}
 use Rattle.reg_core.specs.declared.command.PublicCommand.TheVariants.{Registries, Registry, RegistryListing, PoolList, BlockListing}
 use Rattle.reg_core.specs.declared.told.Told.TheVariants as tells
-use Rattle.reg_decisions.proofs.Outcomes.Accepted.{Serves, ClerkServes, CommandSo}
+use Rattle.reg_core.proofs.Outcomes.Accepted.{Serves, ClerkServes, CommandSo}
 use Rattle.reg_laws.proofs.Capabilities.{none_are}
 use Rattle.reg_laws.proofs.Outcomes.AnswersAreDone.{Done, accepted_done}
-use Rattle.reg_decisions.proofs.Blocks.{own_holding}
-use Rattle.reg_decisions.proofs.Stepping.{own_request}
+use Rattle.reg_core.proofs.Blocks.{own_holding}
+use Rattle.reg_core.proofs.Stepping.{own_request}
 
 -- ---- A caller who may act as before
 

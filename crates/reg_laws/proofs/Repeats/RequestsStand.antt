@@ -1,9 +1,10 @@
 -- An accepted request, and an approval, that are given again after a run.
 use Rattle.std.proofs.Common.{◌≡◌, ℕ, List, refl, sym, ap, subst, ◌∙◌, Option, Some, None}
-use Rattle.reg_decisions.proofs.Common.{get, change_of, reply_of, unchanged, desk_row, IsOwnRow, IsRow}
-use Rattle.reg_decisions.proofs.Common.{case_of, request_row, Event, answer_to, step, cap_at, World}
-use Rattle.reg_decisions.proofs.Common.{RequestName, in_state, applied_if, Ask, Cap, Command, Told, Case}
-use Rattle.reg_decisions.proofs.Common.{Request, Approved, Accepted}
+use Rattle.reg_core.proofs.Common.{get, change_of, reply_of, unchanged, desk_row, IsOwnRow, IsRow}
+use Rattle.reg_core.proofs.Common.{case_of, request_row, Event, answer_to, step, cap_at, World}
+use Rattle.reg_core.proofs.Common.{RequestName, in_state, applied_if}
+use Rattle.reg_laws.proofs.Types.{Ask, Cap, Command, Told, Case}
+use Rattle.reg_laws.proofs.Types.{Request, Approved, Accepted}
 use Rattle.reg_core.specs.Laws.{GivesDigests, IsApproved, IsDone, IsLater, StillAsks, StillStands, SubmissionsStand, ApprovalsStand}
 use Rattle.reg_core.specs.declared.capability.Kind.TheVariants as kind
 use Rattle.reg_core.specs.declared.command.Command.TheVariants.{Applicant, Clerk}
@@ -11,7 +12,7 @@ use Rattle.reg_core.specs.declared.command.ApplicantCommand.TheVariants.{Submit}
 use Rattle.reg_core.specs.declared.command.ClerkCommand.TheVariants.{Approve}
 use Rattle.reg_core.specs.declared.told.Told.TheVariants as tells
 use Rattle.reg_laws.proofs.Outcomes.AnswersAreDone.{accepted_done}
-use Rattle.reg_decisions.proofs.Keeping.RunsKeepWell.{step_keeps_well}
+use Rattle.reg_core.proofs.Keeping.RunsKeepWell.{step_keeps_well}
 use Rattle.reg_laws.proofs.Repeats.RepeatsActOnce.{acts, clerk_acts, row_at, submit_again, approve_again}
 use Rattle.reg_laws.proofs.GivenStays.{runs_stay}
 

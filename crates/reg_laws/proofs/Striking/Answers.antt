@@ -1,14 +1,16 @@
 -- What stays is answered alike in two worlds that agree but for requests unseen by an account.
 use Rattle.std.proofs.Common.{◌≡◌, ℕ, Bool, true, false, ◌||◌, not, List, refl, ap, subst}
 use Rattle.std.specs.Prelude.{Option, Some, None, Result, Ok, Err, option_map, nat_lt, if◌then◌else◌}
-use Rattle.reg_decisions.proofs.Common.{first_so, second_so, get, and_left, and_right, both_ways, not-false}
-use Rattle.reg_decisions.proofs.Common.{same_text, is_in_clock, utc_day, Answer, reply_of, change_of}
-use Rattle.reg_decisions.proofs.Common.{admitted, as_kind, own_answer, expert_answer, same_kind, seats_of}
-use Rattle.reg_decisions.proofs.Common.{Event, is_clerk, acts_as_clerk, clerk_answer, answer_to, about}
-use Rattle.reg_decisions.proofs.Common.{is_outside, speaks_for, is_hidden, Personal, published, personal}
-use Rattle.reg_decisions.proofs.Common.{cap_at, with_personal, requests_of, queue_of, principals_of, World}
-use Rattle.reg_decisions.proofs.Common.{RequestName, Cap, Kind, Command, ApplicantCommand, ExpertCommand}
-use Rattle.reg_decisions.proofs.Common.{ClerkCommand, Refusal, Accepted, same_kind-is}
+use Rattle.reg_core.proofs.Common.{first_so, second_so, get, and_left, and_right, both_ways, not-false}
+use Rattle.reg_core.proofs.Common.{same_text, is_in_clock, utc_day, Answer, reply_of, change_of}
+use Rattle.reg_core.proofs.Common.{admitted, as_kind, own_answer, expert_answer, same_kind, seats_of}
+use Rattle.reg_core.proofs.Common.{Event, is_clerk, acts_as_clerk, clerk_answer, answer_to, about}
+use Rattle.reg_core.proofs.Common.{is_outside, speaks_for, is_hidden, Personal, published, personal}
+use Rattle.reg_core.proofs.Common.{cap_at, with_personal, requests_of, queue_of, principals_of, World}
+use Rattle.reg_core.proofs.Common.{RequestName}
+use Rattle.reg_laws.proofs.Types.{Cap, Kind, Command, ApplicantCommand, ExpertCommand}
+use Rattle.reg_core.proofs.Common.{same_kind-is}
+use Rattle.reg_laws.proofs.Types.{ClerkCommand, Refusal, Accepted}
 use Rattle.reg_maps.proofs.HiddenKeys.{AgreeBut}
 use Rattle.reg_core.specs.Allowance.{◌>>=◌, or_refusal}
 use Rattle.reg_core.specs.Striking.{is_others, reply_lists_others, reply_without}

@@ -1,12 +1,14 @@
 -- Lists of requests without the hidden ones: maps that agree but for those, and where none is.
 use Rattle.std.proofs.Common.{◌≡◌, ℕ, Bool, true, false, cond, not, List, [], ◌∷◌, map, refl, sym, ap, subst, ◌∙◌}
 use Rattle.std.specs.Prelude.{Option, Some, None, Ok, Err, option_and_then}
-use Rattle.reg_decisions.proofs.Common.{FinMap, get, entries, get-select, utc_day, Answer, Outcome, reply_of}
-use Rattle.reg_decisions.proofs.Common.{made_row, file, name_of, waiting, waiting_files, queue_row}
-use Rattle.reg_decisions.proofs.Common.{queue_rows, request_row, request_rows, Event, answer_to, Queued}
-use Rattle.reg_decisions.proofs.Common.{queued_to, requests_of, queue_of, World, RequestName, name_cmp, Ask}
-use Rattle.reg_decisions.proofs.Common.{Command, ApplicantCommand, ExpertCommand, ClerkCommand, PublicCommand}
-use Rattle.reg_decisions.proofs.Common.{Case, Request, name_keys, Accepted}
+use Rattle.reg_core.proofs.Common.{FinMap, get, entries, get-select, utc_day, Answer, Outcome, reply_of}
+use Rattle.reg_core.proofs.Common.{made_row, file, name_of, waiting, waiting_files, queue_row}
+use Rattle.reg_core.proofs.Common.{queue_rows, request_row, request_rows, Event, answer_to, Queued}
+use Rattle.reg_core.proofs.Common.{queued_to, requests_of, queue_of, World, RequestName, name_cmp}
+use Rattle.reg_laws.proofs.Types.{Ask}
+use Rattle.reg_laws.proofs.Types.{Command, ApplicantCommand, ExpertCommand, ClerkCommand, PublicCommand}
+use Rattle.reg_core.proofs.Common.{name_keys}
+use Rattle.reg_laws.proofs.Types.{Case, Request, Accepted}
 use Rattle.reg_maps.proofs.HiddenKeys.{AgreeBut, IsBare, both_select, plain_rows, same_rows}
 use Rattle.reg_core.specs.Striking.{HasNoneUnseen, requests_without, queue_without, files_without, told_without, reply_without}
 use Rattle.reg_core.specs.declared.command.Command.TheVariants.{Public, Applicant, Expert, Clerk}
@@ -17,7 +19,7 @@ use Rattle.reg_core.specs.declared.command.PublicCommand.TheVariants.{Registry, 
 use Rattle.reg_core.specs.declared.told.Told.TheVariants as tells
 use Rattle.reg_core.specs.declared.case_file.CaseFile.{CaseFile}
 use Rattle.reg_core.specs.declared.queue.QueueRow.{QueueRow}
-use Rattle.reg_decisions.proofs.Outcomes.Accepted.{PublicSo, OwnSo, ExpertSo, ClerkSo, CommandSo, accepted}
+use Rattle.reg_core.proofs.Outcomes.Accepted.{PublicSo, OwnSo, ExpertSo, ClerkSo, CommandSo, accepted}
 
 module _ (hidden : RequestName → Bool) where
   -- the row is of no hidden request

@@ -2,17 +2,19 @@
 use Rattle.std.proofs.Common.{◌≡◌, ℕ, Bool, true, false, not, List, refl, sym, ap, ◌∙◌, inl, inr}
 use Rattle.std.specs.Prelude.{Option, Some, None, is_some}
 use Rattle.std.specs.FinMap.{FinMap, get, insert, contains_key}
-use Rattle.reg_decisions.proofs.Common.{and_parts, or_cases, both_ways, not-true, cases_Bool}
-use Rattle.reg_decisions.proofs.Common.{bytes_eq-Decides, same_text, update, change_of, Event, about}
-use Rattle.reg_decisions.proofs.Common.{is_outside, speaks_for, is_hidden, cap_at, World, RequestName}
-use Rattle.reg_decisions.proofs.Common.{name_cmp, in_state, pending, applied, applied_if, Kind, Change, Case}
-use Rattle.reg_decisions.proofs.Common.{Approved, Declined, Withdrawn, name_keys, same_kind-is}
+use Rattle.reg_core.proofs.Common.{and_parts, or_cases, both_ways, not-true, cases_Bool}
+use Rattle.reg_core.proofs.Common.{bytes_eq-Decides, same_text, update, change_of, Event, about}
+use Rattle.reg_core.proofs.Common.{is_outside, speaks_for, is_hidden, cap_at, World, RequestName}
+use Rattle.reg_core.proofs.Common.{name_cmp, in_state, pending, applied, applied_if}
+use Rattle.reg_laws.proofs.Types.{Kind, Change, Case}
+use Rattle.reg_core.proofs.Common.{name_keys, same_kind-is}
+use Rattle.reg_laws.proofs.Types.{Approved, Declined, Withdrawn}
 use Rattle.reg_maps.proofs.HiddenKeys.{one_insert, one_update}
 use Rattle.reg_core.specs.declared.capability.Kind.TheVariants as kind
 use Rattle.reg_core.specs.declared.change.Change.TheVariants.{Submit, Close, Assign, Advise, GiveValue, GiveBlock}
 use Rattle.reg_core.specs.declared.request.Given.TheVariants.{Value, Block}
-use Rattle.reg_decisions.proofs.Outcomes.Accepted.{Serves, ClerkServes}
-use Rattle.reg_decisions.proofs.Outcomes.Dues.{Due, IsApplicant, IsExpert, change_about, changes_due}
+use Rattle.reg_core.proofs.Outcomes.Accepted.{Serves, ClerkServes}
+use Rattle.reg_core.proofs.Outcomes.Dues.{Due, IsApplicant, IsExpert, change_about, changes_due}
 use Rattle.reg_laws.proofs.Striking.Answers.{Stays, answer_at}
 use Rattle.reg_laws.proofs.Striking.Worlds.{IsOfHidden, Unaware}
 

@@ -1,14 +1,15 @@
 -- Two worlds that agree but for requests that an account does not see show the account the same.
 use Rattle.std.proofs.Common.{◌≡◌, ℕ, Bool, true, false, List, refl, sym, ap, ◌∙◌, inl, inr}
 use Rattle.std.specs.Prelude.{Option, Some, None, option_map, is_some}
-use Rattle.reg_decisions.proofs.Common.{FinMap, get, contains_key, or_cases, both_ways, bytes_eq-Decides}
-use Rattle.reg_decisions.proofs.Common.{same_text, only_if, same_name, seats_of, published, personal}
-use Rattle.reg_decisions.proofs.Common.{requests_of, requests_by, queue_of, principal_rows_of, queued_to}
-use Rattle.reg_decisions.proofs.Common.{as_queued, cap_at, with_personal, World, RequestName, Seat, seat_cmp}
-use Rattle.reg_decisions.proofs.Common.{Cap, Case, name_keys, seat_keys}
+use Rattle.reg_core.proofs.Common.{FinMap, get, contains_key, or_cases, both_ways, bytes_eq-Decides}
+use Rattle.reg_core.proofs.Common.{same_text, only_if, same_name, seats_of, published, personal}
+use Rattle.reg_core.proofs.Common.{requests_of, requests_by, queue_of, principal_rows_of, queued_to}
+use Rattle.reg_core.proofs.Common.{as_queued, cap_at, with_personal, World, RequestName, Seat, seat_cmp}
+use Rattle.reg_core.proofs.Common.{name_keys, seat_keys}
+use Rattle.reg_laws.proofs.Types.{Cap, Case}
 use Rattle.reg_maps.proofs.HiddenKeys.{AgreeBut, NoneAt, ChooseAlike, both_select, same_select}
 use Rattle.reg_core.specs.Striking.{has_account, ShowSame}
-use Rattle.reg_decisions.proofs.Files.{same_name-is}
+use Rattle.reg_core.proofs.Files.{same_name-is}
 use Rattle.reg_laws.proofs.Striking.Worlds.{at_seat, Agree, Blind, Unaware}
 
 module _ {hidden : RequestName → Bool} {w v : World} (a : Agree hidden w v) where

@@ -5,12 +5,14 @@ use Rattle.std.specs.FinMap as map
 use Rattle.std.specs.FinMap.{get, contains_key, get-insert, get-empty}
 use Rattle.std.specs.List.{list_any}
 use Rattle.std.specs.Prelude.{Some, None, Ok, Err, codes, filter}
-use Rattle.reg_decisions.proofs.Common.{same_text, text_keys, get-inserted, utc_day, permanent_term, Table}
-use Rattle.reg_decisions.proofs.Common.{Answer, reply_of, change_of, desk_row, clerk_cap, founded_world}
-use Rattle.reg_decisions.proofs.Common.{request_row, Event, run, answer_to, Stage, stages, reveals_if}
-use Rattle.reg_decisions.proofs.Common.{stays_in, struck, requests_of, World, RequestName, applied}
-use Rattle.reg_decisions.proofs.Common.{applied_if, pending, name_cmp, place_cmp, seat_cmp, link_cmp, Ask}
-use Rattle.reg_decisions.proofs.Common.{Cap, Command, Told, Entry, Approved, Declined, State, name_keys}
+use Rattle.reg_core.proofs.Common.{same_text, text_keys, get-inserted, utc_day, permanent_term, Table}
+use Rattle.reg_core.proofs.Common.{Answer, reply_of, change_of, desk_row, clerk_cap, founded_world}
+use Rattle.reg_core.proofs.Common.{request_row, Event, run, answer_to, Stage, stages, reveals_if}
+use Rattle.reg_core.proofs.Common.{stays_in, struck, requests_of, World, RequestName, applied}
+use Rattle.reg_core.proofs.Common.{applied_if, pending, name_cmp, place_cmp, seat_cmp, link_cmp}
+use Rattle.reg_laws.proofs.Types.{Ask}
+use Rattle.reg_core.proofs.Common.{name_keys}
+use Rattle.reg_laws.proofs.Types.{Cap, Command, Told, Entry, Approved, Declined, State}
 use Rattle.reg_ranges.specs.declared.policy.Policy.TheVariants.{FirstComeFirstServed}
 use Rattle.reg_ranges.specs.declared.policy.Treatment.TheVariants.{Under}
 use Rattle.reg_core.specs.declared.ask.Ask.TheVariants.{Code}
@@ -23,7 +25,7 @@ use Rattle.reg_core.specs.declared.command.Command.TheVariants.{Applicant, Clerk
 use Rattle.reg_core.specs.declared.refusal.Refusal.TheVariants as no
 use Rattle.reg_core.specs.declared.told.Told.TheVariants.{Made}
 use Rattle.reg_core.specs.declared.request.Given.TheVariants as given
-use Rattle.reg_decisions.proofs.Stepping.{own_request}
+use Rattle.reg_core.proofs.Stepping.{own_request}
 
 abbrev clerk : List ℕ
 clerk = codes "clerk-token-00001"

@@ -2,20 +2,22 @@
 -- of a hidden request in the first.
 use Rattle.std.proofs.Common.{◌≡◌, Bool, true, false, cond, ◌&&◌, List, ℕ, refl, sym, ap, ◌∙◌}
 use Rattle.std.specs.Prelude.{Option, Some, None}
-use Rattle.reg_decisions.proofs.Common.{eq_by_cmp, both_true, both_ways, same_text, tied, get-at_insert}
-use Rattle.reg_decisions.proofs.Common.{registration_in, same_name, holder_in, reveals_if, is_hidden, World}
-use Rattle.reg_decisions.proofs.Common.{RequestName, name_cmp, Place, Seat, seat_cmp, Link, link_cmp}
-use Rattle.reg_decisions.proofs.Common.{in_state, pending, applied, applied_if, Advice, Change, Case}
-use Rattle.reg_decisions.proofs.Common.{Approved, name_keys, seat_keys, link_keys, same_text-itself}
+use Rattle.reg_core.proofs.Common.{eq_by_cmp, both_true, both_ways, same_text, tied, get-at_insert}
+use Rattle.reg_core.proofs.Common.{registration_in, same_name, holder_in, reveals_if, is_hidden, World}
+use Rattle.reg_core.proofs.Common.{RequestName, name_cmp, Place, Seat, seat_cmp, Link, link_cmp}
+use Rattle.reg_core.proofs.Common.{in_state, pending, applied, applied_if}
+use Rattle.reg_laws.proofs.Types.{Advice, Change, Case}
+use Rattle.reg_core.proofs.Common.{name_keys, seat_keys, link_keys, same_text-itself}
+use Rattle.reg_laws.proofs.Types.{Approved}
 use Rattle.std.specs.FinMap as map
 use Rattle.std.specs.FinMap.{FinMap, get, insert, contains_key}
 use Rattle.std.specs.FinSet.{FinSet}
 use Rattle.reg_maps.proofs.HiddenKeys.{AgreeBut, both_insert, both_update, one_insert, one_update}
 use Rattle.reg_core.specs.declared.change.Change.TheVariants.{Submit, Close, Assign, Advise, GiveValue, GiveBlock, SetAgent}
 use Rattle.reg_core.specs.declared.request.Given.TheVariants.{Value, Block}
-use Rattle.reg_decisions.proofs.Files.{same_name-itself}
+use Rattle.reg_core.proofs.Files.{same_name-itself}
 use Rattle.reg_laws.proofs.Agents.{there_after}
-use Rattle.reg_decisions.proofs.Outcomes.Dues.{change_about}
+use Rattle.reg_core.proofs.Outcomes.Dues.{change_about}
 
 -- the rows of a hidden request: its own, and those of its experts and of their advice
 abbrev pub at_seat : (RequestName → Bool) → Seat → Bool

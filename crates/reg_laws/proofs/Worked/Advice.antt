@@ -2,11 +2,13 @@
 -- own digest here.
 use Rattle.std.proofs.Common.{◌≡◌, ℕ, true, false, List, [], ◌∷◌, refl, sym, ap, ◌∙◌}
 use Rattle.std.specs.Prelude.{Option, Some, None, Ok, Err, codes, is_some, option_and_then}
-use Rattle.reg_decisions.proofs.Common.{get, only_if, is_advised, Ground, allowance_on, needs_advice}
-use Rattle.reg_decisions.proofs.Common.{Allowance, approve_rule, Stepped, step, as_queued, queue_of}
-use Rattle.reg_decisions.proofs.Common.{queued_to, World, RequestName, applied, pending, Advice, Ask, Cap}
-use Rattle.reg_decisions.proofs.Common.{Command, Told, Pending, Declined, clerk_cap, get-queue_of}
-use Rattle.reg_decisions.proofs.Common.{found_queued}
+use Rattle.reg_core.proofs.Common.{get, only_if, is_advised, Ground, allowance_on, needs_advice}
+use Rattle.reg_core.proofs.Common.{Allowance, approve_rule, Stepped, step, as_queued, queue_of}
+use Rattle.reg_core.proofs.Common.{queued_to, World, RequestName, applied, pending}
+use Rattle.reg_laws.proofs.Types.{Advice, Ask, Cap}
+use Rattle.reg_core.proofs.Common.{clerk_cap, get-queue_of}
+use Rattle.reg_laws.proofs.Types.{Command, Told, Pending, Declined}
+use Rattle.reg_core.proofs.Common.{found_queued}
 use Rattle.reg_core.specs.declared.advice.Verdict.TheVariants.{For, Against}
 use Rattle.reg_core.specs.declared.capability.Kind.TheVariants.{Expert as ForExpert}
 use Rattle.reg_core.specs.declared.change.Change.TheVariants as change
@@ -16,7 +18,7 @@ use Rattle.reg_core.specs.declared.command.ExpertCommand.TheVariants.{Advise}
 use Rattle.reg_core.specs.declared.refusal.Refusal.TheVariants as no
 use Rattle.reg_core.specs.declared.told.Told.TheVariants.{Queued, Desk}
 use Rattle.reg_laws.proofs.Worked.FirstLines.{stays, tells}
-use Rattle.reg_decisions.proofs.Allowances.{allowance_needs}
+use Rattle.reg_core.proofs.Allowances.{allowance_needs}
 use Rattle.reg_core.specs.declared.request.StateWord.{StateWord}
 use Rattle.reg_core.specs.declared.request.StateWord.TheVariants as word
 

@@ -5,10 +5,12 @@ use Rattle.std.specs.FinMap as map
 use Rattle.std.specs.FinMap.{get, entries, entries-insert, put, get-insert, get-empty, len-entries, len-empty}
 use Rattle.std.specs.Ordering.{nat_cmp}
 use Rattle.std.proofs.lemmas.List.{nil_from_length}
-use Rattle.reg_decisions.proofs.Common.{text_cmp, keyed, same_text, only_if, number_keys, text_keys}
-use Rattle.reg_decisions.proofs.Common.{get-inserted, entries-select, is_in_clock, clerk_cap, founded_world}
-use Rattle.reg_decisions.proofs.Common.{Event, run, Stepped, step, requests_of, World, name_cmp, applied, Cap}
-use Rattle.reg_decisions.proofs.Common.{Command, Refusal, Told, Case, name_keys, Accepted, Refused}
+use Rattle.reg_core.proofs.Common.{text_cmp, keyed, same_text, only_if, number_keys, text_keys}
+use Rattle.reg_core.proofs.Common.{get-inserted, entries-select, is_in_clock, clerk_cap, founded_world}
+use Rattle.reg_core.proofs.Common.{Event, run, Stepped, step, requests_of, World, name_cmp, applied}
+use Rattle.reg_laws.proofs.Types.{Cap}
+use Rattle.reg_core.proofs.Common.{name_keys}
+use Rattle.reg_laws.proofs.Types.{Command, Refusal, Told, Case, Accepted, Refused}
 use Rattle.reg_core.specs.declared.capability.Kind.TheVariants.{Applicant}
 use Rattle.reg_core.specs.declared.change.Change.TheVariants as change
 use Rattle.reg_core.specs.declared.command.Command.TheVariants.{Public, Applicant, Clerk}

@@ -4,7 +4,8 @@ use Rattle.std.proofs.Common.{◌≡◌, List, ℕ, [], ◌∷◌, refl, sym, ap
 use Rattle.std.specs.FinMap as map
 use Rattle.std.specs.FinMap.{get, entries, entries-insert, put, get-insert, len-entries, len-empty}
 use Rattle.std.proofs.lemmas.List.{nil_from_length}
-use Rattle.reg_decisions.proofs.Common.{text_cmp, text_keys, cap_row, clerk_cap, World, applied, Cap}
+use Rattle.reg_core.proofs.Common.{text_cmp, text_keys, cap_row, clerk_cap, World, applied}
+use Rattle.reg_laws.proofs.Types.{Cap}
 use Rattle.reg_core.specs.declared.change.Change.TheVariants as change
 use Rattle.reg_core.specs.declared.command.Command.TheVariants.{Clerk}
 use Rattle.reg_core.specs.declared.command.ClerkCommand.TheVariants.{RevokeDigits, RevokeAccount}

@@ -1,4 +1,4 @@
-use Rattle.reg_decisions.proofs.Fitting.{steps_fit}
+use Rattle.reg_core.proofs.Fitting.{steps_fit}
 use Rattle.reg_laws.proofs.changes_fit.Goals as goal
 
 pub returns : goal.returns

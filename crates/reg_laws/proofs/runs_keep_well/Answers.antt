@@ -1,4 +1,4 @@
-use Rattle.reg_decisions.proofs.Keeping.RunsKeepWell.{runs_keep}
+use Rattle.reg_core.proofs.Keeping.RunsKeepWell.{runs_keep}
 use Rattle.reg_laws.proofs.runs_keep_well.Goals as goal
 
 pub returns : goal.returns

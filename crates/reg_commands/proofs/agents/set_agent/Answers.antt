@@ -5,7 +5,7 @@ use Rattle.reg_core.specs.Rules.{agent_rule}
 use Rattle.reg_core.specs.World.{World, Link}
 use Rattle.reg_core.specs.declared.command.ApplicantCommand.TheVariants.{SetAgent}
 use Rattle.reg_core.specs.declared.told.Told.TheVariants.{Agent}
-use Rattle.reg_decisions.proofs.Fitting.{agent_fits}
+use Rattle.reg_core.proofs.Fitting.{agent_fits}
 use Rattle.reg_commands.specs.Answers.{answer_to_account}
 use Rattle.reg_commands.proofs.Decided.{Decides, follows, makes_fitting, performs_decided, performs_declined, the_value}
 use Rattle.reg_commands.proofs.Rows.{selected_after}

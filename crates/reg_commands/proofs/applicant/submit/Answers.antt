@@ -11,7 +11,7 @@ use Rattle.reg_core.specs.World.{World, RequestName}
 use Rattle.reg_core.specs.declared.ask.Ask.{Ask}
 use Rattle.reg_core.specs.declared.command.ApplicantCommand.TheVariants.{Submit}
 use Rattle.reg_core.specs.declared.request.Request.{Request}
-use Rattle.reg_decisions.proofs.Fitting.{submit_fits}
+use Rattle.reg_core.proofs.Fitting.{submit_fits}
 use Rattle.reg_commands.specs.Answers.{answer_to_account, told_made}
 use Rattle.reg_commands.proofs.Decided.{Rules, always, the_value, decides_found, makes_found, performs_found, performs_stopped_at}
 use Rattle.reg_commands.proofs.Rows.{selected_after}

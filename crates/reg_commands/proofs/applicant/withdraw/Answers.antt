@@ -5,7 +5,7 @@ use Rattle.reg_core.specs.Rules.{withdraw_rule}
 use Rattle.reg_core.specs.declared.command.ApplicantCommand.TheVariants.{Withdraw}
 use Rattle.reg_core.specs.declared.told.Told.TheVariants.{Row}
 use Rattle.reg_core.specs.declared.request.Request.{Request}
-use Rattle.reg_decisions.proofs.Fitting.{withdraw_fits}
+use Rattle.reg_core.proofs.Fitting.{withdraw_fits}
 use Rattle.reg_commands.specs.Answers.{answer_to_account}
 use Rattle.reg_commands.proofs.Decided.{Decides, makes_found, performs_declined, performs_found}
 use Rattle.reg_commands.proofs.Requests.{decides_about}

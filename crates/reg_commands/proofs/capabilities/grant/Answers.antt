@@ -6,7 +6,7 @@ use Rattle.reg_core.specs.Capability.{has_cap_form}
 use Rattle.reg_core.specs.Names.{is_digest}
 use Rattle.reg_core.specs.Rules.{grant_rule}
 use Rattle.reg_core.specs.WellKept.{has_grant_form}
-use Rattle.reg_decisions.proofs.Fitting.{grant_fits}
+use Rattle.reg_core.proofs.Fitting.{grant_fits}
 use Rattle.reg_commands.proofs.Decided.{can_make, follows}
 use Rattle.reg_commands.proofs.Rows.{selected_after}
 use Rattle.reg_commands.proofs.capabilities.grant.Goals as goal

@@ -2,7 +2,7 @@ use Rattle.std.proofs.Common.{◌≡◌, sym, ap, ◌∙◌}
 use Rattle.std.specs.FinMap.{get}
 use Rattle.std.specs.Option.{option_copied}
 use Rattle.reg_core.specs.Rules.{revoke_rule}
-use Rattle.reg_decisions.proofs.Fitting.{revoke_fits}
+use Rattle.reg_core.proofs.Fitting.{revoke_fits}
 use Rattle.reg_commands.proofs.Decided.{can_make, follows}
 use Rattle.reg_commands.proofs.Rows.{selected_after}
 use Rattle.reg_commands.proofs.capabilities.revoke.Goals as goal

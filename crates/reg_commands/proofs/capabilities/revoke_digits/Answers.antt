@@ -7,7 +7,7 @@ use Rattle.reg_core.specs.World.{World}
 use Rattle.reg_core.specs.declared.capability.CapRow.{CapRow}
 use Rattle.reg_core.specs.declared.command.ClerkCommand.TheVariants.{RevokeDigits}
 use Rattle.reg_core.specs.declared.told.Told.TheVariants.{Capabilities}
-use Rattle.reg_decisions.proofs.Fitting.{revoke_digits_fits}
+use Rattle.reg_core.proofs.Fitting.{revoke_digits_fits}
 use Rattle.reg_commands.specs.Answers.{answer_to_clerk}
 use Rattle.reg_commands.proofs.Decided.{Decides, follows, makes_fitting, performs_decided, performs_declined, the_value}
 use Rattle.reg_commands.proofs.Rows.{selected_after}

@@ -15,7 +15,7 @@ use Rattle.reg_core.specs.declared.case_file.CaseFile.{CaseFile}
 use Rattle.reg_core.specs.declared.refusal.Refusal.{Refusal}
 use Rattle.reg_core.specs.declared.request.Case.{Case}
 use Rattle.reg_core.specs.declared.request.Request.{Request}
-use Rattle.reg_decisions.proofs.Fitting.{approve_fits}
+use Rattle.reg_core.proofs.Fitting.{approve_fits}
 use Rattle.reg_commands.specs.Answers.{answer_to_clerk}
 use Rattle.reg_commands.specs.Decisions.{approval_of}
 use Rattle.reg_commands.proofs.Decided.{Rules, decides_found, makes_found, performs_found, performs_stopped_at}

@@ -12,8 +12,8 @@ use Rattle.reg_core.specs.declared.decide.Decision.{Decision}
 use Rattle.reg_core.specs.declared.refusal.Refusal.{Refusal}
 use Rattle.reg_core.specs.declared.request.Case.{Case}
 use Rattle.reg_core.specs.declared.request.Request.{Request}
-use Rattle.reg_decisions.proofs.Files.{among_experts}
-use Rattle.reg_decisions.proofs.Fitting.{assign_fits}
+use Rattle.reg_core.proofs.Files.{among_experts}
+use Rattle.reg_core.proofs.Fitting.{assign_fits}
 use Rattle.reg_commands.specs.Answers.{answer_at_desk}
 use Rattle.reg_commands.proofs.Decided.{Decides, makes_found, performs_declined, performs_found}
 use Rattle.reg_commands.proofs.Rows.{IsFileOf, answer_about, file_is, selected_after, there}

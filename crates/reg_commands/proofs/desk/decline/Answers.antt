@@ -5,7 +5,7 @@ use Rattle.reg_core.specs.Step.{desk_by}
 use Rattle.reg_core.specs.declared.command.ClerkCommand.TheVariants.{Decline}
 use Rattle.reg_core.specs.declared.told.Told.TheVariants.{Desk}
 use Rattle.reg_core.specs.declared.request.Request.{Request}
-use Rattle.reg_decisions.proofs.Fitting.{decline_fits}
+use Rattle.reg_core.proofs.Fitting.{decline_fits}
 use Rattle.reg_commands.specs.Answers.{answer_at_desk}
 use Rattle.reg_commands.proofs.Decided.{Decides, makes_fitting, performs_denied, performs_decided}
 use Rattle.reg_commands.proofs.Requests.{decides_about}

@@ -12,7 +12,7 @@ use Rattle.reg_core.specs.declared.command.ExpertCommand.TheVariants.{Advise}
 use Rattle.reg_core.specs.declared.told.Told.TheVariants as tells
 use Rattle.reg_core.specs.declared.queue.QueueRow.{QueueRow}
 use Rattle.reg_core.specs.declared.refusal.Refusal.TheVariants as no
-use Rattle.reg_decisions.proofs.Fitting.{advise_fits}
+use Rattle.reg_core.proofs.Fitting.{advise_fits}
 use Rattle.reg_core.proofs.Queues.{queued_found}
 use Rattle.reg_commands.specs.Answers.{answer_to_expert}
 use Rattle.reg_commands.specs.Rows.{advised_row}

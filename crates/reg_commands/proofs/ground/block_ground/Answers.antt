@@ -2,7 +2,7 @@ use Rattle.std.proofs.Common.{sym, ap, ◌∙◌}
 use Rattle.std.specs.Prelude.{Option, None}
 use Rattle.reg_blocks.specs.Block.{SizedPrefix}
 use Rattle.reg_core.specs.Allowance.{Ground}
-use Rattle.reg_decisions.proofs.Blocks.{due_published}
+use Rattle.reg_core.proofs.Blocks.{due_published}
 use Rattle.reg_commands.proofs.ground.block_ground.Goals as goal
 
 abbrev with_due : Option SizedPrefix → Ground

@@ -13,8 +13,8 @@ use Rattle.reg_core.specs.declared.told.Told.TheVariants.{Held}
 use Rattle.reg_core.specs.declared.holding.Holder.{Holder}
 use Rattle.reg_core.specs.declared.holding.Holding.{Holding}
 use Rattle.reg_core.specs.declared.refusal.Refusal.TheVariants as no
-use Rattle.reg_decisions.proofs.Blocks.{holding_found}
-use Rattle.reg_decisions.proofs.Fitting.{listing_fits}
+use Rattle.reg_core.proofs.Blocks.{holding_found}
+use Rattle.reg_core.proofs.Fitting.{listing_fits}
 use Rattle.reg_commands.specs.Answers.{answer_to_account}
 use Rattle.reg_commands.specs.Rows.{marked_row}
 use Rattle.reg_commands.proofs.Decided.{Decides, follows, makes_fitting, performs_decided, the_value}

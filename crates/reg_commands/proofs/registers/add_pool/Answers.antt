@@ -5,7 +5,7 @@ use Rattle.reg_core.specs.Rules.{pool_rule}
 use Rattle.reg_core.specs.World.{World}
 use Rattle.reg_core.specs.declared.command.ClerkCommand.TheVariants.{AddPool}
 use Rattle.reg_core.specs.declared.told.Told.TheVariants.{Pooled}
-use Rattle.reg_decisions.proofs.Fitting.{pool_fits}
+use Rattle.reg_core.proofs.Fitting.{pool_fits}
 use Rattle.reg_commands.specs.Answers.{answer_at_desk}
 use Rattle.reg_commands.proofs.Decided.{Decides, follows, makes_fitting, performs_decided, the_value}
 use Rattle.reg_commands.proofs.Rows.{selected_after}

@@ -6,7 +6,7 @@ use Rattle.reg_core.specs.Names.{is_name}
 use Rattle.reg_core.specs.Registry.{has_table_form}
 use Rattle.reg_core.specs.Rules.{define_rule}
 use Rattle.reg_core.specs.WellKept.{has_registry_form}
-use Rattle.reg_decisions.proofs.Fitting.{define_fits}
+use Rattle.reg_core.proofs.Fitting.{define_fits}
 use Rattle.reg_commands.proofs.Decided.{can_make}
 use Rattle.reg_commands.proofs.Rows.{selected_after}
 use Rattle.reg_commands.proofs.registers.define.Goals as goal

@@ -11,7 +11,7 @@ use Rattle.reg_core.specs.declared.told.Told.TheVariants.{Marked}
 use Rattle.reg_core.specs.declared.entry.Entry.{Entry}
 use Rattle.reg_core.specs.declared.entry.Registration.{Registration}
 use Rattle.reg_core.specs.declared.refusal.Refusal.TheVariants as no
-use Rattle.reg_decisions.proofs.Fitting.{hold_fits}
+use Rattle.reg_core.proofs.Fitting.{hold_fits}
 use Rattle.reg_keeper.proofs.Premises.{goes_on_then}
 use Rattle.reg_commands.specs.Answers.{answer_to_clerk}
 use Rattle.reg_commands.specs.Pages.{shown_on}

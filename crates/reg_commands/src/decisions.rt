@@ -1,0 +1,32 @@
+//! What each command that may change something is decided to be, over just the rows that it needs.
+mod advise;
+mod agent;
+mod allowance;
+mod approve;
+mod assign;
+mod award;
+mod decline;
+mod define;
+mod grant;
+mod hold;
+mod pool;
+mod private;
+mod review;
+mod revoke;
+mod submit;
+mod withdraw;
+
+pub use advise::decide_advise;
+pub use agent::decide_agent;
+pub use allowance::{Ground, check_ask};
+pub use approve::decide_approve;
+pub use assign::decide_assign;
+pub use decline::decide_decline;
+pub use define::decide_define;
+pub use grant::decide_grant;
+pub use hold::decide_hold;
+pub use pool::decide_pool;
+pub use private::decide_private;
+pub use revoke::{decide_revoke, decide_revoke_account, decide_revoke_digits};
+pub use submit::decide_submit;
+pub use withdraw::decide_withdraw;

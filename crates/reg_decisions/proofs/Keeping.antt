@@ -1,3 +1,0 @@
--- Worlds stay well kept.
-pub mod Blocks
-pub mod RunsKeepWell
