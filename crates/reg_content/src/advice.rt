@@ -15,14 +15,16 @@ use reg_ranges::formed::Formed;
 use reg_records::advice::ExpertAdvice;
 use reg_records::column::{name_value, printable_value, word_value};
 use reg_records::queue::Seat;
+use reg_statements::loads::Loads;
+use reg_tables::reports::Reports;
 use reg_tables::texts::{PUT_ADVICE, SELECT_ADVICE_ROW};
 use sqlite::types::ValueRef;
-use sqlite::{Alter, Connection, Transaction};
+use sqlite::{Connection, Transaction};
 use std::alloc::Global;
 
 /// An expert's advice on a request.
 #[tactic(auto, using(reg_tables::proofs::Statements::advice_by_key))]
-pub fn advice<S: Alter>(
+pub fn advice<S: Reports + Loads>(
     alloc: Global,
     conn: &mut Connection<S>,
     account: &Account,
@@ -49,7 +51,7 @@ pub fn advice<S: Alter>(
 /// Puts an expert's advice on a request in the place of the one that the expert gave before, or
 /// adds it where there is none.
 #[tactic(auto, using(crate::proofs::Statements::puts_advice))]
-pub fn put_advice<S: Alter>(
+pub fn put_advice<S: Reports>(
     tx: &mut Transaction<'_, S>,
     account: &Account,
     reference: &Ref,

@@ -24,15 +24,20 @@ use reg_keeper::keeper::Fault;
 use reg_ranges::formed::Formed;
 use reg_records::blocks::holding_values;
 use reg_records::column::{flag_value, name_value, whole_value};
+use reg_statements::loads::Loads;
+use reg_tables::reports::Reports;
 use reg_tables::texts::{
     CHANGE_BLOCK, INSERT_BLOCKS, SELECT_BLOCK, SELECT_BLOCKS, SELECT_BLOCKS_OF,
 };
-use sqlite::{Alter, Connection, Transaction};
+use sqlite::{Connection, Transaction};
 use std::alloc::{AllocError, Global};
 
 /// All blocks that were given, in order, as the public sees them.
 #[tactic(auto, using(reg_tables::proofs::Statements::all_blocks))]
-pub fn blocks<S: Alter>(alloc: Global, conn: &mut Connection<S>) -> Result<Rows<Listed>, Fault>
+pub fn blocks<S: Reports + Loads>(
+    alloc: Global,
+    conn: &mut Connection<S>,
+) -> Result<Rows<Listed>, Fault>
     requires { IsKeeping (state S.Store conn.old) }
     ensures { Looks (state S.Store conn.old) (state S.Store conn.new) result
         (λ w rows. rows ≡ listed_rows (masked_blocks w.blocks)) }
@@ -43,7 +48,7 @@ pub fn blocks<S: Alter>(alloc: Global, conn: &mut Connection<S>) -> Result<Rows<
 
 /// All blocks of an account, in order.
 #[tactic(auto, using(reg_tables::proofs::Statements::blocks_of_holder))]
-pub fn holdings<S: Alter>(
+pub fn holdings<S: Reports + Loads>(
     alloc: Global,
     conn: &mut Connection<S>,
     account: &Account,
@@ -58,7 +63,7 @@ pub fn holdings<S: Alter>(
 
 /// A block, if it is one of an account's.
 #[tactic(auto, using(reg_tables::proofs::Statements::block_by_key))]
-pub fn holding<S: Alter>(
+pub fn holding<S: Reports + Loads>(
     alloc: Global,
     conn: &mut Connection<S>,
     account: &Account,
@@ -75,7 +80,7 @@ pub fn holding<S: Alter>(
 
 /// Adds a block that was not given yet.
 #[tactic(auto, using(crate::proofs::Statements::adds_block))]
-pub fn add_block<S: Alter>(tx: &mut Transaction<'_, S>, holding: &Holding) -> Result<(), Fault>
+pub fn add_block<S: Reports>(tx: &mut Transaction<'_, S>, holding: &Holding) -> Result<(), Fault>
     ensures same_reference { tx.new.conn.ghost_name ≡ tx.old.conn.ghost_name }
     ensures steps { Steps (state S.Store tx.old.conn.now) (state S.Store tx.new.conn.now) result
         (λ (w : World). get w.blocks holding.now.block ≡ None)
@@ -89,7 +94,7 @@ pub fn add_block<S: Alter>(tx: &mut Transaction<'_, S>, holding: &Holding) -> Re
 
 /// Marks a block that was given as private or not. No other block shares an address with it.
 #[tactic(auto, using(reg_tables::proofs::EditStatements::change_block_writes))]
-pub fn set_private<S: Alter>(
+pub fn set_private<S: Reports>(
     tx: &mut Transaction<'_, S>,
     block: &Block,
     private: bool,

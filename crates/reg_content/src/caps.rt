@@ -12,13 +12,15 @@ use reg_keeper::keeper::Fault;
 use reg_ranges::formed::Formed;
 use reg_records::caps::Grant;
 use reg_records::column::name_value;
+use reg_statements::loads::Loads;
+use reg_tables::reports::Reports;
 use reg_tables::texts::{DELETE_CAP, INSERT_CAPS, SELECT_CAP};
-use sqlite::{Alter, Connection, Transaction};
+use sqlite::{Connection, Transaction};
 use std::alloc::Global;
 
 /// The capability at a digest.
 #[tactic(auto, using(reg_tables::proofs::Statements::cap_by_key))]
-pub fn cap<S: Alter>(
+pub fn cap<S: Reports + Loads>(
     alloc: Global,
     conn: &mut Connection<S>,
     digest: &Digest,
@@ -33,7 +35,7 @@ pub fn cap<S: Alter>(
 
 /// Adds a capability at a digest that has none.
 #[tactic(auto, using(crate::proofs::Statements::adds_cap))]
-pub fn add_cap<S: Alter>(
+pub fn add_cap<S: Reports>(
     tx: &mut Transaction<'_, S>,
     digest: &Digest,
     cap: &Cap,
@@ -53,7 +55,7 @@ pub fn add_cap<S: Alter>(
 
 /// Takes the capability at a digest away, if there is one.
 #[tactic(auto, using(crate::proofs::Statements::takes_cap))]
-pub fn take_cap<S: Alter>(tx: &mut Transaction<'_, S>, digest: &Digest) -> Result<(), Fault>
+pub fn take_cap<S: Reports>(tx: &mut Transaction<'_, S>, digest: &Digest) -> Result<(), Fault>
     ensures same_reference { tx.new.conn.ghost_name ≡ tx.old.conn.ghost_name }
     ensures steps { Steps (state S.Store tx.old.conn.now) (state S.Store tx.new.conn.now) result
         (λ (w : World). Unit {0})
@@ -63,7 +65,7 @@ pub fn take_cap<S: Alter>(tx: &mut Transaction<'_, S>, digest: &Digest) -> Resul
 }
 
 /// Takes the capabilities at these digests away, where there are some. There is one digest at least.
-pub fn take_caps<S: Alter>(tx: &mut Transaction<'_, S>, digests: &[Digest]) -> Result<(), Fault>
+pub fn take_caps<S: Reports>(tx: &mut Transaction<'_, S>, digests: &[Digest]) -> Result<(), Fault>
     requires { digests.now ≡ [] → ⊥ }
     ensures same_reference { tx.new.conn.ghost_name ≡ tx.old.conn.ghost_name }
     ensures steps { Steps (state S.Store tx.old.conn.now) (state S.Store tx.new.conn.now) result

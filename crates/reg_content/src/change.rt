@@ -22,11 +22,12 @@ use crate::requests::set_state;
 use reg_core::change::Change;
 use reg_keeper::keeper::Fault;
 use reg_statements::write::fault;
-use sqlite::{Alter, Connection, Transaction};
+use reg_tables::reports::Reports;
+use sqlite::{Connection, Transaction};
 use std::alloc::Global;
 
 /// Makes a change whole, or not at all.
-pub fn apply<S: Alter>(
+pub fn apply<S: Reports>(
     alloc: Global,
     conn: &mut Connection<S>,
     change: &Change,
@@ -60,7 +61,7 @@ fn writes_row(change: &Change) -> bool
 
 /// Commits what a transaction wrote, or undoes it. A fault is what the library's error is: want of
 /// memory is `Memory`, and any other `Store`.
-fn commit<S: Alter>(tx: Transaction<'_, S>) -> Result<(), Fault>
+fn commit<S: Reports>(tx: Transaction<'_, S>) -> Result<(), Fault>
     ensures ended { tx.exit.0.now.in_transaction ≡ false }
     ensures committed { HasCleanDisk (state S.Store tx.exit.0.now) → OnOk result
         (IsCommitted (state S.Store tx.entry.conn.now) (state S.Store tx.exit.0.now)) }
@@ -78,7 +79,11 @@ fn commit<S: Alter>(tx: Transaction<'_, S>) -> Result<(), Fault>
 }
 
 /// Makes a change to what a transaction sees, which writes to a row.
-fn make<S: Alter>(alloc: Global, tx: &mut Transaction<'_, S>, change: &Change) -> Result<(), Fault>
+fn make<S: Reports>(
+    alloc: Global,
+    tx: &mut Transaction<'_, S>,
+    change: &Change,
+) -> Result<(), Fault>
     requires { writes_row change.now ≡ true }
     ensures same_reference { tx.new.conn.ghost_name ≡ tx.old.conn.ghost_name }
     ensures steps { Steps (state S.Store tx.old.conn.now) (state S.Store tx.new.conn.now) result

@@ -26,14 +26,16 @@ use reg_ranges::formed::Formed;
 use reg_records::column::{name_value, number_value};
 use reg_records::entries::entry_values;
 use reg_records::holds::Hold;
+use reg_statements::loads::Loads;
 use reg_statements::select::all;
+use reg_tables::reports::Reports;
 use reg_tables::texts::{PUT_ENTRY, SELECT_ENTRIES, SELECT_ENTRIES_OF, SELECT_ENTRY};
-use sqlite::{Alter, Connection, Transaction};
+use sqlite::{Connection, Transaction};
 use std::alloc::Global;
 
 /// The entry of a registry at a value.
 #[tactic(auto, using(reg_tables::proofs::Statements::entry_by_key))]
-pub fn entry<S: Alter>(
+pub fn entry<S: Reports + Loads>(
     alloc: Global,
     conn: &mut Connection<S>,
     registry: &Name,
@@ -58,7 +60,7 @@ pub fn entry<S: Alter>(
 
 /// All entries of a registry, by value. Their values ascend whatever the premise.
 #[tactic(auto, using(reg_tables::proofs::Statements::entries_of_registry))]
-pub fn entries<S: Alter>(
+pub fn entries<S: Reports + Loads>(
     alloc: Global,
     conn: &mut Connection<S>,
     registry: &Name,
@@ -81,7 +83,10 @@ pub fn entries<S: Alter>(
 /// The entries of all registries, by registry and then by value, without their marks. Where there
 /// is an answer, the rows of the table are these entries, no two at one place.
 #[tactic(auto, using(reg_tables::proofs::Statements::all_entries))]
-pub fn all_entries<S: Alter>(alloc: Global, conn: &mut Connection<S>) -> Result<Vec<Entry>, Fault>
+pub fn all_entries<S: Reports + Loads>(
+    alloc: Global,
+    conn: &mut Connection<S>,
+) -> Result<Vec<Entry>, Fault>
     requires { IsIdle (state S.Store conn.old) }
     ensures idle { IsIdle (state S.Store conn.new) }
     ensures endures { Endures (state S.Store conn.old) (state S.Store conn.new) }
@@ -97,7 +102,7 @@ pub fn all_entries<S: Alter>(alloc: Global, conn: &mut Connection<S>) -> Result<
 
 /// Puts an entry with its mark in the place of the one at its value of its registry, or adds it
 /// where there is none. One that does not expire has no mark.
-pub fn put_entry<S: Alter>(tx: &mut Transaction<'_, S>, entry: &Entry) -> Result<(), Fault>
+pub fn put_entry<S: Reports>(tx: &mut Transaction<'_, S>, entry: &Entry) -> Result<(), Fault>
     ensures same_reference { tx.new.conn.ghost_name ≡ tx.old.conn.ghost_name }
     ensures steps { Steps (state S.Store tx.old.conn.now) (state S.Store tx.new.conn.now) result
         (λ (w : World). MayBeHeld entry.now)
@@ -117,7 +122,7 @@ pub fn put_entry<S: Alter>(tx: &mut Transaction<'_, S>, entry: &Entry) -> Result
 
 /// Puts an entry without its mark at its value of its registry, where none stands that is held.
 #[tactic(auto, using(crate::proofs::Statements::puts_entry))]
-fn put_unheld<S: Alter>(tx: &mut Transaction<'_, S>, entry: &Entry) -> Result<(), Fault>
+fn put_unheld<S: Reports>(tx: &mut Transaction<'_, S>, entry: &Entry) -> Result<(), Fault>
     ensures same_reference { tx.new.conn.ghost_name ≡ tx.old.conn.ghost_name }
     ensures steps { Steps (state S.Store tx.old.conn.now) (state S.Store tx.new.conn.now) result
         (IsUnheld (entry.now.registry, entry.now.value))

@@ -18,11 +18,12 @@ use reg_core::holding::Holding;
 use reg_core::request::{Request, State};
 use reg_core::text::{Account, Ref, Text};
 use reg_keeper::keeper::Fault;
-use sqlite::{Alter, Transaction};
+use reg_tables::reports::Reports;
+use sqlite::Transaction;
 use std::alloc::Global;
 
 /// Adds a pending request, with the minute that it names, at a name that has none.
-pub fn submit<S: Alter>(
+pub fn submit<S: Reports>(
     tx: &mut Transaction<'_, S>,
     account: &Account,
     reference: &Ref,
@@ -60,7 +61,7 @@ fn minute_of(ask: &Ask) -> Option<&Text>
 
 /// Approves a request and adds the entry that it is given, or puts it in the place of one. The mark
 /// that stands there is that of the new term after it.
-pub fn give_value<S: Alter>(
+pub fn give_value<S: Reports>(
     alloc: Global,
     tx: &mut Transaction<'_, S>,
     account: &Account,
@@ -78,7 +79,7 @@ pub fn give_value<S: Alter>(
 }
 
 /// Approves a request and adds the block that it is given.
-pub fn give_block<S: Alter>(
+pub fn give_block<S: Reports>(
     alloc: Global,
     tx: &mut Transaction<'_, S>,
     account: &Account,

@@ -20,13 +20,15 @@ use reg_keeper::keeper::Fault;
 use reg_ranges::formed::Formed;
 use reg_records::column::{name_value, number_value};
 use reg_records::holds::Hold;
+use reg_statements::loads::Loads;
+use reg_tables::reports::Reports;
 use reg_tables::texts::{DELETE_HOLD, INSERT_HOLDS, SELECT_HOLD, SELECT_HOLDS_OF};
-use sqlite::{Alter, Connection, Transaction};
+use sqlite::{Connection, Transaction};
 use std::alloc::{AllocError, Global};
 use std::collections::BTreeSet;
 
 /// An entry with its mark, if it has one. Only for one that expires is its mark looked up.
-pub(crate) fn marked<S: Alter>(
+pub(crate) fn marked<S: Reports + Loads>(
     alloc: Global,
     conn: &mut Connection<S>,
     entry: Entry,
@@ -42,7 +44,7 @@ pub(crate) fn marked<S: Alter>(
 }
 
 /// Entries of a registry with their marks. These are read once, and only where an entry expires.
-pub(crate) fn marked_all<S: Alter>(
+pub(crate) fn marked_all<S: Reports + Loads>(
     alloc: Global,
     conn: &mut Connection<S>,
     registry: &Name,
@@ -57,7 +59,7 @@ pub(crate) fn marked_all<S: Alter>(
 }
 
 /// Marks an entry that expires and is not held, or takes the mark of one away that is.
-pub(crate) fn set_hold<S: Alter>(
+pub(crate) fn set_hold<S: Reports>(
     tx: &mut Transaction<'_, S>,
     registry: &Name,
     value: u32,
@@ -83,7 +85,7 @@ pub(crate) fn set_hold<S: Alter>(
 
 /// Marks an entry that expires and is not held.
 #[tactic(auto, using(crate::proofs::Statements::adds_hold))]
-pub(crate) fn add_hold<S: Alter>(tx: &mut Transaction<'_, S>, hold: &Hold) -> Result<(), Fault>
+pub(crate) fn add_hold<S: Reports>(tx: &mut Transaction<'_, S>, hold: &Hold) -> Result<(), Fault>
     ensures same_reference { tx.new.conn.ghost_name ≡ tx.old.conn.ghost_name }
     ensures steps { Steps (state S.Store tx.old.conn.now) (state S.Store tx.new.conn.now) result
         (IsHeldSo false (hold.now.registry, hold.now.value))
@@ -97,7 +99,7 @@ pub(crate) fn add_hold<S: Alter>(tx: &mut Transaction<'_, S>, hold: &Hold) -> Re
 
 /// Takes the mark of an entry away, if it has one.
 #[tactic(auto, using(crate::proofs::Statements::takes_hold))]
-pub(crate) fn take_hold<S: Alter>(tx: &mut Transaction<'_, S>, hold: &Hold) -> Result<(), Fault>
+pub(crate) fn take_hold<S: Reports>(tx: &mut Transaction<'_, S>, hold: &Hold) -> Result<(), Fault>
     ensures same_reference { tx.new.conn.ghost_name ≡ tx.old.conn.ghost_name }
     ensures steps { Steps (state S.Store tx.old.conn.now) (state S.Store tx.new.conn.now) result
         (λ (w : World). Unit {0})
@@ -109,7 +111,7 @@ pub(crate) fn take_hold<S: Alter>(tx: &mut Transaction<'_, S>, hold: &Hold) -> R
 }
 
 /// Whether an entry has a mark. One that does not expire has none, and is not looked up.
-fn is_marked<S: Alter>(
+fn is_marked<S: Reports + Loads>(
     alloc: Global,
     conn: &mut Connection<S>,
     entry: &Entry,
@@ -128,7 +130,7 @@ fn is_marked<S: Alter>(
 
 /// Whether the entry at a value of a registry has a mark.
 #[tactic(auto, using(reg_tables::proofs::Statements::hold_by_key))]
-fn is_held<S: Alter>(
+fn is_held<S: Reports + Loads>(
     alloc: Global,
     conn: &mut Connection<S>,
     registry: &Name,
@@ -149,7 +151,7 @@ fn is_held<S: Alter>(
 
 /// The marks of a registry, where an entry of these expires.
 #[tactic(auto, using(reg_tables::proofs::Statements::holds_of_registry))]
-fn marks_if<S: Alter>(
+fn marks_if<S: Reports + Loads>(
     alloc: Global,
     conn: &mut Connection<S>,
     registry: &Name,

@@ -19,15 +19,17 @@ use reg_keeper::keeper::Fault;
 use reg_ranges::formed::Formed;
 use reg_records::column::name_value;
 use reg_records::links::Link;
+use reg_statements::loads::Loads;
+use reg_tables::reports::Reports;
 use reg_tables::texts::{
     DELETE_AGENT, INSERT_AGENTS, SELECT_AGENT, SELECT_AGENTS_OF, SELECT_PRINCIPALS_OF,
 };
-use sqlite::{Alter, Connection, Transaction};
+use sqlite::{Connection, Transaction};
 use std::alloc::{AllocError, Global};
 
 /// The agents of an account, in order.
 #[tactic(auto, using(reg_tables::proofs::Statements::agents_of_principal))]
-pub fn agents<S: Alter>(
+pub fn agents<S: Reports + Loads>(
     alloc: Global,
     conn: &mut Connection<S>,
     account: &Account,
@@ -42,7 +44,7 @@ pub fn agents<S: Alter>(
 
 /// The principals of an account, in order: the accounts whose agent it is.
 #[tactic(auto, using(reg_tables::proofs::Statements::principals_of_agent))]
-pub fn principals<S: Alter>(
+pub fn principals<S: Reports + Loads>(
     alloc: Global,
     conn: &mut Connection<S>,
     account: &Account,
@@ -56,7 +58,7 @@ pub fn principals<S: Alter>(
 }
 
 /// All requests of a principal, by reference, if the account is its agent.
-pub fn principal_rows<S: Alter>(
+pub fn principal_rows<S: Reports + Loads>(
     alloc: Global,
     conn: &mut Connection<S>,
     principal: &Account,
@@ -76,7 +78,7 @@ pub fn principal_rows<S: Alter>(
 
 /// Whether an account is an agent of a principal.
 #[tactic(auto, using(reg_tables::proofs::Statements::agent_by_key))]
-pub fn is_agent<S: Alter>(
+pub fn is_agent<S: Reports + Loads>(
     alloc: Global,
     conn: &mut Connection<S>,
     principal: &Account,
@@ -96,7 +98,7 @@ pub fn is_agent<S: Alter>(
 }
 
 /// Makes an account an agent of a principal that it is not, or takes it away.
-pub fn set_agent<S: Alter>(
+pub fn set_agent<S: Reports>(
     tx: &mut Transaction<'_, S>,
     principal: &Account,
     agent: &Account,
@@ -116,7 +118,7 @@ pub fn set_agent<S: Alter>(
 
 /// Makes an account an agent of a principal that it is not.
 #[tactic(auto, using(crate::proofs::Statements::adds_link))]
-fn add_agent<S: Alter>(
+fn add_agent<S: Reports>(
     tx: &mut Transaction<'_, S>,
     principal: &Account,
     agent: &Account,
@@ -136,7 +138,7 @@ fn add_agent<S: Alter>(
 
 /// Takes an agent of a principal away, if it is one.
 #[tactic(auto, using(crate::proofs::Statements::takes_link))]
-fn take_agent<S: Alter>(
+fn take_agent<S: Reports>(
     tx: &mut Transaction<'_, S>,
     principal: &Account,
     agent: &Account,

@@ -18,8 +18,10 @@ use reg_keeper::keeper::Fault;
 use reg_ranges::formed::Formed;
 use reg_records::column::name_value;
 use reg_records::minutes::Minute;
+use reg_statements::loads::Loads;
+use reg_tables::reports::Reports;
 use reg_tables::texts::{INSERT_MINUTES, SELECT_MINUTE};
-use sqlite::{Alter, Connection, Transaction};
+use sqlite::{Connection, Transaction};
 use std::alloc::{AllocError, Global};
 
 /// What names a request, which may name a minute.
@@ -31,7 +33,7 @@ pub(crate) trait Minuted: Drop {
     ghost minuted: { Parts → Self → Self.Whole };
 
     /// It with the minute that the request names, if it names one.
-    fn minuted<S: Alter>(
+    fn minuted<S: Reports + Loads>(
         self,
         alloc: Global,
         conn: &mut Connection<S>,
@@ -47,7 +49,11 @@ impl Minuted for Request {
     ghost minuted = { request_minuted };
 
     // Only for a renewal is the minute looked up.
-    fn minuted<S: Alter>(self, alloc: Global, conn: &mut Connection<S>) -> Result<Request, Fault> {
+    fn minuted<S: Reports + Loads>(
+        self,
+        alloc: Global,
+        conn: &mut Connection<S>,
+    ) -> Result<Request, Fault> {
         match minute_if(alloc, conn, &self) {
             Ok(minute) => Ok(with_minute(self, minute)),
             Err(fault) => {
@@ -59,7 +65,7 @@ impl Minuted for Request {
 }
 
 /// Requests with the minutes that they name.
-pub(crate) fn minuted_all<S: Alter>(
+pub(crate) fn minuted_all<S: Reports + Loads>(
     alloc: Global,
     conn: &mut Connection<S>,
     requests: Vec<Request>,
@@ -76,7 +82,7 @@ pub(crate) fn minuted_all<S: Alter>(
 
 /// Adds the minute that a renewal names which has none yet.
 #[tactic(auto, using(crate::proofs::Statements::adds_minute))]
-pub(crate) fn add_minute<S: Alter>(
+pub(crate) fn add_minute<S: Reports>(
     tx: &mut Transaction<'_, S>,
     account: &Account,
     reference: &Ref,
@@ -102,7 +108,7 @@ pub(crate) fn add_minute<S: Alter>(
 }
 
 /// The minute that a request names, if it is a renewal and names one.
-fn minute_if<S: Alter>(
+fn minute_if<S: Reports + Loads>(
     alloc: Global,
     conn: &mut Connection<S>,
     request: &Request,
@@ -121,7 +127,7 @@ fn minute_if<S: Alter>(
 
 /// The minute that the request of an account under a reference names, if it names one.
 #[tactic(auto, using(reg_tables::proofs::Statements::minute_by_key))]
-fn minute<S: Alter>(
+fn minute<S: Reports + Loads>(
     alloc: Global,
     conn: &mut Connection<S>,
     account: &Account,
@@ -141,7 +147,7 @@ fn minute<S: Alter>(
 }
 
 /// Requests with the minutes that they name, looked up one by one.
-pub(crate) fn minuted_each<S: Alter, T: Minuted>(
+pub(crate) fn minuted_each<S: Reports + Loads, T: Minuted>(
     alloc: Global,
     conn: &mut Connection<S>,
     requests: Vec<T>,

@@ -12,12 +12,17 @@ use reg_core::case_file::CaseFile;
 use reg_core::request::Request;
 use reg_core::rows::Rows;
 use reg_keeper::keeper::Fault;
-use sqlite::{Alter, Connection};
+use reg_statements::loads::Loads;
+use reg_tables::reports::Reports;
+use sqlite::Connection;
 use std::alloc::Global;
 
 /// The requests that wait, with their experts and all advice on them, by account and then by
 /// reference.
-pub fn pending<S: Alter>(alloc: Global, conn: &mut Connection<S>) -> Result<Rows<CaseFile>, Fault>
+pub fn pending<S: Reports + Loads>(
+    alloc: Global,
+    conn: &mut Connection<S>,
+) -> Result<Rows<CaseFile>, Fault>
     requires { IsKeeping (state S.Store conn.old) }
     ensures { Looks (state S.Store conn.old) (state S.Store conn.new) result
         (λ w files. files ≡ waiting_files w) }
@@ -28,7 +33,7 @@ pub fn pending<S: Alter>(alloc: Global, conn: &mut Connection<S>) -> Result<Rows
 }
 
 /// Requests with their experts and all advice on them, looked up one by one.
-fn filed_each<S: Alter>(
+fn filed_each<S: Reports + Loads>(
     alloc: Global,
     conn: &mut Connection<S>,
     requests: Vec<Request>,
@@ -46,7 +51,7 @@ fn filed_each<S: Alter>(
 }
 
 /// A request with its experts and all advice on it, by expert.
-fn filed<S: Alter>(
+fn filed<S: Reports + Loads>(
     alloc: Global,
     conn: &mut Connection<S>,
     request: Request,

@@ -14,13 +14,15 @@ use reg_keeper::keeper::Fault;
 use reg_ranges::formed::Formed;
 use reg_records::column::number_value;
 use reg_records::pool::Prefix;
+use reg_statements::loads::Loads;
+use reg_tables::reports::Reports;
 use reg_tables::texts::{INSERT_POOL, SELECT_POOL, SELECT_PREFIX};
-use sqlite::{Alter, Connection, Transaction};
+use sqlite::{Connection, Transaction};
 use std::alloc::Global;
 
 /// The prefixes of the pool.
 #[tactic(auto, using(reg_tables::proofs::Statements::all_pool))]
-pub fn pool<S: Alter>(alloc: Global, conn: &mut Connection<S>) -> Result<Pool, Fault>
+pub fn pool<S: Reports + Loads>(alloc: Global, conn: &mut Connection<S>) -> Result<Pool, Fault>
     requires { IsKeeping (state S.Store conn.old) }
     ensures { Looks (state S.Store conn.old) (state S.Store conn.new) result
         (λ w pool. pool ≡ keys w.pool) }
@@ -31,7 +33,7 @@ pub fn pool<S: Alter>(alloc: Global, conn: &mut Connection<S>) -> Result<Pool, F
 
 /// Whether a prefix is in the pool.
 #[tactic(auto, using(reg_tables::proofs::Statements::prefix_by_key))]
-pub fn is_pooled<S: Alter>(
+pub fn is_pooled<S: Reports + Loads>(
     alloc: Global,
     conn: &mut Connection<S>,
     prefix: u32,
@@ -46,7 +48,7 @@ pub fn is_pooled<S: Alter>(
 
 /// Adds a prefix that is not in the pool.
 #[tactic(auto, using(crate::proofs::Statements::adds_prefix))]
-pub fn add_prefix<S: Alter>(tx: &mut Transaction<'_, S>, prefix: u32) -> Result<(), Fault>
+pub fn add_prefix<S: Reports>(tx: &mut Transaction<'_, S>, prefix: u32) -> Result<(), Fault>
     ensures same_reference { tx.new.conn.ghost_name ≡ tx.old.conn.ghost_name }
     ensures steps { Steps (state S.Store tx.old.conn.now) (state S.Store tx.new.conn.now) result
         (λ (w : World). contains_key w.pool prefix ≡ false)

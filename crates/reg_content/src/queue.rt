@@ -12,13 +12,15 @@ use reg_keeper::keeper::Fault;
 use reg_ranges::formed::Formed;
 use reg_records::column::name_value;
 use reg_records::queue::Seat;
+use reg_statements::loads::Loads;
+use reg_tables::reports::Reports;
 use reg_tables::texts::{INSERT_QUEUE, SELECT_QUEUE_ROW};
-use sqlite::{Alter, Connection, Transaction};
+use sqlite::{Connection, Transaction};
 use std::alloc::Global;
 
 /// Whether a request is assigned to an expert.
 #[tactic(auto, using(reg_tables::proofs::Statements::queue_by_key))]
-pub fn is_queued<S: Alter>(
+pub fn is_queued<S: Reports + Loads>(
     alloc: Global,
     conn: &mut Connection<S>,
     account: &Account,
@@ -45,7 +47,7 @@ pub fn is_queued<S: Alter>(
 
 /// Assigns a request to an expert to whom it is not assigned.
 #[tactic(auto, using(crate::proofs::Statements::adds_seat))]
-pub fn add_seat<S: Alter>(
+pub fn add_seat<S: Reports>(
     tx: &mut Transaction<'_, S>,
     account: &Account,
     reference: &Ref,

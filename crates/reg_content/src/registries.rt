@@ -18,15 +18,20 @@ use reg_ranges::table::RangeTable;
 use reg_records::column::name_value;
 use reg_records::ranges::RegistryRange;
 use reg_records::registries::Registry;
+use reg_statements::loads::Loads;
+use reg_tables::reports::Reports;
 use reg_tables::texts::{
     INSERT_RANGES, INSERT_REGISTRIES, SELECT_RANGES_OF, SELECT_REGISTRIES, SELECT_REGISTRY,
 };
-use sqlite::{Alter, Connection, Transaction};
+use sqlite::{Connection, Transaction};
 use std::alloc::{AllocError, Global};
 
 /// The names of all registries, in order.
 #[tactic(auto, using(reg_tables::proofs::Statements::all_registries))]
-pub fn names<S: Alter>(alloc: Global, conn: &mut Connection<S>) -> Result<Rows<Name>, Fault>
+pub fn names<S: Reports + Loads>(
+    alloc: Global,
+    conn: &mut Connection<S>,
+) -> Result<Rows<Name>, Fault>
     requires { IsKeeping (state S.Store conn.old) }
     ensures { Looks (state S.Store conn.old) (state S.Store conn.new) result
         (λ w names. names ≡ keys w.registries) }
@@ -37,7 +42,7 @@ pub fn names<S: Alter>(alloc: Global, conn: &mut Connection<S>) -> Result<Rows<N
 
 /// The ranges of a registry, with its largest value. Ranges that are no partition of its values
 /// are a fault of the store.
-pub fn ranges<S: Alter>(
+pub fn ranges<S: Reports + Loads>(
     alloc: Global,
     conn: &mut Connection<S>,
     name: &Name,
@@ -57,7 +62,7 @@ pub fn ranges<S: Alter>(
 }
 
 /// Adds a registry with its ranges, where there is none of the name.
-pub fn add_registry<S: Alter>(
+pub fn add_registry<S: Reports>(
     tx: &mut Transaction<'_, S>,
     name: &Name,
     table: &RangeTable,
@@ -77,7 +82,7 @@ pub fn add_registry<S: Alter>(
 
 /// Adds a registry that has no ranges yet, where there is none of the name.
 #[tactic(auto, using(crate::proofs::Statements::adds_registry))]
-fn add_name<S: Alter>(tx: &mut Transaction<'_, S>, name: &Name, max: u32) -> Result<(), Fault>
+fn add_name<S: Reports>(tx: &mut Transaction<'_, S>, name: &Name, max: u32) -> Result<(), Fault>
     ensures same_reference { tx.new.conn.ghost_name ≡ tx.old.conn.ghost_name }
     ensures steps { Steps (state S.Store tx.old.conn.now) (state S.Store tx.new.conn.now) result
         (λ (w : World). get w.registries name.now ≡ None)
@@ -92,7 +97,11 @@ fn add_name<S: Alter>(tx: &mut Transaction<'_, S>, name: &Name, max: u32) -> Res
 
 /// Adds a range to a registry whose ranges all begin below it.
 #[tactic(auto, using(crate::proofs::Statements::adds_range))]
-fn add_range<S: Alter>(tx: &mut Transaction<'_, S>, name: &Name, range: &Range) -> Result<(), Fault>
+fn add_range<S: Reports>(
+    tx: &mut Transaction<'_, S>,
+    name: &Name,
+    range: &Range,
+) -> Result<(), Fault>
     ensures same_reference { tx.new.conn.ghost_name ≡ tx.old.conn.ghost_name }
     ensures steps { Steps (state S.Store tx.old.conn.now) (state S.Store tx.new.conn.now) result
         (λ (w : World). CanFollow w.registries name.now range.now)
@@ -110,7 +119,11 @@ fn add_range<S: Alter>(tx: &mut Transaction<'_, S>, name: &Name, range: &Range) 
 
 /// The largest value of a registry.
 #[tactic(auto, using(reg_tables::proofs::Statements::registry_by_key))]
-fn max<S: Alter>(alloc: Global, conn: &mut Connection<S>, name: &Name) -> Result<Option<u32>, Fault>
+fn max<S: Reports + Loads>(
+    alloc: Global,
+    conn: &mut Connection<S>,
+    name: &Name,
+) -> Result<Option<u32>, Fault>
     requires { IsKeeping (state S.Store conn.old) }
     ensures { Looks (state S.Store conn.old) (state S.Store conn.new) result
         (λ w max. max ≡ option_map (λ (t : Table). t.max) (get w.registries name.now)) }
@@ -121,7 +134,7 @@ fn max<S: Alter>(alloc: Global, conn: &mut Connection<S>, name: &Name) -> Result
 
 /// The ranges of a registry, in order.
 #[tactic(auto, using(reg_tables::proofs::Statements::ranges_of_registry))]
-fn ranges_of<S: Alter>(
+fn ranges_of<S: Reports + Loads>(
     alloc: Global,
     conn: &mut Connection<S>,
     name: &Name,

@@ -24,17 +24,19 @@ use reg_keeper::keeper::Fault;
 use reg_ranges::formed::Formed;
 use reg_records::column::{name_value, word_value};
 use reg_records::requests::values::{given_text, request_values, state_values};
+use reg_statements::loads::Loads;
+use reg_tables::reports::Reports;
 use reg_tables::texts::{
     CHANGE_REQUEST, INSERT_REQUESTS, SELECT_PENDING, SELECT_REQUEST, SELECT_REQUESTS,
     SELECT_REQUESTS_OF,
 };
 use sqlite::types::ValueRef;
-use sqlite::{Alter, Connection, Transaction};
+use sqlite::{Connection, Transaction};
 use std::alloc::Global;
 
 /// The request of an account under a reference.
 #[tactic(auto, using(reg_tables::proofs::Statements::request_by_key))]
-pub fn own_one<S: Alter>(
+pub fn own_one<S: Reports + Loads>(
     alloc: Global,
     conn: &mut Connection<S>,
     account: &Account,
@@ -59,7 +61,7 @@ pub fn own_one<S: Alter>(
 
 /// All requests of an account, by reference.
 #[tactic(auto, using(reg_tables::proofs::Statements::requests_of_account))]
-pub fn own<S: Alter>(
+pub fn own<S: Reports + Loads>(
     alloc: Global,
     conn: &mut Connection<S>,
     account: &Account,
@@ -75,7 +77,10 @@ pub fn own<S: Alter>(
 
 /// All requests, by account and then by reference.
 #[tactic(auto, using(reg_tables::proofs::Statements::all_requests))]
-pub fn all<S: Alter>(alloc: Global, conn: &mut Connection<S>) -> Result<Rows<Request>, Fault>
+pub fn all<S: Reports + Loads>(
+    alloc: Global,
+    conn: &mut Connection<S>,
+) -> Result<Rows<Request>, Fault>
     requires { IsKeeping (state S.Store conn.old) }
     ensures { Looks (state S.Store conn.old) (state S.Store conn.new) result
         (λ w rows. rows ≡ request_rows w.requests) }
@@ -87,7 +92,10 @@ pub fn all<S: Alter>(alloc: Global, conn: &mut Connection<S>) -> Result<Rows<Req
 
 /// The requests that wait, by account and then by reference.
 #[tactic(auto, using(reg_tables::proofs::Statements::requests_in_state))]
-pub fn waiting<S: Alter>(alloc: Global, conn: &mut Connection<S>) -> Result<Rows<Request>, Fault>
+pub fn waiting<S: Reports + Loads>(
+    alloc: Global,
+    conn: &mut Connection<S>,
+) -> Result<Rows<Request>, Fault>
     requires { IsKeeping (state S.Store conn.old) }
     ensures { Looks (state S.Store conn.old) (state S.Store conn.new) result
         (λ w rows. rows ≡ request_rows (waiting w)) }
@@ -100,7 +108,7 @@ pub fn waiting<S: Alter>(alloc: Global, conn: &mut Connection<S>) -> Result<Rows
 
 /// Adds a pending request, without the minute that it names, at a name that has none.
 #[tactic(auto, using(crate::proofs::Statements::adds_request))]
-pub fn add_request<S: Alter>(tx: &mut Transaction<'_, S>, request: &Request) -> Result<(), Fault>
+pub fn add_request<S: Reports>(tx: &mut Transaction<'_, S>, request: &Request) -> Result<(), Fault>
     requires { request.now.state ≡ Pending }
     ensures same_reference { tx.new.conn.ghost_name ≡ tx.old.conn.ghost_name }
     ensures steps { Steps (state S.Store tx.old.conn.now) (state S.Store tx.new.conn.now) result
@@ -113,7 +121,7 @@ pub fn add_request<S: Alter>(tx: &mut Transaction<'_, S>, request: &Request) -> 
 
 /// Puts a request that is there in another state. What is given is what its ask is for.
 #[tactic(auto, using(reg_tables::proofs::EditStatements::change_request_writes))]
-pub fn set_state<S: Alter>(
+pub fn set_state<S: Reports>(
     alloc: Global,
     tx: &mut Transaction<'_, S>,
     account: &Account,

@@ -24,13 +24,15 @@ use reg_keeper::keeper::Fault;
 use reg_records::advised::AdvisedSeat;
 use reg_records::column::name_value;
 use reg_records::queued::QueuedRequest;
+use reg_statements::loads::Loads;
 use reg_statements::select::all;
+use reg_tables::reports::Reports;
 use reg_tables::texts::{SELECT_QUEUED, SELECT_SEATS};
-use sqlite::{Alter, Connection};
+use sqlite::Connection;
 use std::alloc::{AllocError, Global};
 
 /// The request of an account under a reference, with its experts and all advice on it, by expert.
-pub fn file<S: Alter>(
+pub fn file<S: Reports + Loads>(
     alloc: Global,
     conn: &mut Connection<S>,
     account: &Account,
@@ -54,7 +56,7 @@ pub fn file<S: Alter>(
 
 /// The experts to whom a request is assigned, and all advice on it, by expert.
 #[tactic(auto, using(reg_tables::proofs::Statements::seats_of_request))]
-pub(crate) fn seats<S: Alter>(
+pub(crate) fn seats<S: Reports + Loads>(
     alloc: Global,
     conn: &mut Connection<S>,
     account: &Account,
@@ -79,7 +81,7 @@ pub(crate) fn seats<S: Alter>(
 /// All requests that are assigned to an expert, with the expert's own advice, by account and then
 /// by reference.
 #[tactic(auto, using(reg_tables::proofs::Statements::queued_of_expert))]
-pub fn queue<S: Alter>(
+pub fn queue<S: Reports + Loads>(
     alloc: Global,
     conn: &mut Connection<S>,
     expert: &Account,
@@ -94,7 +96,7 @@ pub fn queue<S: Alter>(
 
 /// The request of an account under a reference, with the expert's own advice, if it is assigned to
 /// the expert.
-pub fn queue_one<S: Alter>(
+pub fn queue_one<S: Reports + Loads>(
     alloc: Global,
     conn: &mut Connection<S>,
     expert: &Account,
@@ -157,7 +159,11 @@ impl Minuted for QueuedRequest {
 
     ghost minuted = { seen_minuted };
 
-    fn minuted<S: Alter>(self, alloc: Global, conn: &mut Connection<S>) -> Result<QueueRow, Fault> {
+    fn minuted<S: Reports + Loads>(
+        self,
+        alloc: Global,
+        conn: &mut Connection<S>,
+    ) -> Result<QueueRow, Fault> {
         let advice = self.advice;
         match self.request.minuted(alloc, conn) {
             Ok(request) => Ok(queued(request, advice)),

@@ -13,7 +13,9 @@ use reg_core::rows::Rows;
 use reg_keeper::keeper::Fault;
 use reg_records::caps::Grant;
 use reg_records::links::Link;
-use sqlite::{Alter, Connection};
+use reg_statements::loads::Loads;
+use reg_tables::reports::Reports;
+use sqlite::Connection;
 use std::alloc::{AllocError, Global};
 
 /// All capabilities, by digest.
@@ -24,7 +26,10 @@ pub const SELECT_AGENTS: &str = "SELECT principal, agent FROM agents ORDER BY pr
 
 /// All capabilities, by digest.
 #[tactic(auto, using(crate::proofs::WholeTables::all_caps))]
-pub fn caps<S: Alter>(alloc: Global, conn: &mut Connection<S>) -> Result<Rows<CapRow>, Fault>
+pub fn caps<S: Reports + Loads>(
+    alloc: Global,
+    conn: &mut Connection<S>,
+) -> Result<Rows<CapRow>, Fault>
     requires { IsKeeping (state S.Store conn.old) }
     ensures { Looks (state S.Store conn.old) (state S.Store conn.new) result
         (λ w rows. rows ≡ cap_rows w.caps) }
@@ -35,7 +40,10 @@ pub fn caps<S: Alter>(alloc: Global, conn: &mut Connection<S>) -> Result<Rows<Ca
 
 /// All principals with their agents, by principal and then by agent.
 #[tactic(auto, using(crate::proofs::WholeTables::all_links))]
-pub fn links<S: Alter>(alloc: Global, conn: &mut Connection<S>) -> Result<Rows<LinkRow>, Fault>
+pub fn links<S: Reports + Loads>(
+    alloc: Global,
+    conn: &mut Connection<S>,
+) -> Result<Rows<LinkRow>, Fault>
     requires { IsKeeping (state S.Store conn.old) }
     ensures { Looks (state S.Store conn.old) (state S.Store conn.new) result
         (λ w rows. rows ≡ link_rows w.agents) }

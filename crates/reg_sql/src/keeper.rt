@@ -40,6 +40,8 @@ use reg_core::text::{Account, Digest, Name, Ref};
 use reg_keeper::keeper::{Fault, Keeper};
 use reg_ranges::policy::Policy;
 use reg_ranges::table::RangeTable;
+use reg_statements::loads::Loads;
+use reg_tables::reports::Reports;
 use reg_vacancies::vacancies::Vacancies;
 use sqlite::{Alter, Connection};
 use std::alloc::Global;
@@ -83,7 +85,7 @@ impl<S: Alter> Model for Tables<S> {
     ghost invariant = { λ tables. IsFollowed tables.vacancies (state S.Store tables.conn) };
 }
 
-impl<S: Alter> Tables<S> {
+impl<S: Reports + Loads> Tables<S> {
     /// The block due of a size, if one is free.
     fn due(&mut self, size: Size) -> Result<Option<Block>, Fault>
         requires { Holds (state S.Store self.old) → WellKept (world_in (state S.Store self.old)) }
@@ -145,7 +147,7 @@ impl<S: Alter> SqlKeeper<S> {
     }
 }
 
-impl<S: Alter> Keeper for SqlKeeper<S> {
+impl<S: Reports + Loads> Keeper for SqlKeeper<S> {
     ghost use Rattle.std.specs.Prelude.{true};
     ghost use Rattle.sqlite.specs.Held.{state};
     ghost use Rattle.reg_tables.specs.Connection.{Holds};

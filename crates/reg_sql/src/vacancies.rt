@@ -20,12 +20,14 @@ use reg_content::pool::pool;
 use reg_core::entry::Entry;
 use reg_core::holding::Listed;
 use reg_keeper::keeper::Fault;
+use reg_statements::loads::Loads;
+use reg_tables::reports::Reports;
 use reg_vacancies::vacancies::Vacancies;
-use sqlite::{Alter, Connection};
+use sqlite::Connection;
 use std::alloc::{AllocError, Global};
 
 /// The vacancies that are kept, or else those that the rows leave.
-pub fn vacancies_of<S: Alter>(
+pub fn vacancies_of<S: Reports + Loads>(
     alloc: Global,
     conn: &mut Connection<S>,
     kept: Option<Vacancies>,
@@ -40,7 +42,10 @@ pub fn vacancies_of<S: Alter>(
 }
 
 /// The vacancies that the rows leave. Each entry, prefix and block is read.
-pub fn read_vacancies<S: Alter>(alloc: Global, conn: &mut Connection<S>) -> Result<Vacancies, Fault>
+pub fn read_vacancies<S: Reports + Loads>(
+    alloc: Global,
+    conn: &mut Connection<S>,
+) -> Result<Vacancies, Fault>
     requires keeping { IsKeeping (state S.Store conn.old) }
     requires kept { Holds (state S.Store conn.old) → WellKept (world_in (state S.Store conn.old)) }
     ensures { Looks (state S.Store conn.old) (state S.Store conn.new) result AreVacanciesOf }
