@@ -9,9 +9,9 @@ use crate::asking::print;
 use crate::faults::Undone;
 use crate::publishing::undone;
 use reg_keeper::keeper::Keeper;
+use reg_pages::portions::Whole;
 use reg_publish::disk::Disk;
 use reg_publish::replacement::{Names, replace};
-use reg_site::portions::Whole;
 use std::alloc::Global;
 use std::io::Write;
 

@@ -3,7 +3,7 @@ use Rattle.std.proofs.Common.{◌≡◌, Bool, ℕ, ◌+◌, ◌<◌, List, [], 
 use Rattle.std.proofs.Math.Seq.{take-append_seam}
 use Rattle.std.specs.Io.KnownBytes.{Consumes, IsAtEnd}
 use Rattle.std.proofs.KnownBytes.{Consumes-nil, Consumes-trans}
-use Rattle.reg_site.specs.Portions.{GivesIfMore}
+use Rattle.reg_pages.specs.Portions.{GivesIfMore}
 use Rattle.reg_publish.specs.Copied.{IsCompared, IsCopied}
 
 -- ---- Compared so far

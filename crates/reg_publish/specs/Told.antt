@@ -15,7 +15,7 @@ use Rattle.reg_notes.specs.declared.note.Note.{Note}
 use Rattle.reg_notes.specs.declared.notes.Notes.{Notes}
 use Rattle.reg_publish.specs.declared.told.AllTold.{AllTold}
 use Rattle.reg_site.specs.IndexTree.{IndexRow}
-use Rattle.reg_site.specs.Noted.{noted_in}
+use Rattle.reg_pages.specs.Noted.{noted_in}
 use Rattle.reg_site.specs.Site.{blocks_at, blocks_in, index_files, page_in, pages_at, pool_in, prefixes_at, rows_by, shown_files, told_to_all}
 use Rattle.reg_site.specs.Sums.{Files}
 

@@ -8,8 +8,8 @@ use crate::disk::{Disk, SystemDisk};
 use crate::folder::{Folder, MOST_READ_BYTES};
 use crate::replacement::{Names, put};
 use crate::unpublished::{Unpublished, unwritten};
+use reg_pages::portions::Portions;
 use reg_site::files::File;
-use reg_site::portions::Portions;
 use std::alloc::{AllocError, Global};
 use std::fs::{Files, create_dir_all};
 

@@ -3,8 +3,8 @@ ghost use Rattle.std.specs.Prelude.{◌≡◌, ◌≤◌, IfOk, IfSome, OnOk, On
 ghost use Rattle.reg_site.specs.Files.{path_of};
 
 use crate::unpublished::Unpublished;
+use reg_pages::portions::Portions;
 use reg_site::files::File;
-use reg_site::portions::Portions;
 use std::alloc::Global;
 
 /// How many bytes of a file are read at most.

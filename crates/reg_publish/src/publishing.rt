@@ -28,8 +28,8 @@ use reg_history::history::History;
 use reg_history::overview::Overview;
 use reg_history::recorder::Recorded;
 use reg_notes::notes::Notes;
+use reg_pages::noted::of_authority;
 use reg_site::files::File;
-use reg_site::noted::of_authority;
 use reg_site::sums::Sums;
 use std::alloc::Global;
 

@@ -1,15 +1,15 @@
 //! A file that takes the place of another.
 ghost use Rattle.std.specs.Prelude.{◌≡◌, ◌≤◌, ◌++◌, [], length, take, IsTrue, IfOk, OnOk, OnErr};
 ghost use Rattle.std.specs.Io.KnownBytes.{Consumes, IsAtEnd};
-ghost use Rattle.reg_site.specs.Portions.{GivesIfMore};
+ghost use Rattle.reg_pages.specs.Portions.{GivesIfMore};
 ghost use Rattle.reg_publish.specs.Copied.{IsCompared, IsCopied};
 ghost use Rattle.reg_publish.specs.Disk.{IsLeft, IsPut, IsStopped, StaysBeside, begins, names_of, names_within, replaces};
 ghost use Rattle.reg_publish.specs.Names.{names_by};
 
 use crate::disk::Disk;
 use crate::unpublished::{Unpublished, unwritten};
+use reg_pages::portions::Portions;
 use reg_site::files::File;
-use reg_site::portions::Portions;
 use std::alloc::{AllocError, Global};
 use std::io::Read;
 

@@ -5,7 +5,7 @@ use Rattle.reg_core.specs.declared.entry.PageEntry.{PageEntry}
 use Rattle.reg_html.specs.Appended.{Shown}
 use Rattle.reg_html.specs.Markup.{all_of, markup_then}
 use Rattle.reg_html.proofs.Pieces.{Leads, shown}
-use Rattle.reg_site.proofs.Portioned.{at_place}
+use Rattle.reg_pages.proofs.Portioned.{at_place}
 use Rattle.reg_site.specs.Bar.{entry_part, joined, joins, merged, part}
 use Rattle.reg_site.specs.declared.bar.Part.{Part}
 

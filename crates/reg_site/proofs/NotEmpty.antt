@@ -3,19 +3,6 @@ use Rattle.std.proofs.Common.{◌≡◌, ℕ, ◌<◌, List, [], ◌∷◌, code
 use Rattle.reg_html.specs.Document.{attribute, plain}
 use Rattle.reg_html.specs.Markup.{text, element, beside}
 use Rattle.reg_site.specs.Index.{changed_part}
-use Rattle.reg_site.specs.Noted.{apply_at, reference_shown}
-use Rattle.reg_site.specs.Reference.{reference_markup}
-
-pub reference_shown-some : (r : List ℕ) → 0 < length r
-    → reference_shown r ≡ beside (reference_markup r) (text (codes " "))
-reference_shown-some [] h = absurd (omega arith)
-reference_shown-some (b ∷ more) h = refl
-
-pub apply_at-some : (r : List ℕ) → 0 < length r
-    → apply_at r
-    ≡ plain (codes "p") (beside (text (codes "To apply: ")) (reference_markup r))
-apply_at-some [] h = absurd (omega arith)
-apply_at-some (b ∷ more) h = refl
 
 pub changed_part-some : (t : List ℕ) → 0 < length t
     → changed_part t

@@ -13,7 +13,7 @@ use Rattle.reg_print.specs.Listing.{ListedRow, closed_status, entry_row, free_ro
 use Rattle.reg_print.specs.declared.listing.rows.Status.{Status}
 use Rattle.reg_ranges.specs.declared.range.Range.{Range}
 use Rattle.reg_site.specs.Laws.{AgreeOnPage, NotesOnNothingAreHidden}
-use Rattle.reg_site.specs.Noted.{noted_in, note_of_row}
+use Rattle.reg_pages.specs.Noted.{noted_in, note_of_row}
 use Rattle.reg_site.specs.Records as records
 use Rattle.reg_site.specs.Registry as registry
 use Rattle.reg_site.specs.Files.{path_of}

@@ -1,12 +1,11 @@
 -- Portions of a page.
 use Rattle.std.proofs.Common.{◌≡◌, ℕ, ◌+◌, ◌<◌, ◌≤◌, List, [], ◌∷◌, ◌++◌, length, get_or, drop, map, nat_lt, if◌then◌else◌, true, false, refl, sym, ap, ◌∙◌, append-nil, append_assoc, add-one, drop-cons, arith, Option}
 use Rattle.std.proofs.lemmas.Bool.Decides.{nat_tests}
-use Rattle.std.proofs.lemmas.List.{drop_all, length-append}
+use Rattle.std.proofs.lemmas.List.{drop_all}
 use Rattle.reg_core.specs.declared.entry.PageEntry.{PageEntry}
 use Rattle.reg_core.specs.declared.page.Page.{Page}
 use Rattle.reg_core.specs.declared.reply.Reply.TheVariants.{Accepted}
 use Rattle.reg_core.specs.declared.told.Told.TheVariants as tells
-use Rattle.reg_core.specs.declared.holding.Listed.{Listed}
 use Rattle.reg_ranges.specs.declared.range.Range.{Range}
 use Rattle.reg_print.specs.Answer.{body_text}
 use Rattle.reg_print.specs.Listing.{ListedRow, csv_text, header, row_fields, row_view}
@@ -16,67 +15,16 @@ use Rattle.reg_print.specs.Trees.Page.{entry_tree}
 use Rattle.reg_print.specs.declared.answer.Answer.TheVariants.{Reply}
 use Rattle.reg_print.proofs.ComparedTexts.{body_text-page}
 use Rattle.reg_print.proofs.ListingText.{record_then}
-use Rattle.reg_html.specs.Appended.{Appended}
 use Rattle.reg_html.specs.Markup.{markup_then}
-use Rattle.reg_site.specs.Portions.{GivesPortion, after}
-use Rattle.reg_site.specs.Noted.{noted_in}
+use Rattle.reg_pages.specs.Noted.{noted_in}
+use Rattle.reg_pages.proofs.Portioned.{at_place}
 use Rattle.reg_site.specs.Records as records
 use Rattle.reg_site.specs.Registry as registry
-use Rattle.reg_site.specs.Blocks as blocks
-use Rattle.reg_html.specs.Table.{below_rows}
 use Rattle.reg_site.specs.Listing.{records as listed_records}
 use Rattle.reg_site.specs.Tree.{entries_left}
-use Rattle.reg_site.specs.declared.portions.Next.TheVariants as next
 use Rattle.reg_site.specs.declared.summary.Summary.{Summary}
-use Rattle.reg_html.proofs.Pieces.{bytes}
 use Rattle.reg_notes.specs.declared.note.Note.{Note}
 use Rattle.reg_notes.specs.declared.notes.Notes.{Notes}
-
--- what was appended was the next portion, and has a byte
-pub gives : {old new rest rest' : List ℕ} {f : List ℕ → List ℕ} → Appended old new f
-    → 0 < length (f []) → rest ≡ f rest' → GivesPortion old new rest rest'
-gives {old} {new} {rest} {rest'} {f} h some is =
-    let whole : new ++ rest' ≡ old ++ rest = h.all rest' ∙ ap (λ left. old ++ left) (sym is) in
-    let grown : new ≡ old ++ f [] = sym (append-nil new) ∙ h.all [] in
-    let both : length new + length rest' ≡ length old + length rest =
-    sym (length-append new rest') ∙ ap length whole ∙ length-append old rest in
-    let more : length new ≡ length old + length (f []) = ap length grown ∙ length-append old (f []) in
-    record {
-      whole = whole;
-      less = omega (arith, both, more, some);
-    }
-
--- the item at a place is the first from there
-pub at_place : {X : Type 0} (xs : List X) (place : ℕ) (x : X) → place < length xs
-    → x ≡ get_or xs place x → drop place xs ≡ x ∷ drop (place + 1) xs
-at_place xs place x h is =
-    let here : drop place xs ≡ get_or xs place x ∷ drop (place + 1) xs =
-    rw add-one (drop-cons xs place x h) in
-    here ∙ ap (λ head. head ∷ drop (place + 1) xs) (sym is)
-
--- these bytes were the next portion
-pub gives_bytes : {old new rest rest' : List ℕ} (piece : List ℕ) → new ≡ old ++ piece
-    → 0 < length piece → rest ≡ piece ++ rest' → GivesPortion old new rest rest'
-gives_bytes {old} {new} piece h some is =
-    gives (bytes old new piece h) (rw (append-nil piece) some) is
-
--- ---- What is given next
-
--- behind a row that is there stands another one, or what is below
-pub after_row : (place rows : ℕ) → place < rows → after (next.Row place) rows ≡ next.Row (place + 1)
-after_row place rows h =
-    let there : nat_lt place rows ≡ true = grind (arith, nat_tests, h) in
-    ap (λ b. if b then next.Row (place + 1) else next.Nothing) there
-
--- behind the last row is what stands below, and then nothing
-pub after_last : (place rows : ℕ) → rows ≤ place → after (next.Row place) rows ≡ next.Nothing
-after_last place rows h =
-    let gone : nat_lt place rows ≡ false = grind (arith, nat_tests, h) in
-    ap (λ b. if b then next.Row (place + 1) else next.Nothing) gone
-
--- what stands below the rows of a table has a byte
-pub below_some : 0 < length (below_rows ++ [])
-below_some = omega arith
 
 -- ---- The page of a registry
 
@@ -140,23 +88,6 @@ pub record_of_row : (rows : List ListingRow) (place : ℕ) (row : ListingRow) �
 record_of_row rows place row h is =
     ap (λ left. csv_text (listed_records (map row_view left))) (at_place rows place row h is)
     ∙ record_then (row_fields (row_view row)) (listed_records (map row_view (drop (place + 1) rows)))
-
--- ---- The page of the blocks
-
--- what stands above its rows has a byte
-pub blocks_above_some : (authority : Option Note) (rows : List Listed)
-    → 0 < length (blocks.above_rows authority rows [])
-blocks_above_some authority rows = omega arith
-
--- a row has a byte
-pub block_some : (row : Listed) → 0 < length (markup_then (blocks.block_row row) [])
-block_some row = omega arith
-
--- the page is what stands above its rows, and then these and what stands below
-pub blocks_parts : (authority : Option Note) (rows : List Listed)
-    → blocks.blocks_page authority rows ≡ blocks.above_rows authority rows (blocks.rows_left rows)
-unfolding blocks.blocks_page
-blocks_parts authority rows = refl
 
 -- ---- The JSON of a registry
 

@@ -21,7 +21,7 @@ use Rattle.reg_notes.specs.declared.notes.Notes.{Notes}
 use Rattle.reg_ranges.specs.Tables.{Table}
 use Rattle.reg_site.specs.Laws.{FilesStayInside, ListingsAreOfPages, MomentsStandOnTheIndex, PrivateHoldersAreUnpublished, SameRegistersSameSite, SitesAreOfAnswers, PathStaysInside}
 use Rattle.reg_site.specs.IndexTree.{IndexRow}
-use Rattle.reg_site.specs.Noted.{noted_in}
+use Rattle.reg_pages.specs.Noted.{noted_in}
 use Rattle.reg_site.specs.Site.{block_files, change_files, index_files, one_file, page_files, pool_files, rows_by, site, steady_files, summed_files}
 use Rattle.reg_site.specs.Sums.{sums_text}
 use Rattle.reg_site.specs.declared.files.File.TheVariants as file

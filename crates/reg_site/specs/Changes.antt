@@ -6,7 +6,7 @@ use Rattle.reg_html.specs.Document.{attribute, document, link, page, plain}
 use Rattle.reg_html.specs.Markup.{Attribute, Markup, nothing, text, element, beside, all_of, markup_then}
 use Rattle.reg_html.specs.Table.{cell, head_cell, row_of, table}
 use Rattle.reg_notes.specs.declared.note.Note.{Note}
-use Rattle.reg_site.specs.Noted.{apply_line}
+use Rattle.reg_pages.specs.Noted.{apply_line}
 use Rattle.reg_site.specs.declared.changes.Change.{Change}
 
 -- ---- A change

@@ -22,8 +22,8 @@ use Rattle.reg_history.specs.Chain.{chained}
 use Rattle.reg_history.specs.declared.change.Record.{Record}
 use Rattle.reg_notes.specs.Notes.{entry_thing}
 use Rattle.reg_notes.specs.declared.notes.Notes.{Notes}
-use Rattle.reg_site.specs.Blocks.{block_row, row_by}
-use Rattle.reg_site.specs.Noted.{noted_in}
+use Rattle.reg_pages.specs.Blocks.{block_row, row_by}
+use Rattle.reg_pages.specs.Noted.{noted_in}
 use Rattle.reg_site.specs.Site.{blocks_at, pages_at, prefixes_at, site, site_files, steady_files, told_to_all}
 
 -- ---- The same registers, the same bytes

@@ -1,12 +1,8 @@
-pub mod Portions
 pub mod Summary
 pub mod Bar
 pub mod Policy
 pub mod Status
-pub mod Reference
-pub mod Noted
 pub mod Registry
-pub mod Blocks
 pub mod Listing
 pub mod Tree
 pub mod Records

@@ -1,8 +1,8 @@
 -- The listing of a registry in portions.
 use Rattle.std.specs.Prelude.{ℕ, List, [], ◌∷◌, drop, map}
 use Rattle.reg_print.specs.Listing.{ListedRow, csv_text, header, row_fields, row_view}
-use Rattle.reg_site.specs.declared.portions.Next.{Next}
-use Rattle.reg_site.specs.declared.portions.Next.TheVariants as next
+use Rattle.reg_pages.specs.declared.portions.Next.{Next}
+use Rattle.reg_pages.specs.declared.portions.Next.TheVariants as next
 use Rattle.reg_site.specs.declared.listing.RegistryListing.{RegistryListing}
 
 -- the records of these rows

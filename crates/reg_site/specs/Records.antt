@@ -10,11 +10,11 @@ use Rattle.reg_print.specs.Listing.{ListedRow, expiry_text, first_text, page_row
 use Rattle.reg_print.specs.declared.listing.rows.Status.{Status}
 use Rattle.reg_print.specs.declared.listing.rows.Status.TheVariants.{Unassigned, Reserved, PrivateUse, ExperimentalUse, HierarchicalAllocation, Entry}
 use Rattle.reg_ranges.specs.declared.range.Range.{Range}
-use Rattle.reg_site.specs.Noted.{noted_in, note_of_row}
+use Rattle.reg_pages.specs.Noted.{noted_in, note_of_row}
 use Rattle.reg_site.specs.Policy.{treatment_name}
-use Rattle.reg_site.specs.Reference.{xref_of}
-use Rattle.reg_site.specs.declared.portions.Next.{Next}
-use Rattle.reg_site.specs.declared.portions.Next.TheVariants as next
+use Rattle.reg_pages.specs.Reference.{xref_of}
+use Rattle.reg_pages.specs.declared.portions.Next.{Next}
+use Rattle.reg_pages.specs.declared.portions.Next.TheVariants as next
 use Rattle.reg_site.specs.declared.records.RegistryRecords.{RegistryRecords}
 
 -- ---- A record

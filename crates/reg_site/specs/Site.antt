@@ -21,12 +21,12 @@ use Rattle.reg_notes.specs.declared.note.Note.{Note}
 use Rattle.reg_notes.specs.declared.notes.Notes.{Notes}
 use Rattle.reg_print.specs.Answer.{body_text}
 use Rattle.reg_print.specs.declared.answer.Answer.TheVariants as answer
-use Rattle.reg_site.specs.Blocks.{assignments_text, blocks_page}
+use Rattle.reg_pages.specs.Blocks.{assignments_text, blocks_page}
 use Rattle.reg_site.specs.Changes.{changes_feed, changes_page}
 use Rattle.reg_site.specs.Files.{path_of}
 use Rattle.reg_site.specs.Index.{index_page}
 use Rattle.reg_site.specs.IndexTree.{IndexRow, index_tree}
-use Rattle.reg_site.specs.Noted.{noted_in}
+use Rattle.reg_pages.specs.Noted.{noted_in}
 use Rattle.reg_site.specs.Recent.{day_part, feed_id, first_digest, last_changes, text_of}
 use Rattle.reg_site.specs.Records.{records_text, title_of}
 use Rattle.reg_site.specs.Registry.{registry_page}

@@ -7,8 +7,8 @@ use Rattle.reg_print.specs.Answer.{body_text}
 use Rattle.reg_print.specs.Parts.{end_text, listed_text}
 use Rattle.reg_print.specs.Trees.Page.{entry_tree}
 use Rattle.reg_print.specs.declared.answer.Answer.TheVariants.{Reply}
-use Rattle.reg_site.specs.declared.portions.Next.{Next}
-use Rattle.reg_site.specs.declared.portions.Next.TheVariants as next
+use Rattle.reg_pages.specs.declared.portions.Next.{Next}
+use Rattle.reg_pages.specs.declared.portions.Next.TheVariants as next
 use Rattle.reg_site.specs.declared.tree.RegistryTree.{RegistryTree}
 
 -- the entries from a place on, and what stands behind them

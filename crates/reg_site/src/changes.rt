@@ -6,12 +6,12 @@ ghost use Rattle.reg_html.specs.Escape.{escaped};
 ghost use Rattle.reg_html.specs.Markup.{all_of, opening_then};
 ghost use Rattle.reg_site.specs.Changes.{change_entry, change_links, change_row, change_title, changes_feed, changes_page, changes_shown, changes_table, entry_by, feed_attributes, feed_head, last_moment, place_of, row_by, shown, urn};
 
-use crate::noted::push_apply;
 use reg_html::document::{push_end, push_start};
 use reg_html::markup::Piece::{Link, Markup, Text};
 use reg_html::markup::{push, push_all};
 use reg_html::table;
 use reg_notes::note::Note;
+use reg_pages::noted::push_apply;
 use std::alloc::{AllocError, Global};
 
 /// How many changes the page shows.

@@ -7,9 +7,7 @@ ghost use Rattle.reg_html.specs.Markup.{all_of};
 ghost use Rattle.reg_site.specs.IndexTree.{row_of};
 ghost use Rattle.reg_site.specs.Index.{as_of, as_of_text, authority_said, block_counts, changed_part, counted_file, front, index_page, item, linked_cell, more_links, name_cell, number_cell, page_place, pool_list, prefix_item, prefix_list, register_row, registries_shown, registries_table, registry_row, said, share_item, share_texts, size_item};
 
-use crate::blocks::count_of;
 use crate::index_tree::Register;
-use crate::noted::push_apply;
 use crate::policy::treatment_name;
 use crate::records::title_of;
 use crate::summary::{Share, Summary};
@@ -24,6 +22,8 @@ use reg_html::markup::Piece::{Link, Markup, Number, Text};
 use reg_html::markup::{push, push_all};
 use reg_html::table;
 use reg_notes::note::Note;
+use reg_pages::blocks::count_of;
+use reg_pages::noted::push_apply;
 use std::alloc::{AllocError, Global};
 
 /// The first page: the moment, in seconds since 1970-01-01T00:00:00Z; what is noted about the authority,

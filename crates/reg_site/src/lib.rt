@@ -3,19 +3,15 @@
 #![tactic(auto)]
 
 mod bar;
-pub mod blocks;
 pub mod changes;
 pub mod files;
 pub mod index;
 pub mod index_tree;
 pub mod laws;
 pub mod listing;
-pub mod noted;
 mod policy;
-pub mod portions;
 pub mod recent;
 pub mod records;
-mod reference;
 pub mod registry;
 mod status;
 pub mod style;

@@ -3,8 +3,8 @@ ghost use Rattle.std.specs.Prelude.{◌≡◌, IfOk};
 ghost use Rattle.reg_print.specs.Listing.{listing_text};
 ghost use Rattle.reg_site.specs.Listing.{listing_left};
 
-use crate::portions::{Next, Portions};
 use reg_core::page::Page;
+use reg_pages::portions::{Next, Portions};
 use reg_print::listing::registry::{push_header, push_record};
 use reg_print::listing::rows::{ListingRow, rows};
 use std::alloc::{AllocError, Global};

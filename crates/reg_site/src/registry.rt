@@ -9,9 +9,7 @@ ghost use Rattle.reg_site.specs.Registry.{above_rows, described_row, description
 ghost use Rattle.reg_site.specs.Summary.{summary};
 
 use crate::bar::push_bar;
-use crate::noted::{of_authority, of_registry, of_row, push_apply, push_noted};
 use crate::policy::{named_policy, treatment_name};
-use crate::portions::{Next, Portions};
 use crate::status::shown_status;
 use crate::summary::Summary;
 use reg_core::entry::PageEntry;
@@ -23,6 +21,8 @@ use reg_html::table;
 use reg_html::table::push_row;
 use reg_notes::note::Note;
 use reg_notes::notes::Notes;
+use reg_pages::noted::{of_authority, of_registry, of_row, push_apply, push_noted};
+use reg_pages::portions::{Next, Portions};
 use reg_print::listing::registry::{assignee_text, expiry_text, first_text};
 use reg_print::listing::rows::{ListingRow, Run, rows};
 use reg_print::note::note_text;

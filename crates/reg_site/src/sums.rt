@@ -2,8 +2,8 @@
 ghost use Rattle.std.specs.Prelude.{◌≡◌, [], string_bytes, IfOk, List, OnOk, ℕ};
 ghost use Rattle.reg_site.specs.Sums.{digest as digest_by, entries_of, lines_of, sum_line, with_sum};
 
-use crate::portions::Portions;
 use reg_history::field::Field;
+use reg_pages::portions::Portions;
 use sha2::{Digest, Sha256};
 use std::alloc::{AllocError, Global};
 use std::collections::BTreeMap;

@@ -7,8 +7,8 @@ ghost use Rattle.reg_print.specs.Parts.{end_text};
 ghost use Rattle.reg_print.specs.declared.answer.Answer.TheVariants.{Reply};
 ghost use Rattle.reg_site.specs.Tree.{tree_left};
 
-use crate::portions::{Next, Portions};
 use reg_core::page::Page;
+use reg_pages::portions::{Next, Portions};
 use reg_print::parts::{end_text, front, push_entry};
 use std::alloc::AllocError;
 

@@ -1,7 +1,7 @@
 -- Bytes that are compared with those that a printer gives, a portion at a time.
 use Rattle.std.proofs.Common.{◌≡◌, ◌==◌, ℕ, Bool, true, false, List, [], ◌∷◌, ◌++◌, length, refl, sym, ap, ◌∙◌, append_assoc, arith}
 use Rattle.std.specs.Prelude.{IsTrue, ◌↔◌, ◌≢◌}
-use Rattle.reg_site.specs.Portions.{GivesIfMore}
+use Rattle.reg_pages.specs.Portions.{GivesIfMore}
 use Rattle.std.proofs.lemmas.Bool.{eqb-true}
 use Rattle.std.proofs.lemmas.List.{append_cancel_left}
 

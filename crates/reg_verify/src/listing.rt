@@ -1,9 +1,9 @@
 //! Bytes that are compared with those that a printer gives.
 ghost use Rattle.std.specs.Prelude.{◌≡◌, ◌↔◌, [], IfOk, IsTrue};
 ghost use Rattle.reg_print.specs.Comparing.{Leaves};
-ghost use Rattle.reg_site.specs.Portions.{GivesIfMore};
+ghost use Rattle.reg_pages.specs.Portions.{GivesIfMore};
 
-use reg_site::portions::Portions;
+use reg_pages::portions::Portions;
 use std::alloc::{AllocError, Global};
 
 /// Whether a printer gives just these bytes, which are compared a portion at a time. Only want of memory

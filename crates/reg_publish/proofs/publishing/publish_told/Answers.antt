@@ -1,7 +1,7 @@
 use Rattle.std.proofs.Common.{[], ◌++◌, ap, ◌∙◌}
 use Rattle.std.specs.Option.{option_copied}
 use Rattle.reg_history.specs.Chain.{chained}
-use Rattle.reg_site.specs.Noted.{noted_in}
+use Rattle.reg_pages.specs.Noted.{noted_in}
 use Rattle.reg_site.specs.Site.{index_files, one_file, rows_by, shown_files}
 use Rattle.reg_site.specs.Sums.{entries_of, lines_of, with_sums}
 use Rattle.reg_site.specs.declared.files.File.TheVariants.{Changes, Sums}

@@ -1,7 +1,7 @@
 use Rattle.std.proofs.Common.{◌++◌}
 use Rattle.reg_blocks.specs.declared.size.Size.TheVariants.{MaL, MaM, MaS}
 use Rattle.reg_core.specs.declared.told.Told.TheVariants as tells
-use Rattle.reg_site.specs.Blocks.{assignments_text, page_left}
+use Rattle.reg_pages.specs.Blocks.{assignments_text, page_left}
 use Rattle.reg_site.specs.Site.{one_file, told_text}
 use Rattle.reg_site.specs.declared.files.File.TheVariants.{BlocksPage, BlocksListing, Assignments}
 use Rattle.reg_publish.proofs.Placed.{summed_as, summed_both}

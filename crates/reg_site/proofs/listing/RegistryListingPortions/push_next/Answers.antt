@@ -2,9 +2,10 @@ use Rattle.std.proofs.Common.{◌≡◌, ◌+◌, ◌<◌, ◌∷◌, ◌++◌, 
 use Rattle.reg_print.specs.Listing.{csv_text, header, row_fields, row_view}
 use Rattle.reg_print.proofs.ListingText.{record_some}
 use Rattle.reg_site.specs.Listing.{left_from}
-use Rattle.reg_site.specs.Portions.{after}
-use Rattle.reg_site.specs.declared.portions.Next.TheVariants as next
-use Rattle.reg_site.proofs.Portioned.{after_row, gives_bytes, listing_parts, record_of_row}
+use Rattle.reg_pages.specs.Portions.{after}
+use Rattle.reg_pages.specs.declared.portions.Next.TheVariants as next
+use Rattle.reg_pages.proofs.Portioned.{after_row, gives_bytes}
+use Rattle.reg_site.proofs.Portioned.{listing_parts, record_of_row}
 use Rattle.reg_site.proofs.listing.RegistryListingPortions.push_next.Goals as goal
 use Rattle.reg_site.proofs.listing.RegistryListingPortions.push_next.Goals.{in-Above+in_ok-push_header-in-Above, in-Row+in-Some+in_ok-push_record-in-Some}
 

@@ -2,11 +2,12 @@ use Rattle.std.proofs.Common.{◌≡◌, ◌+◌, ◌<◌, ◌≤◌, ◌++◌, 
 use Rattle.std.proofs.lemmas.List.{drop_all}
 use Rattle.reg_print.specs.Listing.{row_view}
 use Rattle.reg_html.specs.Markup.{markup_then}
-use Rattle.reg_site.specs.Portions.{after}
+use Rattle.reg_pages.specs.Portions.{after}
 use Rattle.reg_site.specs.Records.{above_records, below_records, left_from, notes_of, record_of, records_after, title_of}
-use Rattle.reg_site.specs.Noted.{noted_in}
-use Rattle.reg_site.specs.declared.portions.Next.TheVariants as next
-use Rattle.reg_site.proofs.Portioned.{above_records_some, after_last, after_row, at_place, below_records_some, gives, record_some, records_parts}
+use Rattle.reg_pages.specs.Noted.{noted_in}
+use Rattle.reg_pages.specs.declared.portions.Next.TheVariants as next
+use Rattle.reg_pages.proofs.Portioned.{after_last, after_row, at_place, gives}
+use Rattle.reg_site.proofs.Portioned.{above_records_some, below_records_some, record_some, records_parts}
 use Rattle.reg_site.proofs.records.RegistryRecordsPortions.push_next.Goals as goal
 use Rattle.reg_site.proofs.records.RegistryRecordsPortions.push_next.Goals.{in-Above+in_ok-push_above-in-Above, in-Row+in-None+in_ok-push-in-None, in-Row+in-Some+in_ok-push_record-in-Some}
 

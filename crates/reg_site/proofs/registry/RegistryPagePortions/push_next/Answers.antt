@@ -2,13 +2,14 @@ use Rattle.std.proofs.Common.{◌≡◌, ◌+◌, ◌<◌, ◌≤◌, ◌++◌, 
 use Rattle.std.proofs.lemmas.List.{drop_all}
 use Rattle.reg_print.specs.Listing.{row_view}
 use Rattle.reg_html.specs.Markup.{markup_then}
-use Rattle.reg_site.specs.Portions.{after}
+use Rattle.reg_pages.specs.Portions.{after}
 use Rattle.reg_site.specs.Registry.{above_rows, left_from, noted_row, notes_of, rows_left}
-use Rattle.reg_site.specs.Noted.{note_of_row}
+use Rattle.reg_pages.specs.Noted.{note_of_row}
 use Rattle.reg_site.specs.Summary.{summary}
 use Rattle.reg_html.specs.Table.{below_rows}
-use Rattle.reg_site.specs.declared.portions.Next.TheVariants as next
-use Rattle.reg_site.proofs.Portioned.{above_some, after_last, after_row, at_place, below_some, gives, page_parts, row_some}
+use Rattle.reg_pages.specs.declared.portions.Next.TheVariants as next
+use Rattle.reg_pages.proofs.Portioned.{after_last, after_row, at_place, below_some, gives}
+use Rattle.reg_site.proofs.Portioned.{above_some, page_parts, row_some}
 use Rattle.reg_site.proofs.registry.RegistryPagePortions.push_next.Goals as goal
 use Rattle.reg_site.proofs.registry.RegistryPagePortions.push_next.Goals.{in-Above+in_ok-push_above-in-Above, in-Row+in-None+in_ok-push_below-in-None, in-Row+in-Some+in_ok-push_entry-in-Some}
 

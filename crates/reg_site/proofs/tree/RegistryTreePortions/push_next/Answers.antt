@@ -1,10 +1,11 @@
 use Rattle.std.proofs.Common.{◌≡◌, ◌+◌, ◌<◌, ◌≤◌, ◌++◌, ◌∙◌, nat_lt, length, get_or, ap, sym, append-nil, rules}
 use Rattle.reg_print.specs.Parts.{end_text, entry_text, front_text}
 use Rattle.reg_print.proofs.ComparedTexts.{entry_some}
-use Rattle.reg_site.specs.Portions.{after}
+use Rattle.reg_pages.specs.Portions.{after}
 use Rattle.reg_site.specs.Tree.{left_from}
-use Rattle.reg_site.specs.declared.portions.Next.TheVariants as next
-use Rattle.reg_site.proofs.Portioned.{after_last, after_row, end_some, entries_none, entry_then, front_some, gives_bytes, tree_parts}
+use Rattle.reg_pages.specs.declared.portions.Next.TheVariants as next
+use Rattle.reg_pages.proofs.Portioned.{after_last, after_row, gives_bytes}
+use Rattle.reg_site.proofs.Portioned.{end_some, entries_none, entry_then, front_some, tree_parts}
 use Rattle.reg_site.proofs.tree.RegistryTreePortions.push_next.Goals as goal
 use Rattle.reg_site.proofs.tree.RegistryTreePortions.push_next.Goals.{in-Above+in_ok-extend_from_slice-in-Above, in-Row+in-None+in_ok-push_end-in-None, in-Row+in-Some+in_ok-push_entry-in-Some}
 

@@ -1,0 +1,2 @@
+pub mod NotEmpty
+pub mod Portioned

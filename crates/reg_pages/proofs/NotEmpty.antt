@@ -1,0 +1,17 @@
+-- What is shown where a text is not empty.
+use Rattle.std.proofs.Common.{◌≡◌, ℕ, ◌<◌, List, [], ◌∷◌, codes, length, refl, arith}
+use Rattle.reg_html.specs.Document.{plain}
+use Rattle.reg_html.specs.Markup.{text, beside}
+use Rattle.reg_pages.specs.Noted.{apply_at, reference_shown}
+use Rattle.reg_pages.specs.Reference.{reference_markup}
+
+pub reference_shown-some : (r : List ℕ) → 0 < length r
+    → reference_shown r ≡ beside (reference_markup r) (text (codes " "))
+reference_shown-some [] h = absurd (omega arith)
+reference_shown-some (b ∷ more) h = refl
+
+pub apply_at-some : (r : List ℕ) → 0 < length r
+    → apply_at r
+    ≡ plain (codes "p") (beside (text (codes "To apply: ")) (reference_markup r))
+apply_at-some [] h = absurd (omega arith)
+apply_at-some (b ∷ more) h = refl

@@ -1,0 +1,4 @@
+pub mod Blocks
+pub mod Noted
+pub mod Portions
+pub mod Reference
