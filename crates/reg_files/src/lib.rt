@@ -17,7 +17,7 @@ use reg_program::publishing::Directories;
 use reg_program::stores::{Look, OfficesIn, Stores};
 use reg_program::tasks::{Offices, Task};
 use reg_sql::keeper::SqlKeeper;
-use reg_sql::look::{Look as LookAt, look_at};
+use reg_sql::look::look_at;
 use reg_sql::open::{OpenFault, Opened as Left, open_by};
 use reg_sql::opener::SystemFiles;
 use reg_sql::trouble::Trouble;
@@ -46,7 +46,13 @@ impl Offices for Files {
         // Where it cannot be made, opening it says why.
         let _ = make_private(rt, path);
         match opened(rt, Unknown, path, task.begins()) {
-            Ok(keeper) => carry_out_in(rt, keeper, dates, path, task, console),
+            Ok(keeper) => {
+                let office = OneOffice {
+                    keeper: Some(keeper),
+                    version: 0,
+                };
+                do_in(rt, office, dates, path, Wish::Done(task), console)
+            }
             Err(undone) => Err(undone),
         }
     }
@@ -59,49 +65,41 @@ impl Offices for Files {
         console: &mut Console<'_, R, W, E>,
     ) -> Result<(), Undone> {
         match look_at(rt, path) {
-            Ok(look) => check_look(rt, look, dates, path, console),
+            Ok(look) => {
+                let office = OneOffice {
+                    keeper: Some(look.keeper),
+                    version: look.version.number(),
+                };
+                do_in(rt, office, dates, path, Wish::Checked, console)
+            }
             Err(trouble) => Err(explained(rt.alloc(), trouble)?),
         }
     }
 }
 
-// Carries a task out with the office that was opened at a path. It is over any store, since what is
-// over a known one unfolds all that it holds.
-fn carry_out_in<S: Alter + Drop, D: Dates, R: Read, W: Write, E: Write>(
-    rt: &HostRuntime,
-    keeper: SqlKeeper<S>,
-    dates: &mut D,
-    path: &str,
-    task: &Task<'_>,
-    console: &mut Console<'_, R, W, E>,
-) -> Result<(), Undone> {
-    let mut offices = offices_in(
-        rt,
-        OneOffice {
-            keeper: Some(keeper),
-            version: 0,
-        },
-    );
-    offices.carry_out(rt, dates, path, task, console)
+// What is to be done with the office that was found at a path.
+enum Wish<'a> {
+    // A task is to be carried out.
+    Done(&'a Task<'a>),
+    // It is to be said how well it is kept.
+    Checked,
 }
 
-// Says how well the office is kept that was looked at.
-fn check_look<S: Alter + Drop, D: Dates, R: Read, W: Write, E: Write>(
+// Does what is wished with the office that was found at a path. It is over any store, since what is
+// over a known one unfolds all that it holds.
+fn do_in<S: Alter + Drop, D: Dates, R: Read, W: Write, E: Write>(
     rt: &HostRuntime,
-    look: LookAt<S>,
+    office: OneOffice<S>,
     dates: &mut D,
     path: &str,
+    wish: Wish<'_>,
     console: &mut Console<'_, R, W, E>,
 ) -> Result<(), Undone> {
-    let LookAt { version, keeper } = look;
-    let mut offices = offices_in(
-        rt,
-        OneOffice {
-            keeper: Some(keeper),
-            version: version.number(),
-        },
-    );
-    offices.check(rt, dates, path, console)
+    let mut offices = offices_in(rt, office);
+    match wish {
+        Wish::Done(task) => offices.carry_out(rt, dates, path, task, console),
+        Wish::Checked => offices.check(rt, dates, path, console),
+    }
 }
 
 // The offices in what was opened, on the ports and in the folders of the system.
