@@ -2,8 +2,8 @@
 use Rattle.std.proofs.Common.{◌≡◌, ℕ, ◌+◌, ◌<◌, List, [], ◌∷◌, ◌++◌, length, take, get_or, refl, sym, ap, ◌∙◌, if◌then◌else◌}
 use Rattle.std.specs.Str.{bytes_eq}
 use Rattle.reg_print.proofs.PrintedTokens.{one_more}
-use Rattle.reg_history.specs.Recorded.{changed_after, registry_of}
-use Rattle.reg_history.specs.declared.change.Record.{Record}
+use Rattle.reg_changes.specs.Recorded.{changed_after, registry_of}
+use Rattle.reg_changes.specs.declared.change.Record.{Record}
 
 -- by these records and one more
 pub changed_last : (name known : List ℕ) (records : List Record) (r : Record)

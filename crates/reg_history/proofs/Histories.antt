@@ -8,19 +8,19 @@ use Rattle.std.proofs.lemmas.Grind.{common_steps}
 use Rattle.std.proofs.lemmas.Bool.{and_from, cases_Bool, eqb-true}
 use Rattle.reg_maps.specs.Maps.{text_cmp}
 use Rattle.reg_history.specs.Chain.{Chained, at, begun, chain_from, chained, next_digest, next_line, record_of, says, with_record}
-use Rattle.reg_history.specs.declared.change.Record.{Record}
+use Rattle.reg_changes.specs.declared.change.Record.{Record}
 use Rattle.reg_history.specs.History.{AddsRecord, IsHistory, IsHistoryOf, SaysJust, IsWrongAfter, TakesRecord, TellsWrong, later}
 use Rattle.reg_history.specs.Overview.{AddsToOverview}
-use Rattle.reg_history.specs.Replay.{Said, SaysAfter, after, nothing, replay}
-use Rattle.reg_history.specs.Said.{Says, TellsLoss, said_by}
+use Rattle.reg_changes.specs.Replay.{Said, SaysAfter, after, nothing, replay}
+use Rattle.reg_changes.specs.Said.{Says, TellsLoss, said_by}
 use Rattle.reg_history.specs.declared.chain.Line.{Line}
-use Rattle.reg_history.specs.declared.change.Change.{Change}
-use Rattle.reg_history.specs.declared.change.Fact.{Fact}
+use Rattle.reg_changes.specs.declared.change.Change.{Change}
+use Rattle.reg_changes.specs.declared.change.Fact.{Fact}
 use Rattle.reg_history.specs.declared.history.History.{History}
 use Rattle.reg_history.specs.declared.history.Unreadable.{Unreadable}
 use Rattle.reg_history.specs.declared.history.Unreadable.TheVariants.{Memory, Header, Wrong}
-use Rattle.reg_history.specs.declared.said.Unrecorded.{Unrecorded}
-use Rattle.reg_history.proofs.Replayed.{replay-append}
+use Rattle.reg_changes.specs.declared.said.Unrecorded.{Unrecorded}
+use Rattle.reg_changes.proofs.Replayed.{replay-append}
 
 -- ---- Chains
 

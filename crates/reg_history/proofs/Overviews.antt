@@ -8,10 +8,10 @@ use Rattle.std.proofs.lemmas.Map.Text.{is_eq-slice_cmp}
 use Rattle.reg_maps.specs.Maps.{text_cmp}
 use Rattle.reg_history.specs.Chain.{Chained, begun, chained, digest, line, next_digest, record_of}
 use Rattle.reg_history.specs.Overview.{AddsToOverview, IsOverview, Notes, last_of, moment_by, tied}
-use Rattle.reg_history.specs.Recorded.{last_changed, registry_of}
+use Rattle.reg_changes.specs.Recorded.{last_changed, registry_of}
 use Rattle.reg_history.specs.declared.chain.Line.{Line}
-use Rattle.reg_history.specs.declared.change.Change.{Change}
-use Rattle.reg_history.specs.declared.change.Record.{Record}
+use Rattle.reg_changes.specs.declared.change.Change.{Change}
+use Rattle.reg_changes.specs.declared.change.Record.{Record}
 use Rattle.reg_history.specs.declared.overview.Overview.{Overview}
 use Rattle.reg_history.specs.declared.overview.Tied.{Tied}
 use Rattle.reg_history.proofs.Changed.{changed_last}

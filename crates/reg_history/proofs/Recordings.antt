@@ -5,21 +5,22 @@ use Rattle.reg_history.specs.Chain.{Chained, at, begun, chained, record_of, says
 use Rattle.reg_history.specs.History.{later, news}
 use Rattle.reg_history.specs.Moment.{moment_text}
 use Rattle.reg_history.specs.Overview.{AddsToOverview, IsOverview}
-use Rattle.reg_history.specs.Recording.{Aim, Ends, IsBegunOn, IsRecorded, KeepsUp, Records, moment_of}
-use Rattle.reg_history.specs.Replay.{IsLost, Said, StandsIf, changes_to, nothing, recorded, replay, without}
-use Rattle.reg_history.specs.Said.{DoesNotStand, said_by}
+use Rattle.reg_changes.specs.KeepingUp.{KeepsUp}
+use Rattle.reg_history.specs.Recording.{Aim, Ends, IsBegunOn, IsRecorded, Records, moment_of}
+use Rattle.reg_changes.specs.Replay.{IsLost, Said, StandsIf, changes_to, nothing, recorded, replay, without}
+use Rattle.reg_changes.specs.Said.{DoesNotStand, said_by}
 use Rattle.reg_history.specs.declared.chain.Line.{Line}
-use Rattle.reg_history.specs.declared.change.Change.{Change}
-use Rattle.reg_history.specs.declared.change.Details.{Details}
-use Rattle.reg_history.specs.declared.change.Fact.{Fact}
-use Rattle.reg_history.specs.declared.change.Record.{Record}
-use Rattle.reg_history.specs.declared.change.Subject.{Subject}
+use Rattle.reg_changes.specs.declared.change.Change.{Change}
+use Rattle.reg_changes.specs.declared.change.Details.{Details}
+use Rattle.reg_changes.specs.declared.change.Fact.{Fact}
+use Rattle.reg_changes.specs.declared.change.Record.{Record}
+use Rattle.reg_changes.specs.declared.change.Subject.{Subject}
 use Rattle.reg_history.specs.declared.history.History.{History}
 use Rattle.reg_history.specs.declared.recorder.Recorded.{Recorded}
 use Rattle.reg_history.specs.declared.recorder.Recorder.{Recorder}
-use Rattle.reg_history.specs.declared.said.Unrecorded.TheVariants.{Lost}
+use Rattle.reg_changes.specs.declared.said.Unrecorded.TheVariants.{Lost}
 use Rattle.reg_history.proofs.Histories.{chain_from-append, changes-at, grows, in_order-at, later-le, map-append, text-more}
-use Rattle.reg_history.proofs.Replayed.{keeps_up-kept, keeps_up-left, keeps_up-next, keeps_up-says, keeps_up-start, tells_loss}
+use Rattle.reg_changes.proofs.Replayed.{keeps_up-kept, keeps_up-left, keeps_up-next, keeps_up-says, keeps_up-start, tells_loss}
 
 -- ---- One record more
 

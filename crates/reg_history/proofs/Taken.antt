@@ -2,7 +2,7 @@
 use Rattle.std.proofs.Common.{◌≡◌, ℕ, ◌+◌, ◌<◌, ◌≤◌, List, [], ◌∷◌, ◌++◌, length, map, take, get_or, refl, sym, ap, ◌∙◌, subst, append_assoc, append-nil}
 use Rattle.std.proofs.lemmas.List.{take_all}
 use Rattle.reg_history.specs.Recording.{Aim, ListsFacts, Took}
-use Rattle.reg_history.specs.declared.change.Fact.{Fact}
+use Rattle.reg_changes.specs.declared.change.Fact.{Fact}
 use Rattle.reg_history.proofs.Mapped.{mapped_more}
 
 module _ {T : Type 0} (Awaits : Aim → T → List Fact → Type 0) where

@@ -12,14 +12,14 @@ use Rattle.csv.proofs.RoundTrip.{read-write-many}
 use Rattle.hex.specs.Hex.{encode_lower, encode_with, lower_digits}
 use Rattle.sha2.specs.Sha256.{sha256}
 use Rattle.reg_history.specs.Chain.{Chained, begun, chain_from, chained, change_fields, digest, front, header_line, line, next_digest, next_line, record_fields, with_record}
-use Rattle.reg_history.specs.declared.change.Record.{Record}
+use Rattle.reg_changes.specs.declared.change.Record.{Record}
 use Rattle.reg_history.specs.History.{news}
 use Rattle.reg_history.specs.Laws.{BytesTellRecords, SameFolderSameBytes}
-use Rattle.reg_history.specs.Words.{class_word}
-use Rattle.reg_history.specs.declared.change.Change.{Change}
-use Rattle.reg_history.specs.declared.change.Change.TheVariants.{Made, Term}
-use Rattle.reg_history.specs.declared.change.Class.{Class}
-use Rattle.reg_history.specs.declared.change.Class.TheVariants as class
+use Rattle.reg_changes.specs.Words.{class_word}
+use Rattle.reg_changes.specs.declared.change.Change.{Change}
+use Rattle.reg_changes.specs.declared.change.Change.TheVariants.{Made, Term}
+use Rattle.reg_changes.specs.declared.change.Class.{Class}
+use Rattle.reg_changes.specs.declared.change.Class.TheVariants as class
 
 -- ---- A digest needs no quotes
 

@@ -2,18 +2,18 @@
 use Rattle.std.proofs.Common.{◌≡◌, ℕ, ◌<◌, List, [], ◌∷◌, length, get_or, sym, ap, ◌∙◌, inl, inr}
 use Rattle.std.specs.Prelude.{Option, Some, slice_get, unwrap_or}
 use Rattle.reg_history.specs.Chain.{says}
-use Rattle.reg_history.specs.declared.change.Record.{Record}
+use Rattle.reg_changes.specs.declared.change.Record.{Record}
 use Rattle.reg_history.specs.History.{IsHistory}
-use Rattle.reg_history.specs.Replay.{Said, changes_to, subject_of}
-use Rattle.reg_history.specs.Said.{TellsLoss, said_by}
+use Rattle.reg_changes.specs.Replay.{Said, changes_to, subject_of}
+use Rattle.reg_changes.specs.Said.{TellsLoss, said_by}
 use Rattle.reg_history.specs.Unlike.{TellsUnlike, unlike_of}
-use Rattle.reg_history.specs.declared.change.Change.{Change}
-use Rattle.reg_history.specs.declared.change.Fact.{Fact}
-use Rattle.reg_history.specs.declared.change.Subject.{Subject}
+use Rattle.reg_changes.specs.declared.change.Change.{Change}
+use Rattle.reg_changes.specs.declared.change.Fact.{Fact}
+use Rattle.reg_changes.specs.declared.change.Subject.{Subject}
 use Rattle.reg_history.specs.declared.history.History.{History}
 use Rattle.reg_history.specs.declared.history.Unlike.TheVariants.{Subject as Of}
-use Rattle.reg_history.specs.declared.said.Unrecorded.{Unrecorded}
-use Rattle.reg_history.specs.declared.said.Unrecorded.TheVariants as unrecorded
+use Rattle.reg_changes.specs.declared.said.Unrecorded.{Unrecorded}
+use Rattle.reg_changes.specs.declared.said.Unrecorded.TheVariants as unrecorded
 use Rattle.reg_history.proofs.Histories.{digest-at, tells_of_records}
 
 -- a loss is what makes a history unlike what is published

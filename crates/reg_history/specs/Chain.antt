@@ -6,11 +6,11 @@ use Rattle.csv.specs.Writing.{default_writer, row_body}
 use Rattle.hex.specs.Hex.{encode_lower}
 use Rattle.sha2.specs.Sha256.{sha256}
 use Rattle.reg_maps.specs.Maps.{text_cmp}
-use Rattle.reg_history.specs.Replay.{Said, nothing, replay}
-use Rattle.reg_history.specs.Words.{class_word}
-use Rattle.reg_history.specs.declared.change.Change.{Change}
-use Rattle.reg_history.specs.declared.change.Change.TheVariants.{Made, Term}
-use Rattle.reg_history.specs.declared.change.Record.{Record}
+use Rattle.reg_changes.specs.Replay.{Said, nothing, replay}
+use Rattle.reg_changes.specs.Words.{class_word}
+use Rattle.reg_changes.specs.declared.change.Change.{Change}
+use Rattle.reg_changes.specs.declared.change.Change.TheVariants.{Made, Term}
+use Rattle.reg_changes.specs.declared.change.Record.{Record}
 
 -- ---- One record
 

@@ -1,9 +1,9 @@
 -- The laws of histories.
 use Rattle.std.specs.Prelude.{◌≡◌, ℕ, List}
 use Rattle.reg_history.specs.Chain.{chained}
-use Rattle.reg_history.specs.declared.change.Record.{Record}
+use Rattle.reg_changes.specs.declared.change.Record.{Record}
 use Rattle.reg_history.specs.History.{Continues}
-use Rattle.reg_history.specs.declared.change.Fact.{Fact}
+use Rattle.reg_changes.specs.declared.change.Fact.{Fact}
 
 -- the bytes of a history have been written by no other records than these
 abbrev pub BytesTellRecords : Type 0

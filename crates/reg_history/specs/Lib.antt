@@ -5,11 +5,6 @@ pub mod Moment
 pub mod Noted
 pub mod Overview
 pub mod Published
-pub mod Recorded
 pub mod Recording
-pub mod Replay
-pub mod Said
-pub mod Subjects
 pub mod Texts
 pub mod Unlike
-pub mod Words

@@ -3,10 +3,10 @@ use Rattle.std.specs.Prelude.{◌≡◌, ℕ, ◌-◌, List, [], ◌∷◌, ◌+
 use Rattle.std.specs.BTreeMap.{BTreeMap, Updates, get}
 use Rattle.reg_maps.specs.Maps.{text_cmp}
 use Rattle.reg_history.specs.Chain.{chained, next_digest, next_line, record_of}
-use Rattle.reg_history.specs.Recorded.{last_changed, registry_of}
+use Rattle.reg_changes.specs.Recorded.{last_changed, registry_of}
 use Rattle.reg_history.specs.declared.chain.Line.{Line}
-use Rattle.reg_history.specs.declared.change.Change.{Change}
-use Rattle.reg_history.specs.declared.change.Record.{Record}
+use Rattle.reg_changes.specs.declared.change.Change.{Change}
+use Rattle.reg_changes.specs.declared.change.Record.{Record}
 use Rattle.reg_history.specs.declared.overview.Overview.{Overview}
 use Rattle.reg_history.specs.declared.overview.Tied.{Tied}
 

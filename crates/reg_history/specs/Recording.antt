@@ -1,16 +1,15 @@
 -- Facts that are taken one after the other, and a history that goes on by them.
-use Rattle.std.specs.Prelude.{◌≡◌, ◌⊎◌, ℕ, true, false, List, [], ◌∷◌, ◌++◌, None, MatchOption}
+use Rattle.std.specs.Prelude.{◌≡◌, ℕ, true, List, ◌++◌, MatchOption}
 use Rattle.reg_history.specs.Chain.{at, chained, says}
 use Rattle.reg_history.specs.History.{Continues, IsHistory, later, news}
 use Rattle.reg_history.specs.Moment.{moment_text}
 use Rattle.reg_history.specs.Overview.{IsOverview}
-use Rattle.reg_history.specs.Replay.{IsLost, Said, SomeFact, StandsBy, StandsIf, changes_to, without}
-use Rattle.reg_history.specs.Said.{said_by}
-use Rattle.reg_history.specs.declared.change.Change.{Change}
-use Rattle.reg_history.specs.declared.change.Details.{Details}
-use Rattle.reg_history.specs.declared.change.Fact.{Fact}
-use Rattle.reg_history.specs.declared.change.Record.{Record}
-use Rattle.reg_history.specs.declared.change.Subject.{Subject}
+use Rattle.reg_changes.specs.KeepingUp.{KeepsUp}
+use Rattle.reg_changes.specs.Replay.{IsLost}
+use Rattle.reg_changes.specs.Said.{said_by}
+use Rattle.reg_changes.specs.declared.change.Change.{Change}
+use Rattle.reg_changes.specs.declared.change.Fact.{Fact}
+use Rattle.reg_changes.specs.declared.change.Record.{Record}
 use Rattle.reg_history.specs.declared.history.History.{History}
 use Rattle.reg_history.specs.declared.recorder.Recorded.{Recorded}
 use Rattle.reg_history.specs.declared.recorder.Recorder.{Recorder}
@@ -32,34 +31,6 @@ pub record Took {T : Type 0} (Awaits : Aim → T → List Fact → Type 0) (t t'
 -- a list is on its way to all facts
 abbrev pub ListsFacts : Aim → List Fact → List Fact → Type 0
 ListsFacts aim listed rest = listed ++ rest ≡ aim.facts
-
--- ---- What was said
-
--- all that was said about the subjects of facts stands by the first of them
-abbrev pub AllStand : Said → List Fact → Type 0
-AllStand said [] = Unit {0}
-AllStand said (fact ∷ facts) =
-    StandsIf (said fact.subject) fact × AllStand (without fact.subject said) facts
-
--- what is left of what was said without the subjects of facts
-abbrev pub without_all : Said → List Fact → Said
-without_all said [] = said
-without_all said (fact ∷ facts) = without_all (without fact.subject said) facts
-
--- a part of what is said: of each subject the same, or nothing
-abbrev pub IsPartSaid : Said → Said → Type 0
-IsPartSaid part said = (s : Subject) → (part s ≡ None) ⊎ (part s ≡ said s)
-
--- What is so of all facts follows from what is so of those that are left: what is recorded of them,
--- that what was said stands by them, and what of it is left.
-pub record KeepsUp (whole : Said) (facts : List Fact) (said : Said) (rest : List Fact)
-    (changes : List Change) : Type 0 where
-  pub made : changes_to whole facts ≡ changes ++ changes_to said rest
-  pub stood : AllStand said rest → AllStand whole facts
-  pub left : without_all whole facts ≡ without_all said rest
-  pub part : IsPartSaid said whole
-  pub later : (s : Subject) (before : Details) → SomeFact (StandsBy false s before) rest
-      → SomeFact (StandsBy false s before) facts
 
 -- ---- A history that goes on
 

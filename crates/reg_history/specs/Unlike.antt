@@ -1,13 +1,13 @@
 -- Why a history does not say just what is published.
 use Rattle.std.specs.Prelude.{◌≡◌, ◌⊎◌, ⊤, List, ◌∷◌}
-use Rattle.reg_history.specs.Replay.{IsLost, Said, changes_to, subject_of}
-use Rattle.reg_history.specs.declared.change.Change.{Change}
-use Rattle.reg_history.specs.declared.change.Fact.{Fact}
-use Rattle.reg_history.specs.declared.change.Subject.{Subject}
+use Rattle.reg_changes.specs.Replay.{IsLost, Said, changes_to, subject_of}
+use Rattle.reg_changes.specs.declared.change.Change.{Change}
+use Rattle.reg_changes.specs.declared.change.Fact.{Fact}
+use Rattle.reg_changes.specs.declared.change.Subject.{Subject}
 use Rattle.reg_history.specs.declared.history.Unlike.{Unlike}
 use Rattle.reg_history.specs.declared.history.Unlike.TheVariants.{Memory, Subject as Of}
-use Rattle.reg_history.specs.declared.said.Unrecorded.{Unrecorded}
-use Rattle.reg_history.specs.declared.said.Unrecorded.TheVariants as unrecorded
+use Rattle.reg_changes.specs.declared.said.Unrecorded.{Unrecorded}
+use Rattle.reg_changes.specs.declared.said.Unrecorded.TheVariants as unrecorded
 
 -- this subject is the first of which something would be recorded
 abbrev pub IsFirstToRecord : Said → List Fact → Subject → Type 0

@@ -7,9 +7,9 @@ ghost use Rattle.reg_history.specs.Chain.{HasDigest, digest, last_digest, line, 
 ghost use Rattle.reg_history.specs.Noted.{some_begins};
 ghost use Rattle.reg_history.specs.Texts.{texts_of};
 
-use crate::change::Change;
-use crate::field::Field;
 use crate::texts::Texts;
+use reg_changes::change::Change;
+use reg_changes::field::Field;
 use reg_print::listing::writing::{empty, text_of, write_record};
 use sha2::{Digest, Sha256};
 use std::alloc::{AllocError, Global};

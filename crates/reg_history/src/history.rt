@@ -11,13 +11,13 @@ ghost use Rattle.reg_history.specs.declared.history.Unlike.TheVariants as unlike
 ghost use Rattle.reg_history.specs.declared.history.Unreadable.TheVariants as un;
 
 use crate::chain::Chain;
-use crate::change::{Change, Fact, Record, Subject};
-use crate::field::Field;
 use crate::moment::moment_text;
 use crate::overview::Overview;
 use crate::reading::Records;
 use crate::recorder::{Recorded, Recorder};
-use crate::said::{Said, Unrecorded, apply, changes_to};
+use reg_changes::change::{Change, Fact, Record, Subject};
+use reg_changes::field::Field;
+use reg_changes::said::{Said, Unrecorded, apply, changes_to};
 use std::alloc::{AllocError, Global};
 use std::collections::BTreeMap;
 

@@ -3,8 +3,6 @@
 #![tactic(auto)]
 
 pub mod chain;
-pub mod change;
-pub mod field;
 pub mod history;
 pub mod laws;
 pub mod moment;
@@ -12,5 +10,4 @@ pub mod overview;
 pub mod published;
 mod reading;
 pub mod recorder;
-pub mod said;
 mod texts;

@@ -4,8 +4,8 @@ ghost use Rattle.reg_history.specs.Chain.{record_of};
 ghost use Rattle.reg_history.specs.Overview.{AddsToOverview, IsOverview, Notes, last_of, moment_by, tied};
 
 use crate::chain::{DIGITS, Line};
-use crate::change::{Change, Record};
-use crate::field::Field;
+use reg_changes::change::{Change, Record};
+use reg_changes::field::Field;
 use std::alloc::{AllocError, Global};
 use std::collections::{BTreeMap, VecDeque};
 

@@ -4,11 +4,11 @@ ghost use Rattle.reg_early.specs.DayText.{text_of_day};
 ghost use Rattle.reg_history.specs.Published.{block_fact, entry_fact, no_details, page_facts, prefix_fact, range_fact, standing_of};
 ghost use Rattle.reg_history.specs.Recording.{Took};
 
-use crate::change::{Class, Details, Fact, Standing, Subject};
-use crate::field::Field;
 use crate::recorder::Takes;
 use reg_blocks::block::Block;
 use reg_blocks::prefix;
+use reg_changes::change::{Class, Details, Fact, Standing, Subject};
+use reg_changes::field::Field;
 use reg_core::entry::PageEntry;
 use reg_core::holding::Listed;
 use reg_core::page::Page;

@@ -1,8 +1,8 @@
 //! Reads the records of a history, as CSV has them.
-use crate::change::{Change, Class, Details, Fact, Record, Standing, Subject};
-use crate::field::Field;
 use crate::texts::Texts;
 use csv::{ByteRecord, ErrorKind, Reader, ReaderBuilder};
+use reg_changes::change::{Change, Class, Details, Fact, Record, Standing, Subject};
+use reg_changes::field::Field;
 use std::alloc::{AllocError, Global};
 use std::collections::BTreeSet;
 

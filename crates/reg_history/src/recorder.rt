@@ -2,18 +2,18 @@
 ghost use Rattle.std.specs.Prelude.{◌≡◌, ◌++◌, ◌∷◌, [], List, IfOk, IfErr, OnOk, option_to_list};
 ghost use Rattle.reg_history.specs.Chain.{at, says};
 ghost use Rattle.reg_history.specs.Recording.{Aim, Awaits, IsRecorded, Ends, ListsFacts, Took};
-ghost use Rattle.reg_history.specs.Said.{TellsLoss};
-ghost use Rattle.reg_history.specs.declared.said.Unrecorded.TheVariants.{Lost};
+ghost use Rattle.reg_changes.specs.Said.{TellsLoss};
+ghost use Rattle.reg_changes.specs.declared.said.Unrecorded.TheVariants.{Lost};
 
-use crate::change::{Change, Fact, Record, Subject};
-use crate::field::Field;
 use crate::overview::Overview;
-use crate::said::{Said, Unrecorded, change_to};
+use reg_changes::change::{Change, Fact, Record, Subject};
+use reg_changes::field::Field;
+use reg_changes::said::{Said, Unrecorded, change_to};
 use std::alloc::{AllocError, Global};
 
 /// What takes facts, one after the other.
 pub trait Takes {
-    ghost use Rattle.reg_history.specs.declared.change.Fact.{Fact};
+    ghost use Rattle.reg_changes.specs.declared.change.Fact.{Fact};
 
     /// It is on its way to an aim, and these facts are still to come.
     ghost Awaits: { Aim → Self → List Fact → Type 0 };

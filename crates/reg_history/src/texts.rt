@@ -3,7 +3,7 @@ ghost use Rattle.std.specs.Prelude.{◌≡◌};
 ghost use Rattle.reg_history.specs.Chain.{record_fields, record_of};
 ghost use Rattle.reg_history.specs.Texts.{texts_of};
 
-use crate::change::Change;
+use reg_changes::change::Change;
 
 /// The texts of a record before its digest, in their order.
 #[derive(Clone, Copy)]

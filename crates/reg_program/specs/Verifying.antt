@@ -3,7 +3,7 @@ use Rattle.std.specs.Prelude.{◌≡◌, ⊤, ℕ, true, List, Option, Result, O
 use Rattle.std.specs.Io.KnownBytes.{Appends}
 use Rattle.std.specs.String.{string_bytes}
 use Rattle.reg_history.specs.Chain.{chained}
-use Rattle.reg_history.specs.declared.change.Record.{Record}
+use Rattle.reg_changes.specs.declared.change.Record.{Record}
 use Rattle.reg_verify.specs.Flaws.{flaw_text}
 use Rattle.reg_verify.specs.Verifying.{IsNotedIn, IsVerified, TellsFlaw, verified_text}
 use Rattle.reg_verify.specs.declared.flaw.Flaw.{Flaw}

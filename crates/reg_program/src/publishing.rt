@@ -7,7 +7,7 @@ ghost use Rattle.reg_program.specs.Publishing.{PublishesIn};
 use crate::asking::{print, refusal_line};
 use crate::console::Console;
 use crate::faults::{JobFailure, Undone};
-use reg_history::change::{Class, Subject};
+use reg_changes::change::{Class, Subject};
 use reg_jobs::jobs::SERVED;
 use reg_notes::notes::Notes;
 use reg_pages::portions::Portions;

@@ -3,14 +3,14 @@ use Rattle.std.proofs.Common.{◌≡◌, ℕ, true, false, List, Option, Some, N
 use Rattle.std.specs.Prelude.{IfErr, IsErrAnd, IsSome, is_some}
 use Rattle.reg_history.specs.Chain.{chained, says}
 use Rattle.reg_history.specs.History.{TellsWrong}
-use Rattle.reg_history.specs.Replay.{IsLost, Said}
-use Rattle.reg_history.specs.Said.{TellsLoss}
-use Rattle.reg_history.specs.declared.change.Fact.{Fact}
-use Rattle.reg_history.specs.declared.change.Record.{Record}
+use Rattle.reg_changes.specs.Replay.{IsLost, Said}
+use Rattle.reg_changes.specs.Said.{TellsLoss}
+use Rattle.reg_changes.specs.declared.change.Fact.{Fact}
+use Rattle.reg_changes.specs.declared.change.Record.{Record}
 use Rattle.reg_history.specs.declared.history.Unreadable.{Unreadable}
 use Rattle.reg_history.specs.declared.history.Unreadable.TheVariants as unreadable
-use Rattle.reg_history.specs.declared.said.Unrecorded.{Unrecorded}
-use Rattle.reg_history.specs.declared.said.Unrecorded.TheVariants as unrecorded
+use Rattle.reg_changes.specs.declared.said.Unrecorded.{Unrecorded}
+use Rattle.reg_changes.specs.declared.said.Unrecorded.TheVariants as unrecorded
 use Rattle.reg_publish.specs.Earlier.{IsEarlier, IsTied, text_there}
 use Rattle.reg_publish.specs.Faults.{IsLostBy, HistoryIsUnread, IsWrongThere, TellsWhyUnpublished, unreadable_as, unrecorded_as}
 use Rattle.reg_publish.specs.declared.faults.HistoryFault.TheVariants as fault

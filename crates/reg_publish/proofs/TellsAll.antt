@@ -11,7 +11,7 @@ use Rattle.reg_core.specs.declared.reply.Reply.{Reply}
 use Rattle.reg_core.specs.declared.reply.Reply.TheVariants.{Accepted}
 use Rattle.reg_core.specs.declared.told.Told.{Told}
 use Rattle.reg_core.specs.declared.told.Told.TheVariants as tells
-use Rattle.reg_history.specs.declared.change.Record.{Record}
+use Rattle.reg_changes.specs.declared.change.Record.{Record}
 use Rattle.reg_notes.specs.declared.notes.Notes.{Notes}
 use Rattle.reg_site.specs.Site.{blocks_at, blocks_in, names_in, page_in, pages_at, pool_in, prefixes_at, site, site_files, told_to_all}
 use Rattle.reg_publish.specs.Told.{AreTold, IsTold, blocks_of, facts_at, facts_told, pages_of, prefixes_of}

@@ -2,13 +2,13 @@
 use Rattle.std.specs.Prelude.{◌≡◌, ⊤, ℕ, List, Option, Some, None, IsSome}
 use Rattle.reg_history.specs.Chain.{chained, says}
 use Rattle.reg_history.specs.History.{TellsWrong}
-use Rattle.reg_history.specs.Replay.{IsLost, Said}
-use Rattle.reg_history.specs.declared.change.Fact.{Fact}
-use Rattle.reg_history.specs.declared.change.Record.{Record}
+use Rattle.reg_changes.specs.Replay.{IsLost, Said}
+use Rattle.reg_changes.specs.declared.change.Fact.{Fact}
+use Rattle.reg_changes.specs.declared.change.Record.{Record}
 use Rattle.reg_history.specs.declared.history.Unreadable.{Unreadable}
 use Rattle.reg_history.specs.declared.history.Unreadable.TheVariants as unreadable
-use Rattle.reg_history.specs.declared.said.Unrecorded.{Unrecorded}
-use Rattle.reg_history.specs.declared.said.Unrecorded.TheVariants as unrecorded
+use Rattle.reg_changes.specs.declared.said.Unrecorded.{Unrecorded}
+use Rattle.reg_changes.specs.declared.said.Unrecorded.TheVariants as unrecorded
 use Rattle.reg_publish.specs.Earlier.{IsEarlier, IsTied, text_there}
 use Rattle.reg_publish.specs.declared.faults.HistoryFault.{HistoryFault}
 use Rattle.reg_publish.specs.declared.faults.HistoryFault.TheVariants as fault

@@ -9,8 +9,8 @@ use Rattle.reg_core.specs.declared.told.Told.{Told}
 use Rattle.reg_core.specs.declared.told.Told.TheVariants as tells
 use Rattle.reg_history.specs.Chain.{chained}
 use Rattle.reg_history.specs.Published.{published_facts}
-use Rattle.reg_history.specs.declared.change.Fact.{Fact}
-use Rattle.reg_history.specs.declared.change.Record.{Record}
+use Rattle.reg_changes.specs.declared.change.Fact.{Fact}
+use Rattle.reg_changes.specs.declared.change.Record.{Record}
 use Rattle.reg_notes.specs.declared.note.Note.{Note}
 use Rattle.reg_notes.specs.declared.notes.Notes.{Notes}
 use Rattle.reg_publish.specs.declared.told.AllTold.{AllTold}

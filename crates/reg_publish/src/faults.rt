@@ -1,8 +1,8 @@
 //! Why a site was not published.
 use crate::unpublished::Unpublished;
-use reg_history::change::Subject;
+use reg_changes::change::Subject;
+use reg_changes::said::Unrecorded;
 use reg_history::history::Unreadable;
-use reg_history::said::Unrecorded;
 use std::alloc::{AllocError, AllocFailed};
 
 /// Why a site was not published, or no more of it. Each file that was published before is whole.

@@ -7,7 +7,7 @@ ghost use Rattle.reg_site.specs.declared.files.File.TheVariants as file;
 
 use crate::folder::Folder;
 use crate::unpublished::Unpublished;
-use reg_history::field::Field;
+use reg_changes::field::Field;
 use reg_pages::portions::{Portions, Whole};
 use reg_site::files::File;
 use reg_site::sums::{Sums, digest_of};

@@ -23,7 +23,7 @@ use crate::registries::{publish_blocks, publish_pool, publish_registries};
 use crate::source::Source;
 use crate::told::{AllTold, ask_all, blocks_in, page_in, pool_in};
 use crate::unpublished::Unpublished;
-use reg_history::change::Record;
+use reg_changes::change::Record;
 use reg_history::history::History;
 use reg_history::overview::Overview;
 use reg_history::recorder::Recorded;

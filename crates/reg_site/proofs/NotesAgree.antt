@@ -5,8 +5,8 @@ use Rattle.reg_core.specs.declared.entry.PageEntry.{PageEntry}
 use Rattle.reg_core.specs.declared.page.Page.{Page}
 use Rattle.reg_core.specs.declared.told.Told.TheVariants as tells
 use Rattle.reg_history.specs.Chain.{chained}
-use Rattle.reg_history.specs.Recorded.{last_changed}
-use Rattle.reg_history.specs.declared.change.Record.{Record}
+use Rattle.reg_changes.specs.Recorded.{last_changed}
+use Rattle.reg_changes.specs.declared.change.Record.{Record}
 use Rattle.reg_notes.specs.Notes.{entry_thing}
 use Rattle.reg_notes.specs.declared.notes.Notes.{Notes}
 use Rattle.reg_print.specs.Listing.{ListedRow, closed_status, entry_row, free_row, free_rows, is_in, page_rows, range_rows, rows_by, rows_from}

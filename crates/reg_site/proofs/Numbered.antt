@@ -4,7 +4,7 @@ use Rattle.std.proofs.lemmas.List.{length-map}
 use Rattle.reg_print.proofs.PrintedTokens.{one_more}
 use Rattle.reg_history.specs.Chain.{chained}
 use Rattle.reg_history.specs.Overview.{IsOverview}
-use Rattle.reg_history.specs.declared.change.Record.{Record}
+use Rattle.reg_changes.specs.declared.change.Record.{Record}
 use Rattle.reg_history.specs.declared.overview.Overview.{Overview}
 use Rattle.reg_history.specs.declared.overview.Tied.{Tied}
 use Rattle.reg_history.proofs.Histories.{counted}

@@ -15,7 +15,7 @@ use Rattle.reg_core.specs.declared.reply.Reply.TheVariants.{Accepted, Refused}
 use Rattle.reg_core.specs.declared.told.Told.TheVariants as tells
 use Rattle.reg_early.specs.Moment.{utc_day}
 use Rattle.reg_history.specs.Chain.{chained}
-use Rattle.reg_history.specs.declared.change.Record.{Record}
+use Rattle.reg_changes.specs.declared.change.Record.{Record}
 use Rattle.reg_notes.specs.declared.note.Note.{Note}
 use Rattle.reg_notes.specs.declared.notes.Notes.{Notes}
 use Rattle.reg_ranges.specs.Tables.{Table}

@@ -19,7 +19,7 @@ use Rattle.reg_core.specs.declared.page.Page.{Page}
 use Rattle.reg_core.specs.declared.reply.Reply.TheVariants.{Accepted}
 use Rattle.reg_core.specs.declared.told.Told.TheVariants as tells
 use Rattle.reg_history.specs.Chain.{chained}
-use Rattle.reg_history.specs.declared.change.Record.{Record}
+use Rattle.reg_changes.specs.declared.change.Record.{Record}
 use Rattle.reg_notes.specs.Notes.{entry_thing}
 use Rattle.reg_notes.specs.declared.notes.Notes.{Notes}
 use Rattle.reg_pages.specs.Blocks.{block_row, row_by}

@@ -2,8 +2,8 @@
 use Rattle.std.specs.Prelude.{ℕ, ◌+◌, ◌-◌, List, [], ◌∷◌, ◌++◌, codes, drop, length, reverse, slice_get, unwrap_or, take}
 use Rattle.std.specs.Str.{is_utf8}
 use Rattle.reg_history.specs.Chain.{chained}
-use Rattle.reg_history.specs.Recorded.{change_word, description_of, registry_of, value_of}
-use Rattle.reg_history.specs.declared.change.Record.{Record}
+use Rattle.reg_changes.specs.Recorded.{change_word, description_of, registry_of, value_of}
+use Rattle.reg_changes.specs.declared.change.Record.{Record}
 use Rattle.reg_ranges.specs.Texts.{read_text}
 use Rattle.reg_site.specs.Changes.{Changed, urn}
 

@@ -15,8 +15,8 @@ use Rattle.reg_core.specs.declared.reply.Reply.{Reply}
 use Rattle.reg_core.specs.declared.reply.Reply.TheVariants.{Accepted, Refused}
 use Rattle.reg_history.specs.Chain.{chained, last_digest}
 use Rattle.reg_history.specs.Moment.{moment_text}
-use Rattle.reg_history.specs.Recorded.{last_changed}
-use Rattle.reg_history.specs.declared.change.Record.{Record}
+use Rattle.reg_changes.specs.Recorded.{last_changed}
+use Rattle.reg_changes.specs.declared.change.Record.{Record}
 use Rattle.reg_notes.specs.declared.note.Note.{Note}
 use Rattle.reg_notes.specs.declared.notes.Notes.{Notes}
 use Rattle.reg_print.specs.Answer.{body_text}

@@ -6,7 +6,7 @@ ghost use Rattle.reg_site.specs.Changes.{shown};
 ghost use Rattle.reg_site.specs.Recent.{changed, day_part, feed_id, last_changes, numbered, text_of};
 
 use crate::changes::Change;
-use reg_history::change::Record;
+use reg_changes::change::Record;
 use reg_history::overview::{Overview, Tied};
 use reg_notes::words::as_text;
 use std::alloc::{AllocError, Global};

@@ -2,7 +2,7 @@
 ghost use Rattle.std.specs.Prelude.{◌≡◌, [], string_bytes, IfOk, List, OnOk, ℕ};
 ghost use Rattle.reg_site.specs.Sums.{digest as digest_by, entries_of, lines_of, sum_line, with_sum};
 
-use reg_history::field::Field;
+use reg_changes::field::Field;
 use reg_pages::portions::Portions;
 use sha2::{Digest, Sha256};
 use std::alloc::{AllocError, Global};

@@ -3,12 +3,12 @@ use Rattle.std.proofs.Common.{◌≡◌, ℕ, List, Option, Some, None, Result, 
 use Rattle.std.specs.declared.alloc.Global.{Global}
 use Rattle.std.specs.Prelude.{IfErr, IsErrAnd}
 use Rattle.reg_history.specs.Chain.{chained, says}
-use Rattle.reg_history.specs.declared.change.Record.{Record}
+use Rattle.reg_changes.specs.declared.change.Record.{Record}
 use Rattle.reg_history.specs.Noted.{some_begins}
 use Rattle.reg_history.specs.History.{TellsWrong}
-use Rattle.reg_history.specs.Said.{said_by}
+use Rattle.reg_changes.specs.Said.{said_by}
 use Rattle.reg_history.specs.declared.history.History.{History}
-use Rattle.reg_history.specs.declared.change.Fact.{Fact}
+use Rattle.reg_changes.specs.declared.change.Fact.{Fact}
 use Rattle.reg_history.specs.declared.history.Unreadable.{Unreadable}
 use Rattle.reg_history.specs.declared.history.Unreadable.TheVariants as unreadable
 use Rattle.reg_verify.specs.Flaws.{unread_as, unreadable_as}

@@ -8,14 +8,14 @@ use Rattle.reg_core.specs.declared.page.Page.{Page}
 use Rattle.reg_core.specs.declared.told.Told.{Told}
 use Rattle.reg_core.specs.declared.told.Told.TheVariants as tells
 use Rattle.reg_history.specs.Published.{block_fact, page_facts, prefix_fact}
-use Rattle.reg_history.specs.declared.change.Fact.{Fact}
+use Rattle.reg_changes.specs.declared.change.Fact.{Fact}
 use Rattle.reg_print.specs.Listing.{listing_text}
 use Rattle.reg_site.specs.Site.{told_text}
 use Rattle.reg_publish.specs.Reading.{IsToldBy}
-use Rattle.reg_history.specs.declared.change.Record.{Record}
+use Rattle.reg_changes.specs.declared.change.Record.{Record}
 use Rattle.reg_history.specs.Chain.{says as says_of}
 use Rattle.reg_history.specs.History.{IsHistory, SaysJust}
-use Rattle.reg_history.specs.Said.{said_by}
+use Rattle.reg_changes.specs.Said.{said_by}
 use Rattle.reg_history.specs.declared.history.History.{History}
 use Rattle.reg_verify.specs.Index.{IsInHistory, NamedRecord, named_record}
 use Rattle.reg_verify.specs.Strays.{HasNoStray}

@@ -14,14 +14,14 @@ use Rattle.std.proofs.lemmas.List.Elements.{All-more, All-map, All-weaker, Conta
 use Rattle.reg_maps.specs.Maps.{text_cmp}
 use Rattle.reg_maps.proofs.MapLaws.{text_keys}
 use Rattle.reg_maps.proofs.Orderings.{self_tie}
-use Rattle.reg_history.specs.Replay.{Said}
-use Rattle.reg_history.specs.Said.{said_by}
-use Rattle.reg_history.specs.Subjects.{subject_cmp}
-use Rattle.reg_history.specs.Words.{class_place}
-use Rattle.reg_history.specs.declared.change.Class.{Class}
-use Rattle.reg_history.specs.declared.change.Class.TheVariants as class
-use Rattle.reg_history.specs.declared.change.Details.{Details}
-use Rattle.reg_history.specs.declared.change.Subject.{Subject}
+use Rattle.reg_changes.specs.Replay.{Said}
+use Rattle.reg_changes.specs.Said.{said_by}
+use Rattle.reg_changes.specs.Subjects.{subject_cmp}
+use Rattle.reg_changes.specs.Words.{class_place}
+use Rattle.reg_changes.specs.declared.change.Class.{Class}
+use Rattle.reg_changes.specs.declared.change.Class.TheVariants as class
+use Rattle.reg_changes.specs.declared.change.Details.{Details}
+use Rattle.reg_changes.specs.declared.change.Subject.{Subject}
 use Rattle.reg_verify.specs.Strays.{HasNoStray, HasRegistry, HasStray, IsFirstFrom, IsKnown, IsRegistryOf, IsRegistryRange, IsStray, IsStrayOf, TellsStray, range_at}
 
 -- ---- The first range of a registry

@@ -4,9 +4,9 @@ use Rattle.std.specs.Fmt.{decimal}
 use Rattle.std.specs.List.{list_all}
 use Rattle.reg_verify.specs.Parts.{place_of}
 use Rattle.reg_verify.specs.declared.part.Part.{Part}
-use Rattle.reg_history.specs.declared.change.Class.{Class}
-use Rattle.reg_history.specs.declared.change.Class.TheVariants as class
-use Rattle.reg_history.specs.declared.change.Subject.{Subject}
+use Rattle.reg_changes.specs.declared.change.Class.{Class}
+use Rattle.reg_changes.specs.declared.change.Class.TheVariants as class
+use Rattle.reg_changes.specs.declared.change.Subject.{Subject}
 use Rattle.reg_history.specs.declared.history.Unreadable.{Unreadable}
 use Rattle.reg_history.specs.declared.history.Unreadable.TheVariants as unreadable
 use Rattle.reg_verify.specs.declared.folder.Unread.{Unread}

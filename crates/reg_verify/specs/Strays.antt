@@ -2,12 +2,12 @@
 use Rattle.std.specs.Prelude.{◌≡◌, ◌⊎◌, List, ℕ, ◌++◌, Option, Some, None, All, Contains, IsSome, codes}
 use Rattle.std.specs.BTreeMap.{BTreeMap}
 use Rattle.std.specs.BTreeMap.Range.{IsLeBy}
-use Rattle.reg_history.specs.Replay.{Said}
-use Rattle.reg_history.specs.Said.{said_by}
-use Rattle.reg_history.specs.Subjects.{subject_cmp}
-use Rattle.reg_history.specs.declared.change.Class.TheVariants as class
-use Rattle.reg_history.specs.declared.change.Details.{Details}
-use Rattle.reg_history.specs.declared.change.Subject.{Subject}
+use Rattle.reg_changes.specs.Replay.{Said}
+use Rattle.reg_changes.specs.Said.{said_by}
+use Rattle.reg_changes.specs.Subjects.{subject_cmp}
+use Rattle.reg_changes.specs.declared.change.Class.TheVariants as class
+use Rattle.reg_changes.specs.declared.change.Details.{Details}
+use Rattle.reg_changes.specs.declared.change.Subject.{Subject}
 
 -- where it is known which files a folder has: those of its folder `registries` have these names
 abbrev pub Lists : {F : Type 0} → Type 0 → (F → List (List ℕ)) → F → List (List ℕ) → Type 0

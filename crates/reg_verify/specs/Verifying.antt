@@ -7,13 +7,13 @@ use Rattle.reg_core.specs.declared.holding.Listed.{Listed}
 use Rattle.reg_core.specs.declared.page.Page.{Page}
 use Rattle.reg_core.specs.declared.told.Told.TheVariants as tells
 use Rattle.reg_history.specs.Chain.{chained, last_digest, says}
-use Rattle.reg_history.specs.declared.change.Record.{Record}
+use Rattle.reg_changes.specs.declared.change.Record.{Record}
 use Rattle.reg_history.specs.Noted.{some_begins}
 use Rattle.reg_history.specs.History.{IsHistory, SaysJust, TellsWrong}
 use Rattle.reg_history.specs.Unlike.{TellsUnlike}
 use Rattle.reg_history.specs.Published.{block_fact, page_facts, prefix_fact, published_facts}
-use Rattle.reg_history.specs.Replay.{Said}
-use Rattle.reg_history.specs.declared.change.Fact.{Fact}
+use Rattle.reg_changes.specs.Replay.{Said}
+use Rattle.reg_changes.specs.declared.change.Fact.{Fact}
 use Rattle.reg_history.specs.declared.history.History.{History}
 use Rattle.reg_history.specs.declared.history.Unlike.TheVariants as unlike
 use Rattle.reg_history.specs.declared.history.Unreadable.TheVariants as unreadable

@@ -6,8 +6,8 @@ ghost use Rattle.reg_verify.specs.declared.flaw.Unverified.TheVariants as un;
 
 use crate::folder::Unread;
 use crate::part::Part;
+use reg_changes::change::{Class, Subject};
 use reg_core::text::Name;
-use reg_history::change::{Class, Subject};
 use reg_history::history::Unreadable;
 use std::alloc::{AllocError, Global};
 

@@ -5,7 +5,7 @@ ghost use Rattle.reg_verify.specs.Index.{IsInHistory, changes_in, digest_in, nam
 ghost use Rattle.reg_verify.specs.Strays.{Lists};
 ghost use Rattle.reg_verify.specs.Verifying.{Finds, HasHistory, HasIndex, TellsWhy};
 ghost use Rattle.reg_history.specs.Chain.{chained};
-ghost use Rattle.reg_history.specs.declared.change.Record.{Record};
+ghost use Rattle.reg_changes.specs.declared.change.Record.{Record};
 ghost use Rattle.std.specs.Prelude.{List};
 
 use crate::files::bytes_of;

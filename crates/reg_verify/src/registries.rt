@@ -1,6 +1,6 @@
 //! What the files of a published folder publish, as facts.
 ghost use Rattle.std.specs.Prelude.{true, List, Some, None, OnOk, IfOk, IfErr};
-ghost use Rattle.reg_history.specs.declared.change.Record.{Record};
+ghost use Rattle.reg_changes.specs.declared.change.Record.{Record};
 ghost use Rattle.reg_print.specs.Listing.{listing_text};
 ghost use Rattle.reg_verify.specs.declared.part.Part.TheVariants as part;
 ghost use Rattle.reg_verify.specs.Strays.{Lists};
@@ -11,12 +11,12 @@ use crate::flaw::{Flaw, Unverified};
 use crate::folder::Reads;
 use crate::listing::gives_just;
 use crate::part::Part;
+use reg_changes::change::{Class, Fact, Subject};
+use reg_changes::said::Said;
 use reg_core::command::PublicCommand;
 use reg_core::page::Page;
 use reg_core::text::Name;
-use reg_history::change::{Class, Fact, Subject};
 use reg_history::published::{add_blocks, add_page, add_prefixes};
-use reg_history::said::Said;
 use reg_site::listing::RegistryListing;
 use std::alloc::{AllocError, Global};
 

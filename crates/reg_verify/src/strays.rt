@@ -1,15 +1,15 @@
 //! Files of the folder `registries` that are of no registry of a history.
 ghost use Rattle.std.specs.Prelude.{◌≡◌, ◌↔◌, ◌++◌, ◌≢◌, [], List, ℕ, IfOk, IfErr, IsTrue, MatchBool, MatchOption, None, map, option_map, string_bytes};
 ghost use Rattle.std.specs.Option.{option_copied};
-ghost use Rattle.reg_history.specs.Said.{said_by};
+ghost use Rattle.reg_changes.specs.Said.{said_by};
 ghost use Rattle.reg_verify.specs.Strays.{HasRegistry, IsFirstFrom, IsKnown, IsRegistryRange, IsRegistryOf, IsStray, IsStrayOf, Lists, TellsStray, range_at};
 ghost use Rattle.reg_verify.specs.Verifying.{Finds, TellsWhy};
 
 use crate::flaw::Unverified;
 use crate::folder::Reads;
-use reg_history::change::{Class, Subject};
-use reg_history::field::Field;
-use reg_history::said::Said;
+use reg_changes::change::{Class, Subject};
+use reg_changes::field::Field;
+use reg_changes::said::Said;
 use std::alloc::{AllocError, Global};
 
 /// The first file of the folder `registries` that is the JSON or the listing of a registry which a history

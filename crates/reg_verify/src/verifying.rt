@@ -2,7 +2,7 @@
 ghost use Rattle.std.specs.Prelude.{◌≡◌, ◌++◌, List, None, Some, IfOk, IfErr, OnOk};
 ghost use Rattle.std.specs.Option.{option_copied};
 ghost use Rattle.reg_history.specs.Chain.{says};
-ghost use Rattle.reg_history.specs.declared.change.Record.{Record};
+ghost use Rattle.reg_changes.specs.declared.change.Record.{Record};
 ghost use Rattle.reg_history.specs.History.{IsHistory, SaysJust};
 ghost use Rattle.reg_verify.specs.Strays.{Lists};
 ghost use Rattle.reg_verify.specs.Verifying.{Finds, IsHistoryIn, IsNotedIn, IsUnlikeBy, IsUnnotedBy, IsVerified, TellsWhy, last_text, verified_text};
@@ -14,8 +14,8 @@ use crate::index::find_record;
 use crate::part::Part;
 use crate::registries::facts_in;
 use crate::strays::stray_in;
+use reg_changes::change::Fact;
 use reg_history::chain::Chain;
-use reg_history::change::Fact;
 use reg_history::history::{History, Unlike, read};
 use std::alloc::{AllocError, Global};
 

@@ -1,11 +1,11 @@
 //! Histories: their bytes against Python's `csv` and `hashlib`, and what is noticed of them.
 use crate::tests::expecting::{expect_text, expect_true};
-use reg_history::change::{Class, Details, Fact, Standing, Subject};
-use reg_history::field::Field;
+use reg_changes::change::{Class, Details, Fact, Standing, Subject};
+use reg_changes::field::Field;
+use reg_changes::said::Unrecorded;
 use reg_history::history::{HEADER, History, Unreadable, read};
 use reg_history::overview::Tied;
 use reg_history::recorder::{Recorded, Takes};
-use reg_history::said::Unrecorded;
 use std::alloc::{AllocError, Global};
 use std::process::Abort;
 use std::test::Fail;

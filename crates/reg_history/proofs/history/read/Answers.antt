@@ -1,6 +1,6 @@
 use Rattle.std.proofs.Common.{ℕ, List, [], sym, subst}
 use Rattle.reg_history.specs.History.{IsHistoryOf, TellsWrong}
-use Rattle.reg_history.proofs.Replayed.{handed_on}
+use Rattle.reg_changes.proofs.Replayed.{handed_on}
 use Rattle.reg_history.proofs.history.read.Goals as goal
 
 pub returns-clause-history : goal.returns-clause-history

@@ -2,8 +2,8 @@ use Rattle.std.proofs.Common.{◌≡◌, List, [], refl, sym, subst, ◌∙◌, 
 use Rattle.reg_history.specs.Chain.{chained, says}
 use Rattle.reg_history.specs.History.{IsHistory}
 use Rattle.reg_history.specs.Recording.{Aim, Awaits}
-use Rattle.reg_history.specs.declared.change.Fact.{Fact}
-use Rattle.reg_history.specs.declared.change.Record.{Record}
+use Rattle.reg_changes.specs.declared.change.Fact.{Fact}
+use Rattle.reg_changes.specs.declared.change.Record.{Record}
 use Rattle.reg_publish.specs.Faults.{IsLostBy, unrecorded_as}
 use Rattle.reg_publish.specs.Told.{facts_told}
 use Rattle.reg_publish.specs.declared.faults.PublishFault.{PublishFault}

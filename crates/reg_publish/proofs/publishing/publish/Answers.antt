@@ -2,7 +2,7 @@ use Rattle.std.proofs.Common.{List, ◌++◌, ap, ◌∙◌, subst}
 use Rattle.std.specs.Option.{option_copied}
 use Rattle.reg_history.specs.Chain.{chained}
 use Rattle.reg_history.specs.History.{Continues, news}
-use Rattle.reg_history.specs.declared.change.Record.{Record}
+use Rattle.reg_changes.specs.declared.change.Record.{Record}
 use Rattle.reg_site.specs.Files.{path_of}
 use Rattle.reg_site.specs.Site.{site, site_files}
 use Rattle.reg_site.specs.declared.files.File.TheVariants as file

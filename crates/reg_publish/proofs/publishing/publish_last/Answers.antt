@@ -2,7 +2,7 @@ use Rattle.std.proofs.Common.{◌≡◌, map, sym, ap, ◌∙◌}
 use Rattle.std.proofs.lemmas.Simd.{map-map}
 use Rattle.reg_history.specs.Chain.{chained}
 use Rattle.reg_history.specs.Overview.{moment_by}
-use Rattle.reg_history.specs.Recorded.{last_changed}
+use Rattle.reg_changes.specs.Recorded.{last_changed}
 use Rattle.reg_site.specs.IndexTree.{IndexRow, row_of}
 use Rattle.reg_site.specs.Site.{index_files}
 use Rattle.reg_site.specs.Summary.{summary}

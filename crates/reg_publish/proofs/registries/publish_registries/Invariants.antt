@@ -2,7 +2,7 @@ use Rattle.std.proofs.Common.{List, take}
 use Rattle.std.specs.List.{flat_map}
 use Rattle.std.specs.Option.{option_copied}
 use Rattle.reg_history.specs.Overview.{IsOverview}
-use Rattle.reg_history.specs.declared.change.Record.{Record}
+use Rattle.reg_changes.specs.declared.change.Record.{Record}
 use Rattle.reg_site.specs.Site.{page_files}
 use Rattle.reg_publish.specs.Folder.{PlacesSummed}
 use Rattle.reg_publish.specs.Told.{pages_of}

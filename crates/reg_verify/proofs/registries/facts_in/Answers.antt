@@ -1,5 +1,5 @@
 use Rattle.std.proofs.Common.{List, None}
-use Rattle.reg_history.specs.declared.change.Record.{Record}
+use Rattle.reg_changes.specs.declared.change.Record.{Record}
 use Rattle.reg_verify.specs.Strays.{Lists}
 use Rattle.reg_verify.specs.Verifying.{Finds, HasHistory, TellsWhy}
 use Rattle.reg_verify.proofs.Flaws.{handed_on, tells_nameless}

@@ -1,5 +1,5 @@
 use Rattle.std.proofs.Common.{List, sym, subst}
-use Rattle.reg_history.specs.declared.change.Fact.{Fact}
+use Rattle.reg_changes.specs.declared.change.Fact.{Fact}
 use Rattle.reg_verify.specs.Verifying.{AreFactsOfPages, Finds}
 use Rattle.reg_verify.proofs.Folders.{no_pages, one_page_more}
 use Rattle.reg_verify.proofs.registries.registries_in.Goals as goal

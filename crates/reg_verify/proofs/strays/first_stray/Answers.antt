@@ -1,5 +1,5 @@
 use Rattle.std.proofs.Common.{string_bytes}
-use Rattle.reg_history.specs.Said.{said_by}
+use Rattle.reg_changes.specs.Said.{said_by}
 use Rattle.reg_verify.proofs.StrayFiles.{none_among}
 use Rattle.reg_verify.proofs.strays.first_stray.Goals as goal
 

@@ -1,6 +1,6 @@
 use Rattle.std.proofs.Common.{take, string_bytes}
 use Rattle.std.specs.Prelude.{All}
-use Rattle.reg_history.specs.Said.{said_by}
+use Rattle.reg_changes.specs.Said.{said_by}
 use Rattle.reg_verify.specs.Strays.{IsKnown}
 use Rattle.reg_verify.proofs.strays.first_stray.Given as goal
 

@@ -1,4 +1,4 @@
-use Rattle.reg_history.specs.Said.{said_by}
+use Rattle.reg_changes.specs.Said.{said_by}
 use Rattle.reg_verify.proofs.StrayFiles.{judged, unowned}
 use Rattle.reg_verify.proofs.strays.is_stray.Goals as goal
 

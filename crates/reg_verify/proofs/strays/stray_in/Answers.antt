@@ -1,6 +1,6 @@
 use Rattle.std.proofs.Common.{List, String, map, option_map, string_bytes, sym, subst}
 use Rattle.std.specs.declared.alloc.Global.{Global}
-use Rattle.reg_history.specs.Said.{said_by}
+use Rattle.reg_changes.specs.Said.{said_by}
 use Rattle.reg_verify.specs.Strays.{IsStrayOf, Lists}
 use Rattle.reg_verify.proofs.StrayFiles.{told_stray}
 use Rattle.reg_verify.proofs.strays.stray_in.Goals as goal

@@ -1,9 +1,9 @@
 use Rattle.std.proofs.Common.{List, None, ap, subst}
 use Rattle.reg_history.specs.Chain.{says}
 use Rattle.reg_history.specs.History.{SaysJust}
-use Rattle.reg_history.specs.Said.{said_by}
+use Rattle.reg_changes.specs.Said.{said_by}
 use Rattle.reg_history.specs.declared.chain.Chain.{Chain}
-use Rattle.reg_history.specs.declared.change.Fact.{Fact}
+use Rattle.reg_changes.specs.declared.change.Fact.{Fact}
 use Rattle.reg_verify.specs.Strays.{Lists}
 use Rattle.reg_verify.specs.Verifying.{Finds, IsUnlikeBy, TellsWhy}
 use Rattle.reg_verify.proofs.Flaws.{handed_on, tells_stray, tells_unlike}

@@ -1,11 +1,11 @@
 use Rattle.std.proofs.Common.{List, sym, ap, ◌∙◌}
 use Rattle.std.specs.Prelude.{slice_get}
 use Rattle.reg_history.specs.Chain.{says}
-use Rattle.reg_history.specs.declared.change.Record.{Record}
+use Rattle.reg_changes.specs.declared.change.Record.{Record}
 use Rattle.reg_history.specs.History.{IsHistory}
 use Rattle.reg_history.specs.Unlike.{TellsUnlike, unlike_of}
 use Rattle.reg_history.proofs.Histories.{first-none, says_just}
-use Rattle.reg_history.proofs.Replayed.{handed_on}
+use Rattle.reg_changes.proofs.Replayed.{handed_on}
 use Rattle.reg_history.proofs.UnlikeHistories.{unlike_by_loss, unlike_by_news}
 use Rattle.reg_history.proofs.history.History.says_just.Goals as goal
 

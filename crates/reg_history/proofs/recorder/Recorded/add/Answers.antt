@@ -2,7 +2,7 @@ use Rattle.std.proofs.Common.{◌++◌, sym, ap, ◌∙◌, subst}
 use Rattle.std.specs.Prelude.{Option, option_to_list}
 use Rattle.reg_history.specs.Chain.{at, record_of}
 use Rattle.reg_history.specs.Recording.{IsRecorded}
-use Rattle.reg_history.specs.declared.change.Change.{Change}
+use Rattle.reg_changes.specs.declared.change.Change.{Change}
 use Rattle.reg_history.specs.declared.recorder.Recorded.{Recorded}
 use Rattle.reg_history.proofs.Recordings.{recorded_more}
 use Rattle.reg_history.proofs.recorder.Recorded.add.Goals as goal

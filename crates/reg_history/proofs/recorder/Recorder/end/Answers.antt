@@ -1,9 +1,9 @@
 use Rattle.std.proofs.Common.{[]}
 use Rattle.reg_history.specs.Chain.{says}
 use Rattle.reg_history.specs.Recording.{Records}
-use Rattle.reg_history.specs.Replay.{IsLost}
+use Rattle.reg_changes.specs.Replay.{IsLost}
 use Rattle.reg_history.proofs.Recordings.{records_end, records_left, was_not_lost}
-use Rattle.reg_history.proofs.Replayed.{says_nothing}
+use Rattle.reg_changes.proofs.Replayed.{says_nothing}
 use Rattle.reg_history.proofs.recorder.Recorder.end.Goals as goal
 
 pub returns-in-None-clause-goes_on : goal.returns-in-None-clause-goes_on

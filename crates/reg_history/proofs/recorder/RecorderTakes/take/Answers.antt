@@ -2,10 +2,10 @@ use Rattle.std.proofs.Common.{◌≡◌, false, ◌∷◌, refl, sym, ◌∙◌,
 use Rattle.std.specs.Prelude.{is_some}
 use Rattle.reg_history.specs.Chain.{says}
 use Rattle.reg_history.specs.Recording.{Records}
-use Rattle.reg_history.specs.Replay.{IsLost}
-use Rattle.reg_history.specs.Said.{DoesNotStand}
+use Rattle.reg_changes.specs.Replay.{IsLost}
+use Rattle.reg_changes.specs.Said.{DoesNotStand}
 use Rattle.reg_history.specs.declared.recorder.Recorder.{Recorder}
-use Rattle.reg_history.specs.declared.said.Unrecorded.{Unrecorded}
+use Rattle.reg_changes.specs.declared.said.Unrecorded.{Unrecorded}
 use Rattle.reg_history.proofs.Recordings.{is_not_lost, not_lost, records_lost, records_next}
 use Rattle.reg_history.proofs.recorder.RecorderTakes.take.Goals as goal
 

@@ -6,11 +6,11 @@ use Rattle.std.specs.Cmp.{eq_by_cmp_equiv}
 use Rattle.std.specs.Ordering.{is_eq, nat_cmp, ordering_then}
 use Rattle.reg_maps.specs.Maps.{text_cmp}
 use Rattle.reg_maps.proofs.MapLaws.{number_keys, text_keys}
-use Rattle.reg_history.specs.Words.{class_place}
-use Rattle.reg_history.specs.Subjects.{subject_cmp, subject_total, same_subject}
-use Rattle.reg_history.specs.declared.change.Class.{Class}
-use Rattle.reg_history.specs.declared.change.Class.TheVariants as class
-use Rattle.reg_history.specs.declared.change.Subject.{Subject}
+use Rattle.reg_changes.specs.Words.{class_place}
+use Rattle.reg_changes.specs.Subjects.{subject_cmp, subject_total, same_subject}
+use Rattle.reg_changes.specs.declared.change.Class.{Class}
+use Rattle.reg_changes.specs.declared.change.Class.TheVariants as class
+use Rattle.reg_changes.specs.declared.change.Subject.{Subject}
 
 is_eq-exact : (o : Ordering) → is_eq o ≡ true → o ≡ Equal
 is_eq-exact Equal e = refl

@@ -1,6 +1,6 @@
-use Rattle.reg_history.specs.Said.{said_by}
-use Rattle.reg_history.proofs.Replayed.{standing_set}
-use Rattle.reg_history.proofs.said.set_standing.Goals as goal
+use Rattle.reg_changes.specs.Said.{said_by}
+use Rattle.reg_changes.proofs.Replayed.{standing_set}
+use Rattle.reg_changes.proofs.said.set_standing.Goals as goal
 
 pub returns-in_ok-insert : goal.returns-in_ok-insert
 returns-in_ok-insert c =

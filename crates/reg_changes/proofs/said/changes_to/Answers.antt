@@ -1,12 +1,12 @@
 use Rattle.std.proofs.Common.{◌<◌, ◌≤◌, ◌+◌, List, ◌++◌, length, drop, ap, subst, ◌∙◌, arith}
 use Rattle.std.specs.Prelude.{Option}
-use Rattle.reg_history.specs.Replay.{StandsIf, recorded}
-use Rattle.reg_history.specs.Said.{TellsLoss, said_by}
-use Rattle.reg_history.specs.declared.change.Details.{Details}
-use Rattle.reg_history.specs.declared.change.Fact.{Fact}
-use Rattle.reg_history.specs.Recording.{KeepsUp}
-use Rattle.reg_history.proofs.Replayed.{drop-end, drop-item, handed_on, keeps_up-kept, keeps_up-left, keeps_up-next, keeps_up-says, says_nothing, tells_loss}
-use Rattle.reg_history.proofs.said.changes_to.Goals as goal
+use Rattle.reg_changes.specs.Replay.{StandsIf, recorded}
+use Rattle.reg_changes.specs.Said.{TellsLoss, said_by}
+use Rattle.reg_changes.specs.declared.change.Details.{Details}
+use Rattle.reg_changes.specs.declared.change.Fact.{Fact}
+use Rattle.reg_changes.specs.KeepingUp.{KeepsUp}
+use Rattle.reg_changes.proofs.Replayed.{drop-end, drop-item, handed_on, keeps_up-kept, keeps_up-left, keeps_up-next, keeps_up-says, says_nothing, tells_loss}
+use Rattle.reg_changes.proofs.said.changes_to.Goals as goal
 
 pub loop-fact-preserved : goal.loop-fact-preserved
 loop-fact-preserved c =

@@ -1,10 +1,10 @@
 -- What records show of their changes.
 use Rattle.std.specs.Prelude.{ℕ, List, [], ◌∷◌, codes, if◌then◌else◌}
 use Rattle.std.specs.Str.{bytes_eq}
-use Rattle.reg_history.specs.Words.{class_word}
-use Rattle.reg_history.specs.declared.change.Change.{Change}
-use Rattle.reg_history.specs.declared.change.Change.TheVariants.{Made, Term}
-use Rattle.reg_history.specs.declared.change.Record.{Record}
+use Rattle.reg_changes.specs.Words.{class_word}
+use Rattle.reg_changes.specs.declared.change.Change.{Change}
+use Rattle.reg_changes.specs.declared.change.Change.TheVariants.{Made, Term}
+use Rattle.reg_changes.specs.declared.change.Record.{Record}
 
 -- the name of the registry that a change is about; nothing where it is of none
 abbrev pub registry_of : Change → List ℕ

@@ -1,10 +1,10 @@
 //! What a history says of each subject, and what has to be recorded of facts.
 ghost use Rattle.std.specs.Prelude.{◌≡◌, ◌++◌, true, IfOk, IfErr, OnOk, option_to_list};
-ghost use Rattle.reg_history.specs.Replay.{NothingIsLost, StandsIf, after, changes_to, is_no_earlier, recorded, same_given, same_standing, stands, with_standing_at, SaysAfter};
-ghost use Rattle.reg_history.specs.Subjects.{is_entry};
-ghost use Rattle.reg_history.specs.Said.{Says, said_by, DoesNotStand, TellsLoss};
-ghost use Rattle.reg_history.specs.declared.change.Change.TheVariants.{Term};
-ghost use Rattle.reg_history.specs.declared.said.Unrecorded.TheVariants as un;
+ghost use Rattle.reg_changes.specs.Replay.{NothingIsLost, StandsIf, after, changes_to, is_no_earlier, recorded, same_given, same_standing, stands, with_standing_at, SaysAfter};
+ghost use Rattle.reg_changes.specs.Subjects.{is_entry};
+ghost use Rattle.reg_changes.specs.Said.{Says, said_by, DoesNotStand, TellsLoss};
+ghost use Rattle.reg_changes.specs.declared.change.Change.TheVariants.{Term};
+ghost use Rattle.reg_changes.specs.declared.said.Unrecorded.TheVariants as un;
 
 use crate::change::{Change, Class, Details, Fact, Standing, Subject};
 use crate::field::Field;
@@ -71,7 +71,7 @@ fn push_if(changes: &mut Vec<Change>, change: Option<Change>) -> Result<(), Allo
 
 /// What has to be recorded of a fact, if anything has to be, by what was said of its subject; or what was
 /// lost.
-pub(crate) fn change_to(before: Option<Details>, fact: &Fact) -> Result<Option<Change>, Unrecorded>
+pub fn change_to(before: Option<Details>, fact: &Fact) -> Result<Option<Change>, Unrecorded>
     ensures change { IfOk result (λ change. option_to_list change ≡ recorded before fact.now) }
     ensures stands { OnOk result (StandsIf before fact.now) }
     ensures lost { IfErr result (DoesNotStand before fact.now) }

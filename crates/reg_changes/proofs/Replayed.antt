@@ -8,21 +8,21 @@ use Rattle.std.specs.Cmp.{first_so, second_so}
 use Rattle.std.proofs.lemmas.Bool.{cases_Bool}
 use Rattle.std.proofs.lemmas.Slice.Eq.{bytes_eq-Decides}
 use Rattle.reg_maps.specs.Maps.{same_text}
-use Rattle.reg_history.specs.Subjects.{same_subject, subject_cmp, is_entry, entry_at}
-use Rattle.reg_history.specs.Replay.{Said, SaysAfter, SomeFact, IsAbout, IsLost, NothingIsLost, StandsIf, after, changes_to, facts_say, nothing, recorded, replay, same_given, same_standing, stands, with_standing, with_standing_at, without}
-use Rattle.reg_history.specs.Recording.{AllStand, IsPartSaid, KeepsUp, without_all}
-use Rattle.reg_history.specs.Said.{DoesNotStand, TellsLoss, said_by}
-use Rattle.reg_history.specs.declared.change.Change.{Change}
-use Rattle.reg_history.specs.declared.change.Change.TheVariants.{Made, Term}
-use Rattle.reg_history.specs.declared.change.Class.{Class}
-use Rattle.reg_history.specs.declared.change.Class.TheVariants as class
-use Rattle.reg_history.specs.declared.change.Details.{Details}
-use Rattle.reg_history.specs.declared.change.Fact.{Fact}
-use Rattle.reg_history.specs.declared.change.Standing.{Standing}
-use Rattle.reg_history.specs.declared.change.Subject.{Subject}
-use Rattle.reg_history.specs.declared.said.Unrecorded.{Unrecorded}
-use Rattle.reg_history.specs.declared.said.Unrecorded.TheVariants.{Memory, Lost}
-use Rattle.reg_history.proofs.SameSubjects.{same_subject-exact, same_subject-refl}
+use Rattle.reg_changes.specs.Subjects.{same_subject, subject_cmp, is_entry, entry_at}
+use Rattle.reg_changes.specs.Replay.{Said, SaysAfter, SomeFact, IsAbout, IsLost, NothingIsLost, StandsIf, after, changes_to, facts_say, nothing, recorded, replay, same_given, same_standing, stands, with_standing, with_standing_at, without}
+use Rattle.reg_changes.specs.KeepingUp.{AllStand, IsPartSaid, KeepsUp, without_all}
+use Rattle.reg_changes.specs.Said.{DoesNotStand, TellsLoss, said_by}
+use Rattle.reg_changes.specs.declared.change.Change.{Change}
+use Rattle.reg_changes.specs.declared.change.Change.TheVariants.{Made, Term}
+use Rattle.reg_changes.specs.declared.change.Class.{Class}
+use Rattle.reg_changes.specs.declared.change.Class.TheVariants as class
+use Rattle.reg_changes.specs.declared.change.Details.{Details}
+use Rattle.reg_changes.specs.declared.change.Fact.{Fact}
+use Rattle.reg_changes.specs.declared.change.Standing.{Standing}
+use Rattle.reg_changes.specs.declared.change.Subject.{Subject}
+use Rattle.reg_changes.specs.declared.said.Unrecorded.{Unrecorded}
+use Rattle.reg_changes.specs.declared.said.Unrecorded.TheVariants.{Memory, Lost}
+use Rattle.reg_changes.proofs.SameSubjects.{same_subject-exact, same_subject-refl}
 
 -- replaying goes on where it was
 pub replay-append : (said : Said) (xs ys : List Change)

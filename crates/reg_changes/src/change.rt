@@ -1,9 +1,9 @@
 //! What a history says: facts, each of which is about a subject, and the changes that make them.
 ghost use Rattle.std.specs.Prelude.{◌≡◌, Some, IfOk};
 ghost use Rattle.std.specs.Ordering.{eq_by_cmp, as_partial_cmp};
-ghost use Rattle.reg_history.specs.Recorded.{change_word, description_of, registry_of, value_of};
-ghost use Rattle.reg_history.specs.Replay.{subject_of};
-ghost use Rattle.reg_history.specs.Words.{class_place, class_word};
+ghost use Rattle.reg_changes.specs.Recorded.{change_word, description_of, registry_of, value_of};
+ghost use Rattle.reg_changes.specs.Replay.{subject_of};
+ghost use Rattle.reg_changes.specs.Words.{class_place, class_word};
 
 use crate::field::Field;
 use std::alloc::AllocError;
@@ -249,7 +249,7 @@ impl Change {
 
 impl PartialEq for Subject {
     ghost use Rattle.std.specs.Cmp.{partial_equiv_from_equiv, eq_by_cmp_equiv};
-    ghost use Rattle.reg_history.specs.Subjects.{subject_cmp, subject_total};
+    ghost use Rattle.reg_changes.specs.Subjects.{subject_cmp, subject_total};
 
     ghost eq = { eq_by_cmp subject_cmp };
 
@@ -262,7 +262,7 @@ impl PartialEq for Subject {
 
 impl Eq for Subject {
     ghost use Rattle.std.specs.Cmp.{eq_by_cmp_equiv};
-    ghost use Rattle.reg_history.specs.Subjects.{subject_total};
+    ghost use Rattle.reg_changes.specs.Subjects.{subject_total};
 
     ghost laws = { eq_by_cmp_equiv subject_total };
 }
@@ -271,7 +271,7 @@ impl PartialOrd for Subject {
     ghost use Rattle.std.proofs.Common.{rules};
     ghost use Rattle.std.specs.Cmp.{partial_order_from_own_ties};
     ghost use Rattle.std.specs.Cmp.Rules.{comparing};
-    ghost use Rattle.reg_history.specs.Subjects.{subject_cmp};
+    ghost use Rattle.reg_changes.specs.Subjects.{subject_cmp};
 
     ghost partial_cmp = { as_partial_cmp subject_cmp };
 
@@ -286,7 +286,7 @@ impl PartialOrd for Subject {
 impl Ord for Subject {
     ghost use Rattle.std.proofs.Common.{rules};
     ghost use Rattle.std.specs.Cmp.Rules.{comparing};
-    ghost use Rattle.reg_history.specs.Subjects.{subject_cmp, subject_total};
+    ghost use Rattle.reg_changes.specs.Subjects.{subject_cmp, subject_total};
 
     ghost cmp = { subject_cmp };
 

@@ -5,10 +5,10 @@ use Rattle.std.specs.Cmp.{IsTotalOrder, nat_cmp_total, on_total, then_total}
 use Rattle.std.specs.Cmp.Lexicographic.{nat_list_cmp_total}
 use Rattle.std.specs.Ordering.{is_eq, nat_cmp, on, then_cmp}
 use Rattle.reg_maps.specs.Maps.{text_cmp}
-use Rattle.reg_history.specs.Words.{class_place}
-use Rattle.reg_history.specs.declared.change.Class.{Class}
-use Rattle.reg_history.specs.declared.change.Class.TheVariants as class
-use Rattle.reg_history.specs.declared.change.Subject.{Subject}
+use Rattle.reg_changes.specs.Words.{class_place}
+use Rattle.reg_changes.specs.declared.change.Class.{Class}
+use Rattle.reg_changes.specs.declared.change.Class.TheVariants as class
+use Rattle.reg_changes.specs.declared.change.Subject.{Subject}
 
 -- by registry, then by class, then by value
 abbrev pub subject_cmp : Subject → Subject → Ordering

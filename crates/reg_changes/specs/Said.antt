@@ -1,13 +1,13 @@
 -- What a map of what was said says.
 use Rattle.std.specs.Prelude.{◌≡◌, false, ⊤, List, Option, Some, None}
 use Rattle.std.specs.BTreeMap.{BTreeMap, get}
-use Rattle.reg_history.specs.Subjects.{subject_cmp}
-use Rattle.reg_history.specs.Replay.{IsLost, Said, stands}
-use Rattle.reg_history.specs.declared.change.Details.{Details}
-use Rattle.reg_history.specs.declared.change.Fact.{Fact}
-use Rattle.reg_history.specs.declared.change.Subject.{Subject}
-use Rattle.reg_history.specs.declared.said.Unrecorded.{Unrecorded}
-use Rattle.reg_history.specs.declared.said.Unrecorded.TheVariants.{Memory, Lost}
+use Rattle.reg_changes.specs.Subjects.{subject_cmp}
+use Rattle.reg_changes.specs.Replay.{IsLost, Said, stands}
+use Rattle.reg_changes.specs.declared.change.Details.{Details}
+use Rattle.reg_changes.specs.declared.change.Fact.{Fact}
+use Rattle.reg_changes.specs.declared.change.Subject.{Subject}
+use Rattle.reg_changes.specs.declared.said.Unrecorded.{Unrecorded}
+use Rattle.reg_changes.specs.declared.said.Unrecorded.TheVariants.{Memory, Lost}
 
 -- what the map has of a subject
 abbrev pub said_by : BTreeMap Subject Details → Said

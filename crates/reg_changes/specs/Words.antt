@@ -1,7 +1,7 @@
 -- The words of a record.
 use Rattle.std.specs.Prelude.{ℕ, List, codes}
-use Rattle.reg_history.specs.declared.change.Class.{Class}
-use Rattle.reg_history.specs.declared.change.Class.TheVariants as class
+use Rattle.reg_changes.specs.declared.change.Class.{Class}
+use Rattle.reg_changes.specs.declared.change.Class.TheVariants as class
 
 -- the word of the change by which a subject is first published
 abbrev pub class_word : Class → List ℕ

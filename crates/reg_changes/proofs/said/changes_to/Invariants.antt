@@ -1,7 +1,7 @@
 use Rattle.std.proofs.Common.{drop}
-use Rattle.reg_history.specs.Said.{said_by}
-use Rattle.reg_history.specs.Recording.{KeepsUp}
-use Rattle.reg_history.proofs.said.changes_to.Given as goal
+use Rattle.reg_changes.specs.Said.{said_by}
+use Rattle.reg_changes.specs.KeepingUp.{KeepsUp}
+use Rattle.reg_changes.proofs.said.changes_to.Given as goal
 
 abbrev pub invariant-loop-fact : goal.invariant-loop-fact
 invariant-loop-fact l =

@@ -2,13 +2,13 @@
 use Rattle.std.specs.Prelude.{◌≡◌, ◌⊎◌, ℕ, Bool, true, false, ◌&&◌, ◌||◌, List, [], ◌∷◌, ◌++◌, Option, Some, None, option_map, if◌then◌else◌, length, ◌==◌, not, ⊤}
 use Rattle.std.specs.Ordering.{is_le}
 use Rattle.reg_maps.specs.Maps.{text_cmp, same_text}
-use Rattle.reg_history.specs.Subjects.{same_subject, is_entry, entry_at}
-use Rattle.reg_history.specs.declared.change.Change.{Change}
-use Rattle.reg_history.specs.declared.change.Change.TheVariants.{Made, Term}
-use Rattle.reg_history.specs.declared.change.Details.{Details}
-use Rattle.reg_history.specs.declared.change.Fact.{Fact}
-use Rattle.reg_history.specs.declared.change.Standing.{Standing}
-use Rattle.reg_history.specs.declared.change.Subject.{Subject}
+use Rattle.reg_changes.specs.Subjects.{same_subject, is_entry, entry_at}
+use Rattle.reg_changes.specs.declared.change.Change.{Change}
+use Rattle.reg_changes.specs.declared.change.Change.TheVariants.{Made, Term}
+use Rattle.reg_changes.specs.declared.change.Details.{Details}
+use Rattle.reg_changes.specs.declared.change.Fact.{Fact}
+use Rattle.reg_changes.specs.declared.change.Standing.{Standing}
+use Rattle.reg_changes.specs.declared.change.Subject.{Subject}
 
 -- what a change is about
 abbrev pub subject_of : Change → Subject
