@@ -40,7 +40,7 @@ fn list_queue<K: Keeper>(keeper: &mut K, expert: &Account) -> Result<Told, Stop>
     ensures { Performs K.world K.Holds K.Sound K.FAILS keeper.old keeper.new result
         (answer_to_expert expert.now command.Queue) }
 {
-    Ok(Told::Queue(keeper.queue(expert)?))
+    Ok(Told::Items(keeper.queue(expert)?))
 }
 
 // Advice on a request that is queued to the expert. Whether there is one that is not is never
@@ -61,7 +61,7 @@ fn advise<K: Keeper>(
     advice.formed();
     let decision = decide_advise(&row, expert, advice)?;
     let advised = with_advice(row, advice);
-    Ok(Told::Queued(conclude(keeper, advised, decision)?))
+    Ok(Told::Item(conclude(keeper, advised, decision)?))
 }
 
 // Whether the expert gave just this advice.

@@ -31,9 +31,9 @@ pub fn perform<K: Keeper>(
     Ok(match command {
         PublicCommand::Registries => Told::Names(keeper.names()?),
         PublicCommand::Registry(name) => Told::Page(page(alloc, keeper, today, name)?),
-        PublicCommand::RegistryListing(name) => { Told::Listing(page(alloc, keeper, today, name)?) }
+        PublicCommand::RegistryCsv(name) => { Told::Sheet(page(alloc, keeper, today, name)?) }
         PublicCommand::PoolList => Told::Pool(keeper.pool()?),
-        PublicCommand::BlockListing => Told::Blocks(keeper.blocks()?),
+        PublicCommand::BlocksCsv => Told::Blocks(keeper.blocks()?),
     })
 }
 

@@ -16,8 +16,8 @@ use Rattle.reg_ranges.proofs.Treatments.{treatment_above}
 use Rattle.reg_ranges.specs.declared.policy.Policy.{Policy}
 use Rattle.reg_ranges.specs.declared.policy.Treatment.{Treatment}
 use Rattle.reg_ranges.specs.declared.policy.Treatment.TheVariants.{Under, Reserved}
-use Rattle.reg_ranges.specs.declared.evidence.EvidenceItem.{EvidenceItem}
-use Rattle.reg_ranges.specs.declared.evidence.EvidenceItem.TheVariants as item
+use Rattle.reg_ranges.specs.declared.evidence.Item.{Item as EvidenceItem}
+use Rattle.reg_ranges.specs.declared.evidence.Item.TheVariants as item
 use Rattle.reg_core.specs.Allowance.{◌>>=◌, or_refusal, open_policy, policy_for, is_met, is_met_early, own_entry}
 use Rattle.reg_core.specs.Ask.{has_note_form}
 use Rattle.reg_core.specs.MayBeGiven.{IsUnder}

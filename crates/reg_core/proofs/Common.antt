@@ -25,7 +25,7 @@ pub use Rattle.reg_ranges.specs.Tables.{IsPartition, Table, treatment_of}
 pub use Rattle.reg_ranges.specs.Texts.{is_text, is_within, read_text}
 pub use Rattle.reg_ranges.specs.Words.{ReadsWords, policy_word, read_policy, read_stream, read_track, read_treatment, stream_word, track_word}
 pub use Rattle.reg_ranges.specs.declared.evidence.Evidence.{Evidence}
-pub use Rattle.reg_ranges.specs.declared.evidence.EvidenceItem.{EvidenceItem}
+pub use Rattle.reg_ranges.specs.declared.evidence.Item.{Item as EvidenceItem}
 pub use Rattle.reg_ranges.specs.declared.evidence.Stream.{Stream}
 pub use Rattle.reg_ranges.specs.declared.evidence.Track.{Track}
 pub use Rattle.reg_ranges.specs.declared.policy.Policy.{Policy}

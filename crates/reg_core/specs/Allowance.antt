@@ -14,8 +14,8 @@ use Rattle.reg_early.specs.declared.term.SettleFault.TheVariants as settle_fault
 use Rattle.reg_ranges.specs.Requirements.{first_item, is_closed_policy, is_expert_policy, unmet}
 use Rattle.reg_ranges.specs.Sameness.{same_treatment}
 use Rattle.reg_ranges.specs.Tables.{Table, treatment_of}
-use Rattle.reg_ranges.specs.declared.evidence.EvidenceItem.{EvidenceItem}
-use Rattle.reg_ranges.specs.declared.evidence.EvidenceItem.TheVariants as item
+use Rattle.reg_ranges.specs.declared.evidence.Item.{Item as EvidenceItem}
+use Rattle.reg_ranges.specs.declared.evidence.Item.TheVariants as item
 use Rattle.reg_ranges.specs.declared.policy.Policy.{Policy}
 use Rattle.reg_ranges.specs.declared.policy.Treatment.{Treatment}
 use Rattle.reg_ranges.specs.declared.policy.Treatment.TheVariants.{Under, Reserved}

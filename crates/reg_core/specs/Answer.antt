@@ -24,7 +24,7 @@ use Rattle.reg_core.specs.declared.command.ApplicantCommand.TheVariants.{Own, Ow
 use Rattle.reg_core.specs.declared.command.ExpertCommand.{ExpertCommand}
 use Rattle.reg_core.specs.declared.command.ExpertCommand.TheVariants.{Queue, Advise}
 use Rattle.reg_core.specs.declared.command.PublicCommand.{PublicCommand}
-use Rattle.reg_core.specs.declared.command.PublicCommand.TheVariants.{Registries, Registry, RegistryListing, PoolList, BlockListing}
+use Rattle.reg_core.specs.declared.command.PublicCommand.TheVariants.{Registries, Registry, RegistryCsv, PoolList, BlocksCsv}
 use Rattle.reg_core.specs.declared.told.Told.{Told}
 use Rattle.reg_core.specs.declared.told.Told.TheVariants as tells
 use Rattle.reg_core.specs.declared.decide.Decision.{Decision}
@@ -90,11 +90,11 @@ public_answer p today Registries = unchanged (tells.Names (keys p.registries))
 public_answer p today (Registry name) = do
   table ← or_refusal no.Registry (get p.registries name)
   unchanged (tells.Page (page p name table today))
-public_answer p today (RegistryListing name) = do
+public_answer p today (RegistryCsv name) = do
   table ← or_refusal no.Registry (get p.registries name)
-  unchanged (tells.Listing (page p name table today))
+  unchanged (tells.Sheet (page p name table today))
 public_answer p today PoolList = unchanged (tells.Pool (keys p.pool))
-public_answer p today BlockListing = unchanged (tells.Blocks (listed_rows p.blocks))
+public_answer p today BlocksCsv = unchanged (tells.Blocks (listed_rows p.blocks))
 
 -- ---- Admission
 
@@ -151,10 +151,10 @@ own_answer p account my (Submit reference ask) =
 
 -- a queued request, as its expert sees it
 abbrev pub item : RequestName → Queued → Told
-item name queued = tells.Queued (queue_row name queued)
+item name queued = tells.Item (queue_row name queued)
 
 abbrev pub expert_answer : List ℕ → Personal → ExpertCommand → Answer
-expert_answer account my Queue = unchanged (tells.Queue (queue_rows my.queue))
+expert_answer account my Queue = unchanged (tells.Items (queue_rows my.queue))
 expert_answer account my (Advise applicant reference advice) = do
   queued ← or_refusal no.Request (get my.queue (applicant, reference))
   by_rule (advise_rule (applicant, reference) account advice queued.advice queued.word)

@@ -14,7 +14,7 @@ use Rattle.reg_core.specs.declared.capability.Kind.{Kind}
 use Rattle.reg_core.specs.declared.capability.Kind.TheVariants as kind
 use Rattle.reg_core.specs.declared.command.Command.{Command}
 use Rattle.reg_core.specs.declared.command.Command.TheVariants.{Public, Applicant, Expert, Clerk}
-use Rattle.reg_core.specs.declared.command.PublicCommand.TheVariants.{Registries, Registry, RegistryListing, PoolList, BlockListing}
+use Rattle.reg_core.specs.declared.command.PublicCommand.TheVariants.{Registries, Registry, RegistryCsv, PoolList, BlocksCsv}
 use Rattle.reg_core.specs.declared.command.ApplicantCommand.TheVariants.{Own, OwnOne, Submit, Withdraw, Holdings, SetListing, SetAgent, Agents, Principals, PrincipalRows}
 use Rattle.reg_core.specs.declared.command.ExpertCommand.TheVariants.{Queue, Advise}
 use Rattle.reg_core.specs.declared.command.ClerkCommand.TheVariants.{AllRequests, OneRequest, AssignExpert, Approve, Decline, SetHold, Define, AddPool, Grant, Revoke, PendingRequests, AllCapabilities, RevokeDigits, RevokeAccount, CountRows}
@@ -35,9 +35,9 @@ own_name by reference = option_map (λ (cap : Cap). (cap.account, reference)) by
 abbrev pub about : Option Cap → Command → Option RequestName
 about by (Public Registries) = None
 about by (Public (Registry name)) = None
-about by (Public (RegistryListing name)) = None
+about by (Public (RegistryCsv name)) = None
 about by (Public PoolList) = None
-about by (Public BlockListing) = None
+about by (Public BlocksCsv) = None
 about by (Applicant Own) = None
 about by (Applicant (OwnOne reference)) = own_name by reference
 about by (Applicant (Submit reference ask)) = own_name by reference
@@ -71,9 +71,9 @@ about by (Clerk CountRows) = None
 abbrev pub has_command_form : Command → Bool
 has_command_form (Public Registries) = true
 has_command_form (Public (Registry name)) = is_name name
-has_command_form (Public (RegistryListing name)) = is_name name
+has_command_form (Public (RegistryCsv name)) = is_name name
 has_command_form (Public PoolList) = true
-has_command_form (Public BlockListing) = true
+has_command_form (Public BlocksCsv) = true
 has_command_form (Applicant Own) = true
 has_command_form (Applicant (OwnOne reference)) = is_name reference
 has_command_form (Applicant (Submit reference ask)) = is_name reference && has_ask_form ask

@@ -5,7 +5,7 @@ use Rattle.reg_early.specs.EarlyRequirements.{is_eligible, early_unmet}
 use Rattle.reg_ranges.specs.Requirements.{is_closed_policy, unmet}
 use Rattle.reg_ranges.specs.Sameness.{same_treatment}
 use Rattle.reg_ranges.specs.Tables.{Table, treatment_of}
-use Rattle.reg_ranges.specs.declared.evidence.EvidenceItem.{EvidenceItem}
+use Rattle.reg_ranges.specs.declared.evidence.Item.{Item as EvidenceItem}
 use Rattle.reg_ranges.specs.declared.policy.Policy.{Policy}
 use Rattle.reg_ranges.specs.declared.policy.Treatment.TheVariants.{Under}
 use Rattle.reg_core.specs.Allowance.{Ground, allowance_on}

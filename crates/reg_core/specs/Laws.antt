@@ -40,9 +40,9 @@ use Rattle.reg_core.specs.declared.command.Command.TheVariants.{Public, Applican
 use Rattle.reg_core.specs.declared.command.ApplicantCommand.TheVariants.{Own, OwnOne, Submit, Withdraw, Holdings as OwnHoldings, SetListing, SetAgent, Agents, Principals, PrincipalRows}
 use Rattle.reg_core.specs.declared.command.ExpertCommand.TheVariants.{Queue, Advise}
 use Rattle.reg_core.specs.declared.command.ClerkCommand.TheVariants.{AllRequests, OneRequest, AssignExpert, Approve, Decline, SetHold, Define, AddPool, Grant, Revoke, PendingRequests, AllCapabilities, RevokeDigits, RevokeAccount, CountRows}
-use Rattle.reg_core.specs.declared.command.PublicCommand.TheVariants.{Registries, Registry, RegistryListing, PoolList, BlockListing}
+use Rattle.reg_core.specs.declared.command.PublicCommand.TheVariants.{Registries, Registry, RegistryCsv, PoolList, BlocksCsv}
 use Rattle.reg_core.specs.declared.told.Told.{Told}
-use Rattle.reg_core.specs.declared.told.Told.TheVariants.{Names, Page, Listing, Pool, Blocks, Made, Row, Rows, Held, Holdings, Agent, Accounts, Queued, Queue, Desk, Desks, Filed, Marked, Defined, Pooled, Granted, Revoked, Cases, Capabilities, Counts}
+use Rattle.reg_core.specs.declared.told.Told.TheVariants.{Names, Page, Sheet, Pool, Blocks, Made, Row, Rows, Held, Holdings, Agent, Accounts, Item, Items, Desk, Desks, Filed, Marked, Defined, Pooled, Granted, Revoked, Cases, Capabilities, Counts}
 use Rattle.reg_core.specs.declared.holding.Holder.{Holder}
 use Rattle.reg_core.specs.declared.refusal.Refusal.{Refusal}
 use Rattle.reg_core.specs.declared.reply.Reply.{Reply}
@@ -107,10 +107,10 @@ IsApproved state = (given : Given) × (state ≡ Approved given)
 abbrev pub IsDone : (List ℕ → List ℕ) → World → Option Cap → ℕ → Command → Told → Type 0
 IsDone digest_of w by moment (Public Registries) (Names names) = names ≡ keys w.registries
 IsDone digest_of w by moment (Public (Registry name)) (Page page) = Shows w name (utc_day moment) page
-IsDone digest_of w by moment (Public (RegistryListing name)) (Listing page) =
+IsDone digest_of w by moment (Public (RegistryCsv name)) (Sheet page) =
     Shows w name (utc_day moment) page
 IsDone digest_of w by moment (Public PoolList) (Pool prefixes) = prefixes ≡ keys w.pool
-IsDone digest_of w by moment (Public BlockListing) (Blocks rows) =
+IsDone digest_of w by moment (Public BlocksCsv) (Blocks rows) =
     BlockList w rows
 IsDone digest_of w by moment (Applicant Own) (Rows rows) =
     (cap : Cap) × (by ≡ Some cap) × OwnList w cap.account rows
@@ -137,9 +137,9 @@ IsDone digest_of w by moment (Applicant Principals) (Accounts names) =
 IsDone digest_of w by moment (Applicant (PrincipalRows principal)) (Rows rows) =
     (cap : Cap) × (by ≡ Some cap) × (contains_key w.agents (principal, cap.account) ≡ true)
     × OwnList w principal rows
-IsDone digest_of w by moment (Expert Queue) (Queue rows) =
+IsDone digest_of w by moment (Expert Queue) (Items rows) =
     (cap : Cap) × (by ≡ Some cap) × QueueList w cap.account rows
-IsDone digest_of w by moment (Expert (Advise account reference advice)) (Queued row) =
+IsDone digest_of w by moment (Expert (Advise account reference advice)) (Item row) =
     (row.advice ≡ Some advice) × (cap : Cap) × (by ≡ Some cap)
     × IsItem w cap.account account reference row
 IsDone digest_of w by moment (Clerk AllRequests) (Desks rows) = rows ≡ request_rows w.requests

@@ -27,11 +27,11 @@ pub enum PublicCommand {
     /// Looks at a registry.
     Registry(Name),
     /// Lists a registry as a table.
-    RegistryListing(Name),
+    RegistryCsv(Name),
     /// Lists the prefixes that blocks are cut from.
     PoolList,
     /// Lists the blocks that were given as a table.
-    BlockListing,
+    BlocksCsv,
 }
 
 /// What an applicant may ask, of its own account.

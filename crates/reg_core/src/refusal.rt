@@ -1,6 +1,6 @@
 //! Why the office refuses a command.
 
-use reg_ranges::evidence::EvidenceItem;
+use reg_ranges::evidence::Item as EvidenceItem;
 
 /// Why the office refuses a command. A refusal changes nothing, and each command meets its
 /// refusals in the order in which they stand here.

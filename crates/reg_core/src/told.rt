@@ -18,7 +18,7 @@ pub enum Told {
     /// A registry.
     Page(Page),
     /// A registry as a table.
-    Listing(Page),
+    Sheet(Page),
     /// The prefixes of the pool, ascending.
     Pool(Pool),
     /// The blocks that were given, as the public sees them, by first address.
@@ -39,9 +39,9 @@ pub enum Told {
     /// that named it.
     Accounts(Rows<Account>),
     /// A request that is queued to the caller.
-    Queued(QueueRow),
+    Item(QueueRow),
     /// The requests that are queued to the caller, by account and reference.
-    Queue(Rows<QueueRow>),
+    Items(Rows<QueueRow>),
     /// A request, as the desk sees it.
     Desk(Request),
     /// All requests, by account and reference.
@@ -70,11 +70,11 @@ pub enum Told {
 impl Drop for Told {
     fn drop(self) {
         match self {
-            Told::Page(_) | Told::Listing(_) | Told::Pool(_) | Told::Blocks(_) => {}
+            Told::Page(_) | Told::Sheet(_) | Told::Pool(_) | Told::Blocks(_) => {}
             Told::Made(_) | Told::Row(_) | Told::Rows(_) => {}
             Told::Held(_) | Told::Holdings(_) => {}
             Told::Agent(_, _) | Told::Names(_) | Told::Accounts(_) => {}
-            Told::Queued(_) | Told::Queue(_) => {}
+            Told::Item(_) | Told::Items(_) => {}
             Told::Desk(_) | Told::Desks(_) | Told::Filed(_) => {}
             Told::Marked(_) | Told::Defined(_) | Told::Pooled(_) => {}
             Told::Granted(_) | Told::Revoked => {}

@@ -2,8 +2,8 @@
 use Rattle.std.specs.Prelude.{Bool, true, false, not, List, [], ◌∷◌, filter, is_some}
 use Rattle.reg_ranges.specs.declared.policy.Policy.{Policy}
 use Rattle.reg_ranges.specs.declared.policy.Policy.TheVariants as policy
-use Rattle.reg_ranges.specs.declared.evidence.EvidenceItem.{EvidenceItem}
-use Rattle.reg_ranges.specs.declared.evidence.EvidenceItem.TheVariants as item
+use Rattle.reg_ranges.specs.declared.evidence.Item.{Item}
+use Rattle.reg_ranges.specs.declared.evidence.Item.TheVariants as item
 use Rattle.reg_early.specs.declared.evidence.EarlyEvidence.{EarlyEvidence}
 
 -- values under the policy are allocated early; under Specification Required only where the
@@ -21,12 +21,12 @@ is_eligible policy.StandardsAction will_be_rfc = true
 is_eligible policy.IesgApproval will_be_rfc = false
 
 -- what is asked, in this order
-abbrev pub early_items : List EvidenceItem
+abbrev pub early_items : List Item
 early_items =
     item.Policy ∷ item.Draft ∷ item.Stable ∷ item.Interest ∷ item.Chair ∷ item.Director ∷ []
 
 -- whether an item is met: a text by being there, a statement by being true
-abbrev pub is_early_met : Policy → EarlyEvidence → EvidenceItem → Bool
+abbrev pub is_early_met : Policy → EarlyEvidence → Item → Bool
 is_early_met p e item.Policy = is_eligible p e.will_be_rfc
 is_early_met p e item.Contact = false
 is_early_met p e item.Specification = false
@@ -41,5 +41,5 @@ is_early_met p e item.Chair = is_some e.chair
 is_early_met p e item.Director = is_some e.director
 
 -- the items that are not met, in order
-abbrev pub early_unmet : Policy → EarlyEvidence → List EvidenceItem
+abbrev pub early_unmet : Policy → EarlyEvidence → List Item
 early_unmet p e = filter (λ i. not (is_early_met p e i)) early_items

@@ -8,7 +8,7 @@ use Rattle.reg_ranges.specs.Rfcs.{PublishedRfc}
 use Rattle.reg_ranges.specs.Texts.{is_text, is_within, read_text}
 use Rattle.reg_ranges.specs.Words.{read_policy, read_stream, read_track}
 use Rattle.reg_ranges.specs.declared.evidence.Evidence.{Evidence}
-use Rattle.reg_ranges.specs.declared.evidence.EvidenceItem.{EvidenceItem}
+use Rattle.reg_ranges.specs.declared.evidence.Item.{Item as EvidenceItem}
 use Rattle.reg_ranges.specs.declared.policy.Policy.{Policy}
 use Rattle.reg_early.specs.Calendar.{year_after}
 use Rattle.reg_early.specs.EarlyRequirements.{early_unmet}

@@ -4,7 +4,7 @@ ghost use Rattle.reg_import.specs.Faults.{form_text, row_fault_text};
 ghost use Rattle.reg_import.specs.declared.fault.RowFault.TheVariants as fault;
 
 use crate::column::Column;
-use reg_ranges::evidence::EvidenceItem;
+use reg_ranges::evidence::Item as EvidenceItem;
 use std::alloc::{AllocError, AllocFailed};
 use std::error::Error;
 use std::fmt;

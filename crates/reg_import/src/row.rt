@@ -17,7 +17,7 @@ use reg_early::day::{Day, year_after};
 use reg_early::requirements::early_missing;
 use reg_early::term;
 use reg_print::listing::rows::Status;
-use reg_ranges::evidence::{Evidence, EvidenceItem};
+use reg_ranges::evidence::{Evidence, Item as EvidenceItem};
 use reg_ranges::number::read_number;
 use reg_ranges::policy::Policy;
 use reg_ranges::requirements::{missing, needs_expert};

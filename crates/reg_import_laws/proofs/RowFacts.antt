@@ -8,7 +8,7 @@ use Rattle.reg_core.specs.Names.{is_name}
 use Rattle.reg_ranges.specs.Texts.{read_text}
 use Rattle.reg_ranges.specs.Requirements.{first_item, is_expert_policy, unmet}
 use Rattle.reg_ranges.specs.declared.evidence.Evidence.{Evidence}
-use Rattle.reg_ranges.specs.declared.evidence.EvidenceItem.{EvidenceItem}
+use Rattle.reg_ranges.specs.declared.evidence.Item.{Item as EvidenceItem}
 use Rattle.reg_ranges.specs.declared.policy.Policy.{Policy}
 use Rattle.reg_import.specs.Columns.{field_in}
 use Rattle.reg_import.specs.Faults.{◌>>=◌}

@@ -6,8 +6,8 @@ use Rattle.reg_early.specs.declared.term.Term.{Term}
 use Rattle.reg_ranges.specs.Rfcs.{PublishedRfc}
 use Rattle.reg_ranges.specs.Tables.{Table, treatment_of}
 use Rattle.reg_ranges.specs.declared.evidence.Evidence.{Evidence}
-use Rattle.reg_ranges.specs.declared.evidence.EvidenceItem.{EvidenceItem}
-use Rattle.reg_ranges.specs.declared.evidence.EvidenceItem.TheVariants as item
+use Rattle.reg_ranges.specs.declared.evidence.Item.{Item as EvidenceItem}
+use Rattle.reg_ranges.specs.declared.evidence.Item.TheVariants as item
 use Rattle.reg_ranges.specs.declared.evidence.Stream.TheVariants as stream
 use Rattle.reg_ranges.specs.declared.evidence.Track.TheVariants as track
 use Rattle.reg_ranges.specs.declared.policy.Policy.{Policy}

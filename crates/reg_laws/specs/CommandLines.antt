@@ -23,7 +23,7 @@ use Rattle.reg_core.specs.declared.command.ExpertCommand.TheVariants.{Queue, Adv
 use Rattle.reg_core.specs.declared.command.ClerkCommand.{ClerkCommand}
 use Rattle.reg_core.specs.declared.command.ClerkCommand.TheVariants.{AllRequests, OneRequest, AssignExpert, Approve, Decline, SetHold, Define, AddPool, Grant, Revoke, PendingRequests, AllCapabilities, RevokeDigits, RevokeAccount, CountRows}
 use Rattle.reg_core.specs.declared.command.PublicCommand.{PublicCommand}
-use Rattle.reg_core.specs.declared.command.PublicCommand.TheVariants.{Registries, Registry, RegistryListing, PoolList, BlockListing}
+use Rattle.reg_core.specs.declared.command.PublicCommand.TheVariants.{Registries, Registry, RegistryCsv, PoolList, BlocksCsv}
 use Rattle.reg_core.specs.declared.refusal.Refusal.TheVariants as no
 use Rattle.reg_core.specs.declared.request.Case.{Case}
 use Rattle.reg_core.specs.declared.request.State.TheVariants.{Pending, Declined, Withdrawn}
@@ -36,10 +36,10 @@ use Rattle.reg_laws.specs.AskLines.{ask_lines, IsReviewed}
 abbrev pub public_lines : World → PublicCommand → Lines
 public_lines w Registries = unchanged
 public_lines w (Registry name) = of_row no.Registry (get w.registries name) (λ table. unchanged)
-public_lines w (RegistryListing name) =
+public_lines w (RegistryCsv name) =
     of_row no.Registry (get w.registries name) (λ table. unchanged)
 public_lines w PoolList = unchanged
-public_lines w BlockListing = unchanged
+public_lines w BlocksCsv = unchanged
 
 -- ---- An applicant
 

@@ -105,10 +105,10 @@ command_of-passes operation.Registries path body = plain_parts (empty body) _ re
 command_of-passes operation.Registry path body =
     named_parts (λ s. command.Public (public.Registry s)) (λ s h. h) (empty body)
     (name_at-passes in_path.Name registry_path path)
-command_of-passes operation.RegistryListing path body =
-    named_parts (λ s. command.Public (public.RegistryListing s)) (λ s h. h) (empty body)
+command_of-passes operation.RegistryCsv path body =
+    named_parts (λ s. command.Public (public.RegistryCsv s)) (λ s h. h) (empty body)
     (name_at-passes in_path.Name listing_path path)
-command_of-passes operation.BlockListing path body = plain_parts (empty body) _ refl
+command_of-passes operation.BlocksCsv path body = plain_parts (empty body) _ refl
 command_of-passes operation.PoolList path body = plain_parts (empty body) _ refl
 command_of-passes operation.Own path body = plain_parts (empty body) _ refl
 command_of-passes operation.OwnOne path body =

@@ -58,9 +58,9 @@ unfolding registry_of registry_csv_of
 public_passes operation.Registries path body h = spelled (empty body) public.Registries
 public_passes operation.Registry path body h =
     named (λ s. public.Registry s) (empty body) (name_at in_path.Name registry_path path)
-public_passes operation.RegistryListing path body h =
-    named (λ s. public.RegistryListing s) (empty body) (name_at in_path.Name listing_path path)
-public_passes operation.BlockListing path body h = spelled (empty body) public.BlockListing
+public_passes operation.RegistryCsv path body h =
+    named (λ s. public.RegistryCsv s) (empty body) (name_at in_path.Name listing_path path)
+public_passes operation.BlocksCsv path body h = spelled (empty body) public.BlocksCsv
 public_passes operation.PoolList path body h = spelled (empty body) public.PoolList
 public_passes private path body h = cc
 

@@ -53,7 +53,7 @@ unfoldable pub registry_csv_of : List ℕ → List ℕ → Reading Command
 registry_csv_of path body = do
   nothing ← empty body
   name ← name_at in_path.Name listing_path path
-  Ok (command.Public (public.RegistryListing name))
+  Ok (command.Public (public.RegistryCsv name))
 
 unfoldable pub own_one_of : List ℕ → List ℕ → Reading Command
 own_one_of path body = do
@@ -188,9 +188,9 @@ revoke_account_of path body = do
 abbrev pub command_of : Operation → List ℕ → List ℕ → Reading Command
 command_of operation.Registries path body = without_body (command.Public public.Registries) body
 command_of operation.Registry path body = registry_of path body
-command_of operation.RegistryListing path body = registry_csv_of path body
-command_of operation.BlockListing path body =
-    without_body (command.Public public.BlockListing) body
+command_of operation.RegistryCsv path body = registry_csv_of path body
+command_of operation.BlocksCsv path body =
+    without_body (command.Public public.BlocksCsv) body
 command_of operation.PoolList path body = without_body (command.Public public.PoolList) body
 command_of operation.Own path body = without_body (command.Applicant applicant.Own) body
 command_of operation.OwnOne path body = own_one_of path body

@@ -8,7 +8,7 @@ use Rattle.matchit.specs.Router.{RouteOf, route_from, nearest}
 use Rattle.matchit.specs.Seek.{first}
 use Rattle.matchit.specs.declared.error.InsertError.{InsertError}
 use Rattle.reg_parse.specs.declared.route.Operation.{Operation}
-use Rattle.reg_parse.specs.declared.route.Operation.TheVariants.{Registries, Registry, RegistryListing, BlockListing, PoolList, Own, OwnOne, Submit, Withdraw, Holdings, SetListing, SetAgent, Agents, Principals, PrincipalRows, Queue, Advise, AllRequests, OneRequest, AssignExpert, Approve, Decline, SetHold, Define, AddPool, Grant, Revoke, PendingRequests, AllCapabilities, RevokeDigits, RevokeAccount, CountRows}
+use Rattle.reg_parse.specs.declared.route.Operation.TheVariants.{Registries, Registry, RegistryCsv, BlocksCsv, PoolList, Own, OwnOne, Submit, Withdraw, Holdings, SetListing, SetAgent, Agents, Principals, PrincipalRows, Queue, Advise, AllRequests, OneRequest, AssignExpert, Approve, Decline, SetHold, Define, AddPool, Grant, Revoke, PendingRequests, AllCapabilities, RevokeDigits, RevokeAccount, CountRows}
 use Rattle.reg_parse.specs.declared.route.Methods.{Methods}
 
 abbrev pub operation_for : List ℕ → Methods → Option Operation
@@ -82,8 +82,8 @@ abbrev pub rows : List Row
 rows =
     row (codes "/registries") (Some Registries) None None
     ∷ row registry_path (Some Registry) None None
-    ∷ row listing_path (Some RegistryListing) None None
-    ∷ row (codes "/listings/blocks") (Some BlockListing) None None
+    ∷ row listing_path (Some RegistryCsv) None None
+    ∷ row (codes "/listings/blocks") (Some BlocksCsv) None None
     ∷ row (codes "/pool") (Some PoolList) None None
     ∷ row (codes "/requests") (Some Own) None None
     ∷ row request_path (Some OwnOne) (Some Submit) (Some Withdraw)

@@ -1,7 +1,7 @@
 -- What a log shows of the path of a request.
 use Rattle.std.specs.Prelude.{ℕ, List, Option, Some, None, codes, if◌then◌else◌, Bool, true, false, ◌&&◌}
 use Rattle.reg_parse.specs.declared.route.Operation.{Operation}
-use Rattle.reg_parse.specs.declared.route.Operation.TheVariants.{Registries, Registry, RegistryListing, BlockListing, PoolList, Own, OwnOne, Submit, Withdraw, Holdings, SetListing, SetAgent, Agents, Principals, PrincipalRows, Queue, Advise, AllRequests, OneRequest, AssignExpert, Approve, Decline, SetHold, Define, AddPool, Grant, Revoke, PendingRequests, AllCapabilities, RevokeDigits, RevokeAccount, CountRows}
+use Rattle.reg_parse.specs.declared.route.Operation.TheVariants.{Registries, Registry, RegistryCsv, BlocksCsv, PoolList, Own, OwnOne, Submit, Withdraw, Holdings, SetListing, SetAgent, Agents, Principals, PrincipalRows, Queue, Advise, AllRequests, OneRequest, AssignExpert, Approve, Decline, SetHold, Define, AddPool, Grant, Revoke, PendingRequests, AllCapabilities, RevokeDigits, RevokeAccount, CountRows}
 use Rattle.reg_parse.specs.declared.route.Methods.{Methods}
 use Rattle.reg_parse.specs.declared.shown.Shown.{Shown}
 use Rattle.reg_parse.specs.Command.{routed}
@@ -15,8 +15,8 @@ text_of shown = shown.text.now
 abbrev pub is_public : Operation → Bool
 is_public Registries = true
 is_public Registry = true
-is_public RegistryListing = true
-is_public BlockListing = true
+is_public RegistryCsv = true
+is_public BlocksCsv = true
 is_public PoolList = true
 is_public Own = false
 is_public OwnOne = false
@@ -50,8 +50,8 @@ is_public CountRows = false
 abbrev pub pattern_of : Operation → List ℕ
 pattern_of Registries = codes "/registries"
 pattern_of Registry = registry_path
-pattern_of RegistryListing = listing_path
-pattern_of BlockListing = codes "/listings/blocks"
+pattern_of RegistryCsv = listing_path
+pattern_of BlocksCsv = codes "/listings/blocks"
 pattern_of PoolList = codes "/pool"
 pattern_of Own = codes "/requests"
 pattern_of OwnOne = request_path

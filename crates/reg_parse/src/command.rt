@@ -75,8 +75,8 @@ fn command_of(alloc: Global, call: Operation, path: &str, body: &[u8]) -> Result
     match call {
         Operation::Registries => bodiless(Command::Public(PublicCommand::Registries), body),
         Operation::Registry => read_registry(path, body),
-        Operation::RegistryListing => read_registry_csv(path, body),
-        Operation::BlockListing => bodiless(Command::Public(PublicCommand::BlockListing), body),
+        Operation::RegistryCsv => read_registry_csv(path, body),
+        Operation::BlocksCsv => bodiless(Command::Public(PublicCommand::BlocksCsv), body),
         Operation::PoolList => bodiless(Command::Public(PublicCommand::PoolList), body),
         Operation::Own => bodiless(Command::Applicant(ApplicantCommand::Own), body),
         Operation::OwnOne => read_own_one(path, body),
@@ -123,7 +123,7 @@ fn read_registry_csv(path: &str, body: &[u8]) -> Result<Command, ReadFault>
 {
     empty(body)?;
     let name = word_at(LISTING_PATH, path, Segment::Name)?;
-    Ok(Command::Public(PublicCommand::RegistryListing(name)))
+    Ok(Command::Public(PublicCommand::RegistryCsv(name)))
 }
 
 #[tactic(auto, unfolding(crate::specs::Command::own_one_of))]

@@ -11,8 +11,8 @@ use std::marker::Model;
 pub enum Operation {
     Registries,
     Registry,
-    RegistryListing,
-    BlockListing,
+    RegistryCsv,
+    BlocksCsv,
     PoolList,
     Own,
     OwnOne,
@@ -143,14 +143,14 @@ const ROWS: [(&str, Methods); 29] = [
     (
         LISTING_PATH,
         Methods {
-            get: Some(Operation::RegistryListing),
+            get: Some(Operation::RegistryCsv),
             ..NONE
         },
     ),
     (
         "/listings/blocks",
         Methods {
-            get: Some(Operation::BlockListing),
+            get: Some(Operation::BlocksCsv),
             ..NONE
         },
     ),

@@ -83,8 +83,8 @@ impl Operation {
         match self {
             Operation::Registries
             | Operation::Registry
-            | Operation::RegistryListing
-            | Operation::BlockListing
+            | Operation::RegistryCsv
+            | Operation::BlocksCsv
             | Operation::PoolList => true,
             _ => false,
         }
@@ -97,8 +97,8 @@ impl Operation {
         match self {
             Operation::Registries => "/registries",
             Operation::Registry => REGISTRY_PATH,
-            Operation::RegistryListing => LISTING_PATH,
-            Operation::BlockListing => "/listings/blocks",
+            Operation::RegistryCsv => LISTING_PATH,
+            Operation::BlocksCsv => "/listings/blocks",
             Operation::PoolList => "/pool",
             Operation::Own => "/requests",
             Operation::OwnOne | Operation::Submit | Operation::Withdraw => REQUEST_PATH,

@@ -1,7 +1,7 @@
 -- The status and the body of an answer.
 use Rattle.std.specs.Prelude.{ℕ, List}
 use Rattle.reg_core.specs.declared.told.Told.{Told}
-use Rattle.reg_core.specs.declared.told.Told.TheVariants.{Names, Page, Listing, Pool, Blocks, Made, Row, Rows, Held, Holdings, Agent, Accounts, Queued, Queue, Desk, Desks, Filed, Marked, Defined, Pooled, Granted, Revoked, Cases, Capabilities, Counts}
+use Rattle.reg_core.specs.declared.told.Told.TheVariants.{Names, Page, Sheet, Pool, Blocks, Made, Row, Rows, Held, Holdings, Agent, Accounts, Item, Items, Desk, Desks, Filed, Marked, Defined, Pooled, Granted, Revoked, Cases, Capabilities, Counts}
 use Rattle.reg_core.specs.declared.reply.Reply.{Reply}
 use Rattle.reg_core.specs.declared.reply.Reply.TheVariants as reply
 use Rattle.reg_print.specs.declared.answer.Answer.{Answer}
@@ -26,7 +26,7 @@ use Rattle.reg_print.specs.Trees.Refusal.{error_tree}
 abbrev pub told_status : Told → ℕ
 told_status (Names names) = 200
 told_status (Page page) = 200
-told_status (Listing page) = 200
+told_status (Sheet page) = 200
 told_status (Pool prefixes) = 200
 told_status (Blocks rows) = 200
 told_status (Made request) = 201
@@ -36,8 +36,8 @@ told_status (Held holding) = 200
 told_status (Holdings holdings) = 200
 told_status (Agent agent reads) = 200
 told_status (Accounts accounts) = 200
-told_status (Queued row) = 200
-told_status (Queue rows) = 200
+told_status (Item row) = 200
+told_status (Items rows) = 200
 told_status (Desk request) = 200
 told_status (Desks requests) = 200
 told_status (Filed file) = 200
@@ -66,7 +66,7 @@ status_of answer.Storage = storage_row.status
 abbrev pub told_body : Told → Body
 told_body (Names names) = json (names_tree names)
 told_body (Page page) = json (page_tree page)
-told_body (Listing page) = listing page
+told_body (Sheet page) = listing page
 told_body (Pool prefixes) = json (pool_tree prefixes)
 told_body (Blocks rows) = block_listing rows
 told_body (Made request) = json (request_tree request)
@@ -76,8 +76,8 @@ told_body (Held holding) = json (holding_tree holding)
 told_body (Holdings holdings) = json (holdings_tree holdings)
 told_body (Agent agent reads) = json (agent_tree agent reads)
 told_body (Accounts accounts) = json (names_tree accounts)
-told_body (Queued row) = json (queue_tree row)
-told_body (Queue rows) = json (queues_tree rows)
+told_body (Item row) = json (queue_tree row)
+told_body (Items rows) = json (queues_tree rows)
 told_body (Desk request) = json (desk_tree request)
 told_body (Desks requests) = json (desks_tree requests)
 told_body (Filed file) = json (file_tree file)

@@ -45,7 +45,7 @@ impl Answer {
         ensures { result ≡ format_of (answer_body self.now) }
     {
         match self {
-            Answer::Reply(Reply::Accepted(Told::Listing(_) | Told::Blocks(_))) => Format::Csv,
+            Answer::Reply(Reply::Accepted(Told::Sheet(_) | Told::Blocks(_))) => Format::Csv,
             Answer::Reply(_) | Answer::Wire(_) | Answer::Storage => Format::Json,
         }
     }
@@ -88,7 +88,7 @@ fn told_status(told: &Told) -> u16
         Told::Made(_) => 201,
         Told::Names(_)
         | Told::Page(_)
-        | Told::Listing(_)
+        | Told::Sheet(_)
         | Told::Pool(_)
         | Told::Blocks(_)
         | Told::Row(_)
@@ -97,8 +97,8 @@ fn told_status(told: &Told) -> u16
         | Told::Holdings(_)
         | Told::Agent(_, _)
         | Told::Accounts(_)
-        | Told::Queued(_)
-        | Told::Queue(_)
+        | Told::Item(_)
+        | Told::Items(_)
         | Told::Desk(_)
         | Told::Desks(_)
         | Told::Filed(_)
@@ -149,7 +149,7 @@ fn told_bytes(alloc: Global, told: &Told) -> Result<Vec<u8>, AllocError>
     match told {
         Told::Names(names) => printed::<Itself, _>(alloc, names),
         Told::Page(page) => printed::<Itself, _>(alloc, page),
-        Told::Listing(page) => listing(alloc, page),
+        Told::Sheet(page) => listing(alloc, page),
         Told::Pool(pool) => printed(alloc, pool),
         Told::Blocks(rows) => block_listing(alloc, rows.as_slice()),
         Told::Made(request) | Told::Row(request) => printed::<Itself, _>(alloc, request),
@@ -164,8 +164,8 @@ fn told_bytes(alloc: Global, told: &Told) -> Result<Vec<u8>, AllocError>
             },
         ),
         Told::Accounts(accounts) => printed::<Itself, _>(alloc, accounts),
-        Told::Queued(row) => printed(alloc, row),
-        Told::Queue(rows) => printed::<Itself, _>(alloc, rows),
+        Told::Item(row) => printed(alloc, row),
+        Told::Items(rows) => printed::<Itself, _>(alloc, rows),
         Told::Desk(request) => printed::<Desk, _>(alloc, request),
         Told::Desks(requests) => printed::<Desk, _>(alloc, requests),
         Told::Filed(file) => printed(alloc, file),

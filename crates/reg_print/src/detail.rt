@@ -13,7 +13,7 @@ pub enum Detail {
     /// A part of the request.
     Part(Item),
     /// What a policy asks for (RFC 8126 section 4).
-    Evidence(evidence::EvidenceItem),
+    Evidence(evidence::Item),
     /// A fault of a range file.
     Ranges(TableFault),
 }

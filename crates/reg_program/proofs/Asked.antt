@@ -18,7 +18,7 @@ use Rattle.reg_core.specs.declared.capability.Kind.TheVariants as kind
 use Rattle.reg_core.specs.declared.command.Command.{Command}
 use Rattle.reg_core.specs.declared.command.Command.TheVariants.{Public, Applicant, Expert, Clerk}
 use Rattle.reg_core.specs.declared.command.PublicCommand.{PublicCommand}
-use Rattle.reg_core.specs.declared.command.PublicCommand.TheVariants.{Registries, Registry, RegistryListing, PoolList, BlockListing}
+use Rattle.reg_core.specs.declared.command.PublicCommand.TheVariants.{Registries, Registry, RegistryCsv, PoolList, BlocksCsv}
 use Rattle.reg_core.specs.declared.command.ApplicantCommand.{ApplicantCommand}
 use Rattle.reg_core.specs.declared.command.ApplicantCommand.TheVariants.{Own, OwnOne, Holdings, Agents, Principals, PrincipalRows}
 use Rattle.reg_core.specs.declared.command.ExpertCommand.{ExpertCommand}
@@ -116,11 +116,11 @@ public_stays p today Registries = refl
 public_stays p today (Registry name) =
     after_found no.Registry (get p.registries name)
     (λ table. unchanged (tells.Page (page p name table today))) (λ table. refl)
-public_stays p today (RegistryListing name) =
+public_stays p today (RegistryCsv name) =
     after_found no.Registry (get p.registries name)
-    (λ table. unchanged (tells.Listing (page p name table today))) (λ table. refl)
+    (λ table. unchanged (tells.Sheet (page p name table today))) (λ table. refl)
 public_stays p today PoolList = refl
-public_stays p today BlockListing = refl
+public_stays p today BlocksCsv = refl
 
 applicant_stays : (p : Published) (account : List ℕ) (my : Personal) (command : ApplicantCommand)
     → applicant_looks command ≡ true → change_of (own_answer p account my command) ≡ None

@@ -23,7 +23,7 @@ use Rattle.reg_parse.specs.Path.{has_empty_segment}
 use Rattle.reg_parse.specs.Route.{Row, RouteTable, case_path, listing_path, methods_at, operation_for, principal_path, registry_path, request_path, routes, rows, with_row, with_rows, with_scan}
 use Rattle.reg_parse.specs.declared.route.Methods.{Methods}
 use Rattle.reg_parse.specs.declared.route.Operation.{Operation}
-use Rattle.reg_parse.specs.declared.route.Operation.TheVariants.{Registries, Registry, RegistryListing, BlockListing, PoolList, Own, OwnOne, Holdings, Agents, Principals, PrincipalRows, Queue, AllRequests, OneRequest, PendingRequests, AllCapabilities, CountRows}
+use Rattle.reg_parse.specs.declared.route.Operation.TheVariants.{Registries, Registry, RegistryCsv, BlocksCsv, PoolList, Own, OwnOne, Holdings, Agents, Principals, PrincipalRows, Queue, AllRequests, OneRequest, PendingRequests, AllCapabilities, CountRows}
 use Rattle.reg_parse.proofs.Formed.{Passes, err-passes, ok-passes}
 use Rattle.reg_program.specs.Looking.{only_looks}
 
@@ -101,8 +101,8 @@ module _ {K : Type 0} (P : K → Type 0) where
 abbrev is_look : Operation → Bool
 is_look Registries = true
 is_look Registry = true
-is_look RegistryListing = true
-is_look BlockListing = true
+is_look RegistryCsv = true
+is_look BlocksCsv = true
 is_look PoolList = true
 is_look Own = true
 is_look OwnOne = true
@@ -196,11 +196,11 @@ operation_looks Registries path body h = plain (empty body) (command.Public publ
 operation_looks Registry path body h =
     named (λ s. command.Public (public.Registry s)) (λ s. refl) (empty body)
     (name_at in_path.Name registry_path path)
-operation_looks RegistryListing path body h =
-    named (λ s. command.Public (public.RegistryListing s)) (λ s. refl) (empty body)
+operation_looks RegistryCsv path body h =
+    named (λ s. command.Public (public.RegistryCsv s)) (λ s. refl) (empty body)
     (name_at in_path.Name listing_path path)
-operation_looks BlockListing path body h =
-    plain (empty body) (command.Public public.BlockListing) refl
+operation_looks BlocksCsv path body h =
+    plain (empty body) (command.Public public.BlocksCsv) refl
 operation_looks PoolList path body h = plain (empty body) (command.Public public.PoolList) refl
 operation_looks Own path body h = plain (empty body) (command.Applicant applicant.Own) refl
 operation_looks OwnOne path body h =

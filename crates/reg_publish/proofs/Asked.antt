@@ -11,7 +11,7 @@ use Rattle.reg_core.specs.View.{Published, published}
 use Rattle.reg_core.specs.World.{World, applied_if}
 use Rattle.reg_core.specs.declared.command.Command.TheVariants.{Public}
 use Rattle.reg_core.specs.declared.command.PublicCommand.{PublicCommand}
-use Rattle.reg_core.specs.declared.command.PublicCommand.TheVariants.{Registries, Registry, RegistryListing, PoolList, BlockListing}
+use Rattle.reg_core.specs.declared.command.PublicCommand.TheVariants.{Registries, Registry, RegistryCsv, PoolList, BlocksCsv}
 use Rattle.reg_core.specs.declared.told.Told.{Told}
 use Rattle.reg_core.specs.declared.told.Told.TheVariants as tells
 use Rattle.reg_core.specs.declared.refusal.Refusal.TheVariants as no
@@ -31,7 +31,7 @@ module _ (p : Published) (name : List ℕ) (today : ℕ) where
 
   abbrev listed_by : Option Table → Answer
   listed_by t =
-      or_refusal no.Registry t >>= (λ table. unchanged (tells.Listing (page p name table today)))
+      or_refusal no.Registry t >>= (λ table. unchanged (tells.Sheet (page p name table today)))
 
   shown_changes : (t : Option Table) → change_of (shown_by t) ≡ None
   shown_changes None = refl
@@ -46,9 +46,9 @@ nothing_changes : (p : Published) (today : ℕ) (command : PublicCommand)
     → change_of (public_answer p today command) ≡ None
 nothing_changes p today Registries = refl
 nothing_changes p today (Registry name) = shown_changes p name today (get p.registries name)
-nothing_changes p today (RegistryListing name) = listed_changes p name today (get p.registries name)
+nothing_changes p today (RegistryCsv name) = listed_changes p name today (get p.registries name)
 nothing_changes p today PoolList = refl
-nothing_changes p today BlockListing = refl
+nothing_changes p today BlocksCsv = refl
 
 -- ---- An office
 

@@ -9,7 +9,7 @@ use Rattle.reg_print.specs.Listing.{listing_text}
 use Rattle.reg_site.specs.Site.{told_text}
 
 -- a listing is the body of its answer
-pub listing_told : (page : Page) → listing_text page ≡ told_text (tells.Listing page)
+pub listing_told : (page : Page) → listing_text page ≡ told_text (tells.Sheet page)
 unfolding body_text
 listing_told page = refl
 

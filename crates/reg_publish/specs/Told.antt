@@ -1,7 +1,7 @@
 -- All that anybody is told by an office.
 use Rattle.std.specs.Prelude.{◌≡◌, ℕ, List, [], map, filter_map, unwrap_or, Option}
 use Rattle.reg_core.specs.View.{Published}
-use Rattle.reg_core.specs.declared.command.PublicCommand.TheVariants.{Registries, Registry, PoolList, BlockListing}
+use Rattle.reg_core.specs.declared.command.PublicCommand.TheVariants.{Registries, Registry, PoolList, BlocksCsv}
 use Rattle.reg_core.specs.declared.holding.Listed.{Listed}
 use Rattle.reg_core.specs.declared.page.Page.{Page}
 use Rattle.reg_core.specs.declared.reply.Reply.TheVariants.{Accepted}
@@ -71,4 +71,4 @@ pub record IsTold (p : Published) (moment : ℕ) (all : AllTold) : Type 0 where
   pub named : told_to_all p moment Registries ≡ Accepted (tells.Names names)
   pub shown : AreTold p moment names all.pages.items
   pub pooled : told_to_all p moment PoolList ≡ Accepted all.pool
-  pub given : told_to_all p moment BlockListing ≡ Accepted all.blocks
+  pub given : told_to_all p moment BlocksCsv ≡ Accepted all.blocks

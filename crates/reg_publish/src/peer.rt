@@ -114,11 +114,11 @@ pub fn path_of(alloc: Global, command: &PublicCommand) -> Result<String, AllocEr
     match command {
         PublicCommand::Registries => String::from_str(alloc, "/registries"),
         PublicCommand::Registry(name) => format!(in alloc; "/registries/{}", name.as_str()),
-        PublicCommand::RegistryListing(name) => {
+        PublicCommand::RegistryCsv(name) => {
             format!(in alloc; "/listings/registries/{}", name.as_str())
         }
         PublicCommand::PoolList => String::from_str(alloc, "/pool"),
-        PublicCommand::BlockListing => String::from_str(alloc, "/listings/blocks"),
+        PublicCommand::BlocksCsv => String::from_str(alloc, "/listings/blocks"),
     }
 }
 
@@ -127,6 +127,6 @@ fn format_of(command: &PublicCommand) -> Format {
         PublicCommand::Registries | PublicCommand::Registry(_) | PublicCommand::PoolList => {
             Format::Json
         }
-        PublicCommand::RegistryListing(_) | PublicCommand::BlockListing => Format::Csv,
+        PublicCommand::RegistryCsv(_) | PublicCommand::BlocksCsv => Format::Csv,
     }
 }

@@ -82,8 +82,8 @@ fn read_told(alloc: Global, command: &PublicCommand, body: &[u8]) -> Result<Told
     match command {
         PublicCommand::Registries => Ok(Told::Names(names::read(alloc, body)?)),
         PublicCommand::Registry(name) => Ok(Told::Page(page::read(alloc, name, body)?)),
-        PublicCommand::RegistryListing(_) => Err(Unpublished::Read),
+        PublicCommand::RegistryCsv(_) => Err(Unpublished::Read),
         PublicCommand::PoolList => Ok(Told::Pool(pool::read(alloc, body)?)),
-        PublicCommand::BlockListing => Ok(Told::Blocks(blocks::read(alloc, body)?)),
+        PublicCommand::BlocksCsv => Ok(Told::Blocks(blocks::read(alloc, body)?)),
     }
 }

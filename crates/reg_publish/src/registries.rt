@@ -30,7 +30,7 @@ use reg_pages::blocks::{BlocksPage, assignments};
 use reg_print::answer::{Answer, body_of};
 use reg_print::listing::blocks::block_listing;
 use reg_site::files::File;
-use reg_site::listing::RegistryListing;
+use reg_site::listing::RegistryCsv;
 use reg_site::recent::day_part;
 use reg_site::records::RegistryRecords;
 use reg_site::registry::RegistryPage;
@@ -112,17 +112,17 @@ fn put_listing<F: Folder>(
     page: &Page,
 ) -> Result<(), Unpublished>
     ensures { OnOk result (PlacesSummed F.Puts folder.old folder.new sums.old sums.new
-        (one_file (file.RegistryListing page.now.name) (told_text (tells.Listing page.now)))) }
+        (one_file (file.RegistryCsv page.now.name) (told_text (tells.Sheet page.now)))) }
 {
-    let mut first = RegistryListing::of(alloc, page)?;
+    let mut first = RegistryCsv::of(alloc, page)?;
     let digest = digest_of(alloc, &mut first)?;
     drop(first);
-    let mut csv = RegistryListing::of(alloc, page)?;
+    let mut csv = RegistryCsv::of(alloc, page)?;
     put_portions(
         alloc,
         folder,
         sums,
-        File::RegistryListing(page.name),
+        File::RegistryCsv(page.name),
         digest,
         &mut csv,
     )

@@ -39,7 +39,7 @@ pub fn ask_all<S: Source>(
 {
     let names = source.ask(moment, &PublicCommand::Registries)?;
     let pages = ask_pages(alloc, source, moment, names_in(&names)?)?;
-    let given = source.ask(moment, &PublicCommand::BlockListing)?;
+    let given = source.ask(moment, &PublicCommand::BlocksCsv)?;
     let pool = source.ask(moment, &PublicCommand::PoolList)?;
     Ok(AllTold {
         pages,

@@ -7,8 +7,8 @@ use Rattle.reg_ranges.specs.declared.evidence.Stream.{Stream}
 use Rattle.reg_ranges.specs.declared.evidence.Stream.TheVariants as stream
 use Rattle.reg_ranges.specs.declared.evidence.Track.{Track}
 use Rattle.reg_ranges.specs.declared.evidence.Track.TheVariants as track
-use Rattle.reg_ranges.specs.declared.evidence.EvidenceItem.{EvidenceItem}
-use Rattle.reg_ranges.specs.declared.evidence.EvidenceItem.TheVariants as item
+use Rattle.reg_ranges.specs.declared.evidence.Item.{Item}
+use Rattle.reg_ranges.specs.declared.evidence.Item.TheVariants as item
 use Rattle.reg_ranges.specs.declared.evidence.Evidence.{Evidence}
 
 abbrev pub is_ietf : Stream → Bool
@@ -32,7 +32,7 @@ has_rfc test (Some rfc) = test rfc
 
 -- the items that the policy asks for, in the order in which they are asked; Policy where it assigns
 -- no single values
-abbrev pub asked_items : Policy → List EvidenceItem
+abbrev pub asked_items : Policy → List Item
 asked_items policy.PrivateUse = item.Policy ∷ []
 asked_items policy.ExperimentalUse = item.Policy ∷ []
 asked_items policy.HierarchicalAllocation = item.Policy ∷ []
@@ -46,7 +46,7 @@ asked_items policy.IesgApproval = item.Contact ∷ item.Minute ∷ []
 
 -- whether the evidence meets an item: a text or an RFC by being there, its stream by being the
 -- IETF's, its track by being Standards Track or BCP
-abbrev pub is_met : Evidence → EvidenceItem → Bool
+abbrev pub is_met : Evidence → Item → Bool
 is_met e item.Policy = false
 is_met e item.Contact = is_some e.contact
 is_met e item.Specification = is_some e.spec
@@ -61,10 +61,10 @@ is_met e item.Chair = false
 is_met e item.Director = false
 
 -- the items that the policy asks for and the evidence does not meet, in order
-abbrev pub unmet : Policy → Evidence → List EvidenceItem
+abbrev pub unmet : Policy → Evidence → List Item
 unmet policy e = filter (λ i. not (is_met e i)) (asked_items policy)
 
-abbrev pub first_item : List EvidenceItem → Option EvidenceItem
+abbrev pub first_item : List Item → Option Item
 first_item [] = None
 first_item (i ∷ rest) = Some i
 

@@ -9,8 +9,8 @@ use Rattle.reg_ranges.specs.declared.evidence.Stream.{Stream}
 use Rattle.reg_ranges.specs.declared.evidence.Stream.TheVariants as stream
 use Rattle.reg_ranges.specs.declared.evidence.Track.{Track}
 use Rattle.reg_ranges.specs.declared.evidence.Track.TheVariants as track
-use Rattle.reg_ranges.specs.declared.evidence.EvidenceItem.{EvidenceItem}
-use Rattle.reg_ranges.specs.declared.evidence.EvidenceItem.TheVariants as item
+use Rattle.reg_ranges.specs.declared.evidence.Item.{Item}
+use Rattle.reg_ranges.specs.declared.evidence.Item.TheVariants as item
 
 -- the value whose word this is
 abbrev pub read_among : {T : Type 0} → List T → (T → List ℕ) → List ℕ → Option T
@@ -81,7 +81,7 @@ track_word track.Historic = codes "historic"
 abbrev pub read_track : List ℕ → Option Track
 read_track s = read_among tracks track_word s
 
-abbrev pub item_word : EvidenceItem → List ℕ
+abbrev pub item_word : Item → List ℕ
 item_word item.Policy = codes "policy"
 item_word item.Contact = codes "contact"
 item_word item.Specification = codes "specification"

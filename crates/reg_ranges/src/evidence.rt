@@ -9,7 +9,7 @@ use std::marker::Model;
 
 /// What an assignment or an early allocation asks for, one thing each.
 #[derive(Clone, Copy, Debug, PartialEq, Eq)]
-pub enum EvidenceItem {
+pub enum Item {
     /// A policy under which this is done at all.
     Policy,
     /// A contact.
@@ -36,24 +36,24 @@ pub enum EvidenceItem {
     Director,
 }
 
-impl EvidenceItem {
+impl Item {
     /// The word by which messages name the item.
     pub fn word(&self) -> &'static str
         ensures { result.now ≡ item_word self.now }
     {
         match self {
-            EvidenceItem::Policy => "policy",
-            EvidenceItem::Contact => "contact",
-            EvidenceItem::Specification => "specification",
-            EvidenceItem::Rfc => "rfc",
-            EvidenceItem::Stream => "stream",
-            EvidenceItem::Track => "track",
-            EvidenceItem::Minute => "minute",
-            EvidenceItem::Draft => "draft",
-            EvidenceItem::Stable => "stable",
-            EvidenceItem::Interest => "interest",
-            EvidenceItem::Chair => "chair",
-            EvidenceItem::Director => "director",
+            Item::Policy => "policy",
+            Item::Contact => "contact",
+            Item::Specification => "specification",
+            Item::Rfc => "rfc",
+            Item::Stream => "stream",
+            Item::Track => "track",
+            Item::Minute => "minute",
+            Item::Draft => "draft",
+            Item::Stable => "stable",
+            Item::Interest => "interest",
+            Item::Chair => "chair",
+            Item::Director => "director",
         }
     }
 }

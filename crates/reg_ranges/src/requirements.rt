@@ -2,13 +2,13 @@
 ghost use Rattle.std.specs.Prelude.{◌≡◌, find, not};
 ghost use Rattle.reg_ranges.specs.Requirements.{asked_items, first_item, is_expert_policy, is_met, unmet};
 
-use crate::evidence::{Evidence, EvidenceItem, Stream, Track};
+use crate::evidence::{Evidence, Item, Stream, Track};
 use crate::policy::Policy;
 
 /// The first item of evidence that the policy asks for and that is not met, or none where all are
 /// met. Under Private Use, Experimental Use and Hierarchical Allocation no single values are
-/// assigned, so `EvidenceItem::Policy` is never met there.
-pub fn missing(policy: Policy, evidence: &Evidence) -> Option<EvidenceItem>
+/// assigned, so `Item::Policy` is never met there.
+pub fn missing(policy: Policy, evidence: &Evidence) -> Option<Item>
     ensures { result ≡ first_item (unmet policy evidence.now) }
 {
     first_unmet(evidence, asked_items(policy))
@@ -21,55 +21,42 @@ pub fn needs_expert(policy: Policy) -> bool
     matches!(policy, Policy::ExpertReview | Policy::SpecificationRequired)
 }
 
-fn asked_items(policy: Policy) -> &'static [EvidenceItem]
+fn asked_items(policy: Policy) -> &'static [Item]
     ensures { result.now ≡ asked_items policy }
 {
     match policy {
         Policy::PrivateUse | Policy::ExperimentalUse | Policy::HierarchicalAllocation => {
-            &[EvidenceItem::Policy]
+            &[Item::Policy]
         }
-        Policy::FirstComeFirstServed | Policy::ExpertReview => &[EvidenceItem::Contact],
-        Policy::SpecificationRequired => &[EvidenceItem::Contact, EvidenceItem::Specification],
-        Policy::RfcRequired => &[EvidenceItem::Contact, EvidenceItem::Rfc],
-        Policy::IetfReview => &[
-            EvidenceItem::Contact,
-            EvidenceItem::Rfc,
-            EvidenceItem::Stream,
-        ],
-        Policy::StandardsAction => &[
-            EvidenceItem::Contact,
-            EvidenceItem::Rfc,
-            EvidenceItem::Stream,
-            EvidenceItem::Track,
-        ],
-        Policy::IesgApproval => &[EvidenceItem::Contact, EvidenceItem::Minute],
+        Policy::FirstComeFirstServed | Policy::ExpertReview => &[Item::Contact],
+        Policy::SpecificationRequired => &[Item::Contact, Item::Specification],
+        Policy::RfcRequired => &[Item::Contact, Item::Rfc],
+        Policy::IetfReview => &[Item::Contact, Item::Rfc, Item::Stream],
+        Policy::StandardsAction => &[Item::Contact, Item::Rfc, Item::Stream, Item::Track],
+        Policy::IesgApproval => &[Item::Contact, Item::Minute],
     }
 }
 
-fn first_unmet(evidence: &Evidence, items: &[EvidenceItem]) -> Option<EvidenceItem>
+fn first_unmet(evidence: &Evidence, items: &[Item]) -> Option<Item>
     ensures { result ≡ find (λ i. not (is_met evidence.now i)) items.now }
 {
     items.iter().copied().find(|item| !is_met(evidence, *item))
 }
 
-fn is_met(evidence: &Evidence, item: EvidenceItem) -> bool
+fn is_met(evidence: &Evidence, item: Item) -> bool
     ensures { result ≡ is_met evidence.now item }
 {
     match item {
-        EvidenceItem::Contact => evidence.contact.is_some(),
-        EvidenceItem::Specification => evidence.spec.is_some(),
-        EvidenceItem::Rfc => evidence.rfc.is_some(),
-        EvidenceItem::Stream => evidence.rfc.is_some_and(|rfc| rfc.stream() == Stream::Ietf),
-        EvidenceItem::Track => evidence
+        Item::Contact => evidence.contact.is_some(),
+        Item::Specification => evidence.spec.is_some(),
+        Item::Rfc => evidence.rfc.is_some(),
+        Item::Stream => evidence.rfc.is_some_and(|rfc| rfc.stream() == Stream::Ietf),
+        Item::Track => evidence
             .rfc
             .is_some_and(|rfc| matches!(rfc.track(), Track::Standards | Track::Bcp)),
-        EvidenceItem::Minute => evidence.minute.is_some(),
+        Item::Minute => evidence.minute.is_some(),
         // No evidence for an assignment meets these.
-        EvidenceItem::Policy
-        | EvidenceItem::Draft
-        | EvidenceItem::Stable
-        | EvidenceItem::Interest
-        | EvidenceItem::Chair
-        | EvidenceItem::Director => false,
+        Item::Policy | Item::Draft | Item::Stable | Item::Interest | Item::Chair | Item::Director =>
+            false,
     }
 }

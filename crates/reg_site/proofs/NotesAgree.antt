@@ -125,7 +125,7 @@ files_same a b records page authority h =
     ap₂
     (λ html xml.
     (path_of (file.RegistryPage page.name), html)
-    ∷ (path_of (file.RegistryListing page.name), told_text (tells.Listing page))
+    ∷ (path_of (file.RegistryCsv page.name), told_text (tells.Sheet page))
     ∷ (path_of (file.RegistryTree page.name), told_text (tells.Page page))
     ∷ (path_of (file.RegistryRecords page.name), xml)
     ∷ [])

@@ -42,11 +42,11 @@ module _ (p : Published) (name : List ℕ) (today : ℕ) where
 
   abbrev listed_by : Option Table → Answer
   listed_by t =
-      or_refusal no.Registry t >>= (λ table. unchanged (tells.Listing (page p name table today)))
+      or_refusal no.Registry t >>= (λ table. unchanged (tells.Sheet (page p name table today)))
 
 -- a page that is told, as a listing
 abbrev relisted : Reply → Reply
-relisted (Accepted (tells.Page shown)) = Accepted (tells.Listing shown)
+relisted (Accepted (tells.Page shown)) = Accepted (tells.Sheet shown)
 relisted (Accepted other) = Accepted other
 relisted (Refused refusal) = Refused refusal
 

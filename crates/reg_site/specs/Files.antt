@@ -3,12 +3,12 @@ use Rattle.std.specs.Prelude.{ℕ, List, [], ◌++◌, codes}
 use Rattle.reg_blocks.specs.declared.size.Size.{Size}
 use Rattle.reg_blocks.specs.declared.size.Size.TheVariants.{MaL, MaM, MaS}
 use Rattle.reg_site.specs.declared.files.File.{File}
-use Rattle.reg_site.specs.declared.files.File.TheVariants.{RegistryPage, RegistryListing, RegistryTree, RegistryRecords, BlocksPage, BlocksListing, Assignments, Pool, Style, Changes, ChangesPage, ChangesFeed, Index, IndexTree, Sums}
+use Rattle.reg_site.specs.declared.files.File.TheVariants.{RegistryPage, RegistryCsv, RegistryTree, RegistryRecords, BlocksPage, BlocksListing, Assignments, Pool, Style, Changes, ChangesPage, ChangesFeed, Index, IndexTree, Sums}
 
 -- the folder of a file, with the slash after it; none is nothing
 abbrev pub folder_of : File → List ℕ
 folder_of (RegistryPage name) = codes "registries/"
-folder_of (RegistryListing name) = codes "registries/"
+folder_of (RegistryCsv name) = codes "registries/"
 folder_of (RegistryTree name) = codes "registries/"
 folder_of (RegistryRecords name) = codes "registries/"
 folder_of BlocksPage = []
@@ -32,7 +32,7 @@ assignments_name MaS = codes "oui36"
 -- the name of a file before its dot
 abbrev pub stem_of : File → List ℕ
 stem_of (RegistryPage name) = name
-stem_of (RegistryListing name) = name
+stem_of (RegistryCsv name) = name
 stem_of (RegistryTree name) = name
 stem_of (RegistryRecords name) = name
 stem_of BlocksPage = codes "blocks"
@@ -50,7 +50,7 @@ stem_of Sums = codes "SHA256SUMS"
 -- the name of a file from its dot on; the sums have none
 abbrev pub suffix_of : File → List ℕ
 suffix_of (RegistryPage name) = codes ".html"
-suffix_of (RegistryListing name) = codes ".csv"
+suffix_of (RegistryCsv name) = codes ".csv"
 suffix_of (RegistryTree name) = codes ".json"
 suffix_of (RegistryRecords name) = codes ".xml"
 suffix_of BlocksPage = codes ".html"

@@ -12,7 +12,7 @@ use Rattle.reg_core.specs.View.{Published, View, published}
 use Rattle.reg_core.specs.World.{World}
 use Rattle.reg_core.specs.declared.command.Command.TheVariants.{Public}
 use Rattle.reg_core.specs.declared.command.PublicCommand.{PublicCommand}
-use Rattle.reg_core.specs.declared.command.PublicCommand.TheVariants.{Registry, RegistryListing}
+use Rattle.reg_core.specs.declared.command.PublicCommand.TheVariants.{Registry, RegistryCsv}
 use Rattle.reg_core.specs.declared.holding.Holder.{Holder}
 use Rattle.reg_core.specs.declared.holding.Listed.{Listed}
 use Rattle.reg_core.specs.declared.page.Page.{Page}
@@ -47,7 +47,7 @@ abbrev pub ListingsAreOfPages : Type 0
 ListingsAreOfPages =
     (p : Published) (moment : ℕ) (name : List ℕ) (page : Page)
     → told_to_all p moment (Registry name) ≡ Accepted (tells.Page page)
-    → told_to_all p moment (RegistryListing name) ≡ Accepted (tells.Listing page)
+    → told_to_all p moment (RegistryCsv name) ≡ Accepted (tells.Sheet page)
 
 -- At two moments of a day all files are the same but the first page, the index for programs, and the
 -- sums, where the history is the same.

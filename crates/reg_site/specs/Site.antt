@@ -6,7 +6,7 @@ use Rattle.reg_blocks.specs.declared.size.Size.TheVariants.{MaL, MaM, MaS}
 use Rattle.reg_core.specs.Answer.{public_answer, reply_of}
 use Rattle.reg_core.specs.View.{Published}
 use Rattle.reg_core.specs.declared.command.PublicCommand.{PublicCommand}
-use Rattle.reg_core.specs.declared.command.PublicCommand.TheVariants.{Registries, Registry, PoolList, BlockListing}
+use Rattle.reg_core.specs.declared.command.PublicCommand.TheVariants.{Registries, Registry, PoolList, BlocksCsv}
 use Rattle.reg_core.specs.declared.told.Told.{Told}
 use Rattle.reg_core.specs.declared.told.Told.TheVariants as tells
 use Rattle.reg_core.specs.declared.holding.Listed.{Listed}
@@ -77,7 +77,7 @@ abbrev pub prefixes_at : Published → ℕ → List ℕ
 prefixes_at p moment = unwrap_or (pool_in (told_to_all p moment PoolList)) []
 
 abbrev pub blocks_at : Published → ℕ → List Listed
-blocks_at p moment = unwrap_or (blocks_in (told_to_all p moment BlockListing)) []
+blocks_at p moment = unwrap_or (blocks_in (told_to_all p moment BlocksCsv)) []
 
 -- ---- The files
 
@@ -97,7 +97,7 @@ site_title authority = title_of authority (codes "Registries")
 abbrev pub page_files : Option Notes → List Record → Page → Files
 page_files notes records page =
     (path_of (file.RegistryPage page.name), registry_page notes (last_changed records page.name) page)
-    ∷ (path_of (file.RegistryListing page.name), told_text (tells.Listing page))
+    ∷ (path_of (file.RegistryCsv page.name), told_text (tells.Sheet page))
     ∷ (path_of (file.RegistryTree page.name), told_text (tells.Page page))
     ∷ (
       path_of (file.RegistryRecords page.name),

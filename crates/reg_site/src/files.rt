@@ -12,7 +12,7 @@ pub enum File {
     /// The page of a registry.
     RegistryPage(Name),
     /// The listing of a registry, as an office answers it (CSV).
-    RegistryListing(Name),
+    RegistryCsv(Name),
     /// A registry, as an office answers it (JSON).
     RegistryTree(Name),
     /// A registry in the form in which IANA publishes registries (XML).
@@ -58,7 +58,7 @@ impl File {
     {
         match self {
             File::RegistryPage(_)
-            | File::RegistryListing(_)
+            | File::RegistryCsv(_)
             | File::RegistryTree(_)
             | File::RegistryRecords(_) => "registries/",
             File::BlocksPage
@@ -80,7 +80,7 @@ impl File {
     {
         match self {
             File::RegistryPage(name)
-            | File::RegistryListing(name)
+            | File::RegistryCsv(name)
             | File::RegistryTree(name)
             | File::RegistryRecords(name) => name.as_str(),
             File::BlocksPage | File::BlocksListing => "blocks",
@@ -101,7 +101,7 @@ impl File {
     {
         match self {
             File::RegistryPage(_) | File::BlocksPage | File::ChangesPage | File::Index => ".html",
-            File::RegistryListing(_) | File::BlocksListing | File::Assignments(_) | File::Changes =>
+            File::RegistryCsv(_) | File::BlocksListing | File::Assignments(_) | File::Changes =>
                 ".csv",
             File::RegistryTree(_) | File::Pool | File::IndexTree => ".json",
             File::RegistryRecords(_) => ".xml",

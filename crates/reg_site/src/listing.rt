@@ -12,24 +12,24 @@ use std::alloc::{AllocError, Global};
 /// The listing of a registry in portions, as an office answers it. The first portion is the record of
 /// its columns, and each other one the record of a row.
 #[derive(Drop)]
-pub struct RegistryListing<'a> {
+pub struct RegistryCsv<'a> {
     rows: Vec<ListingRow<'a>>,
     next: Next,
 }
 
-impl<'a> RegistryListing<'a> {
+impl<'a> RegistryCsv<'a> {
     /// All of the listing of this registry is to be given. Only want of memory is an error.
     pub fn of(alloc: Global, page: &'a Page) -> Result<Self, AllocError>
         ensures { IfOk result (λ listing. listing_left listing ≡ listing_text page.now) }
     {
-        Ok(RegistryListing {
+        Ok(RegistryCsv {
             rows: rows(alloc, page)?,
             next: Next::Above,
         })
     }
 }
 
-impl Portions for RegistryListing<'_> {
+impl Portions for RegistryCsv<'_> {
     ghost rest = { listing_left };
 
     fn push_next(&mut self, out: &mut Vec<u8>) -> Result<bool, AllocError> {

@@ -17,7 +17,7 @@ use reg_core::command::PublicCommand;
 use reg_core::page::Page;
 use reg_core::text::Name;
 use reg_history::published::{add_blocks, add_page, add_prefixes};
-use reg_site::listing::RegistryListing;
+use reg_site::listing::RegistryCsv;
 use std::alloc::{AllocError, Global};
 
 /// All that is published by the files of a folder, of which the registries are those that a history names.
@@ -134,7 +134,7 @@ fn add_listed<F: Reads>(alloc: Global, folder: &F, facts: &mut Vec<Fact>) -> Res
     ensures why { IfErr result (TellsWhy (Finds F.Tells F.held folder.now)
         (Lists F.Tells F.listed folder.now) None) }
 {
-    let told = told_in(alloc, folder, &Part::Blocks, &PublicCommand::BlockListing)?;
+    let told = told_in(alloc, folder, &Part::Blocks, &PublicCommand::BlocksCsv)?;
     Ok(add_blocks(alloc, facts, blocks_in(&told)?)?)
 }
 
@@ -152,7 +152,7 @@ fn find_listing<F: Reads>(
         (Lists F.Tells F.listed folder.now) None why) }
 {
     let bytes = bytes_of(alloc, folder, &Part::Listing(name))?;
-    let mut listing = RegistryListing::of(alloc, page)?;
+    let mut listing = RegistryCsv::of(alloc, page)?;
     if gives_just(alloc, &mut listing, bytes.as_slice())? {
         Ok(())
     } else {

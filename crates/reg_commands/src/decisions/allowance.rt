@@ -22,7 +22,7 @@ use reg_core::text::Account;
 use reg_early::evidence::EarlyEvidence;
 use reg_early::requirements::early_missing;
 use reg_early::term::{RenewFault, SettleFault, Term};
-use reg_ranges::evidence::{Evidence, EvidenceItem};
+use reg_ranges::evidence::{Evidence, Item as EvidenceItem};
 use reg_ranges::policy::{Policy, Treatment};
 use reg_ranges::range::Range;
 use reg_ranges::requirements::{missing, needs_expert};

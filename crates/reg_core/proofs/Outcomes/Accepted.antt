@@ -24,7 +24,7 @@ use Rattle.reg_core.specs.declared.command.Command.TheVariants.{Public, Applican
 use Rattle.reg_core.specs.declared.command.ApplicantCommand.TheVariants.{Own, OwnOne, Submit, Withdraw, Holdings, SetListing, SetAgent, Agents, Principals, PrincipalRows}
 use Rattle.reg_core.specs.declared.command.ExpertCommand.TheVariants.{Queue, Advise}
 use Rattle.reg_core.specs.declared.command.ClerkCommand.TheVariants.{AllRequests, OneRequest, AssignExpert, Approve, Decline, SetHold, Define, AddPool, Grant, Revoke, PendingRequests, AllCapabilities, RevokeDigits, RevokeAccount, CountRows}
-use Rattle.reg_core.specs.declared.command.PublicCommand.TheVariants.{Registries, Registry, RegistryListing, PoolList, BlockListing}
+use Rattle.reg_core.specs.declared.command.PublicCommand.TheVariants.{Registries, Registry, RegistryCsv, PoolList, BlocksCsv}
 use Rattle.reg_core.specs.declared.told.Told.TheVariants as tells
 use Rattle.reg_core.specs.declared.refusal.Refusal.TheVariants as no
 use Rattle.reg_core.proofs.Outcomes.Deciding.{Rule, Decides, Defines, Pools, Grants, Revokes, RevokesOne, RevokesAll, Submits, Withdraws, Lists, Links, Declines, HoldsEntry, Assigns, Advises, Approves, define_decides, pool_decides, grant_decides, revoke_decides, revoke_digits_decides, revoke_account_decides, submit_decides, withdraw_decides, listing_decides, agent_decides, decline_decides, hold_decides, assign_decides, advise_decides, approve_decides}
@@ -57,11 +57,11 @@ PublicSo w today Registries o = Tells (tells.Names (keys w.registries)) o
 PublicSo w today (Registry name) o =
     Row (get w.registries name)
     (λ table. Tells (tells.Page (page (published w) name table today)) o)
-PublicSo w today (RegistryListing name) o =
+PublicSo w today (RegistryCsv name) o =
     Row (get w.registries name)
-    (λ table. Tells (tells.Listing (page (published w) name table today)) o)
+    (λ table. Tells (tells.Sheet (page (published w) name table today)) o)
 PublicSo w today PoolList o = Tells (tells.Pool (keys w.pool)) o
-PublicSo w today BlockListing o = Tells (tells.Blocks (listed_rows (published w).blocks)) o
+PublicSo w today BlocksCsv o = Tells (tells.Blocks (listed_rows (published w).blocks)) o
 
 -- the block is there, and the account holds it
 pub record Holds (w : World) (block : SizedPrefix) (account : List ℕ)
@@ -107,7 +107,7 @@ pub record Assigned (w : World) (name : RequestName) (account : List ℕ)
   pub so : So case
 
 abbrev pub ExpertSo : World → List ℕ → ExpertCommand → Outcome → Type 0
-ExpertSo w account Queue o = Tells (tells.Queue (queue_rows (queue_of account w))) o
+ExpertSo w account Queue o = Tells (tells.Items (queue_rows (queue_of account w))) o
 ExpertSo w account (Advise applicant reference advice) o =
     Assigned w (applicant, reference) account (λ case.
     let old = get w.advice ((applicant, reference), account) in
@@ -222,7 +222,7 @@ module _ (w : World) (today : ℕ) where
   public_so : (command : PublicCommand)
       → IfOk (public_answer (published w) today command) (PublicSo w today command)
   public_so (Registry name) = row_so no.Registry (get w.registries name) _ _ (λ table is. refl)
-  public_so (RegistryListing name) =
+  public_so (RegistryCsv name) =
       row_so no.Registry (get w.registries name) _ _ (λ table is. refl)
   public_so command = refl
 

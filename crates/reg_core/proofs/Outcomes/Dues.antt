@@ -318,7 +318,7 @@ module _ (digest_of : List ℕ → List ℕ) (w : World) (caller : Option (List 
       → IsAccepted digest_of w caller moment command o → o.change ≡ Some change
       → IsDue digest_of w caller moment command change
   due_so (Public (public.Registry name)) o change a made = absurd (nothing_made a.so.so made)
-  due_so (Public (public.RegistryListing name)) o change a made =
+  due_so (Public (public.RegistryCsv name)) o change a made =
       absurd (nothing_made a.so.so made)
   due_so (Public command) o change a made = absurd (nothing_made a.so made)
   due_so (Applicant (applicant.OwnOne reference)) o change a made =

@@ -9,7 +9,7 @@ use Rattle.reg_core.proofs.Common.{not-true, EarlyEvidence, first_item, is_close
 use Rattle.reg_core.proofs.Common.{Table, treatment_of, EvidenceItem, Policy, Ground, or_refusal}
 use Rattle.reg_core.proofs.Common.{open_policy, policy_for, is_met, is_met_early}
 use Rattle.reg_laws.proofs.Types.{Ask, Want, Refusal}
-use Rattle.reg_ranges.specs.declared.evidence.EvidenceItem.TheVariants as item
+use Rattle.reg_ranges.specs.declared.evidence.Item.TheVariants as item
 use Rattle.reg_ranges.specs.declared.policy.Treatment.{Treatment}
 use Rattle.reg_ranges.specs.declared.policy.Treatment.TheVariants.{Under, Reserved}
 use Rattle.reg_core.specs.FirstRefusals.{want_of, Decides, InTable, UnderPolicy, IsAbove, IsShut, IsNotEarly, Lacks, Applies, line_of}

@@ -26,7 +26,7 @@ use Rattle.reg_core.specs.Request.{word_of}
 use Rattle.reg_core.specs.declared.command.ApplicantCommand.TheVariants.{Own, OwnOne, Submit, Withdraw, SetListing, SetAgent, PrincipalRows}
 use Rattle.reg_core.specs.declared.command.ExpertCommand.TheVariants.{Queue, Advise}
 use Rattle.reg_core.specs.declared.command.ClerkCommand.TheVariants.{OneRequest, AssignExpert, Approve, Decline, SetHold, Define, AddPool, Grant, Revoke, RevokeDigits, RevokeAccount}
-use Rattle.reg_core.specs.declared.command.PublicCommand.TheVariants.{Registry, RegistryListing}
+use Rattle.reg_core.specs.declared.command.PublicCommand.TheVariants.{Registry, RegistryCsv}
 use Rattle.reg_core.specs.declared.change.Change.TheVariants as change
 use Rattle.reg_core.specs.declared.refusal.Refusal.TheVariants as no
 use Rattle.reg_core.specs.declared.told.Told.TheVariants as tells
@@ -50,7 +50,7 @@ module _ (w : World) where
       → By w (public_lines w command) (public_answer (published w) today command)
   public_goes today (Registry name) =
       row w no.Registry (get w.registries name) _ _ (λ table is. (refl, refl))
-  public_goes today (RegistryListing name) =
+  public_goes today (RegistryCsv name) =
       row w no.Registry (get w.registries name) _ _ (λ table is. (refl, refl))
   public_goes today command = (refl, refl)
 

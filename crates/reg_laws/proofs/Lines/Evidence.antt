@@ -6,7 +6,7 @@ use Rattle.reg_core.proofs.Common.{Table, Evidence, EvidenceItem, Stream, Track,
 use Rattle.reg_core.proofs.Common.{is_met_early, World}
 use Rattle.reg_laws.proofs.Types.{Want, Refusal, Refused}
 use Rattle.reg_ranges.specs.Requirements.{first_item, is_closed_policy, is_expert_policy, asked_items, is_ietf, is_standards_or_bcp, has_rfc, is_met as meets, unmet}
-use Rattle.reg_ranges.specs.declared.evidence.EvidenceItem.TheVariants as item
+use Rattle.reg_ranges.specs.declared.evidence.Item.TheVariants as item
 use Rattle.reg_ranges.specs.declared.evidence.Stream.TheVariants as stream
 use Rattle.reg_ranges.specs.declared.evidence.Track.TheVariants as track
 use Rattle.reg_ranges.specs.declared.policy.Policy.TheVariants as policy

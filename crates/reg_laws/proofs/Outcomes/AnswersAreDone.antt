@@ -19,7 +19,7 @@ use Rattle.reg_core.specs.declared.command.Command.TheVariants.{Public, Applican
 use Rattle.reg_core.specs.declared.command.ApplicantCommand.TheVariants.{Own, OwnOne, Submit, Withdraw, Holdings, SetListing, SetAgent, Agents, Principals, PrincipalRows}
 use Rattle.reg_core.specs.declared.command.ExpertCommand.TheVariants.{Queue, Advise}
 use Rattle.reg_core.specs.declared.command.ClerkCommand.TheVariants.{AllRequests, OneRequest, AssignExpert, Approve, Decline, SetHold, Define, AddPool, Grant, Revoke, PendingRequests, AllCapabilities, RevokeDigits, RevokeAccount, CountRows}
-use Rattle.reg_core.specs.declared.command.PublicCommand.TheVariants.{Registries, Registry, RegistryListing, PoolList, BlockListing}
+use Rattle.reg_core.specs.declared.command.PublicCommand.TheVariants.{Registries, Registry, RegistryCsv, PoolList, BlocksCsv}
 use Rattle.reg_core.specs.declared.request.Given.TheVariants.{Value, Block}
 use Rattle.reg_core.specs.Laws.{IsDone, WasDone, AnswersAreDone, TakesJust, is_refused}
 use Rattle.reg_core.specs.declared.told.Told.TheVariants as tells
@@ -148,11 +148,11 @@ module _ (digest_of : List ℕ → List ℕ) (w : World) (caller : Option (List 
   done (Public (Registry name)) o so =
       subst (Done (Public (Registry name))) (sym so.so)
       (refl, so.is, entry_list w name (utc_day moment))
-  done (Public (RegistryListing name)) o so =
-      subst (Done (Public (RegistryListing name))) (sym so.so)
+  done (Public (RegistryCsv name)) o so =
+      subst (Done (Public (RegistryCsv name))) (sym so.so)
       (refl, so.is, entry_list w name (utc_day moment))
   done (Public PoolList) o so = subst (Done (Public PoolList)) (sym so) refl
-  done (Public BlockListing) o so = subst (Done (Public BlockListing)) (sym so) (block_list w)
+  done (Public BlocksCsv) o so = subst (Done (Public BlocksCsv)) (sym so) (block_list w)
   done (Applicant Own) o so =
       subst (Done (Applicant Own)) (sym so.1)
       (so.0.cap, so.0.is_there, own_list w so.0.cap.account)

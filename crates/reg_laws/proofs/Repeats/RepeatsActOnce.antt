@@ -25,7 +25,7 @@ use Rattle.reg_core.specs.declared.command.Command.TheVariants.{Public, Applican
 use Rattle.reg_core.specs.declared.command.ApplicantCommand.TheVariants.{Own, OwnOne, Submit, Withdraw, Holdings, SetListing, SetAgent, Agents, Principals, PrincipalRows}
 use Rattle.reg_core.specs.declared.command.ExpertCommand.TheVariants.{Queue, Advise}
 use Rattle.reg_core.specs.declared.command.ClerkCommand.TheVariants.{AllRequests, OneRequest, AssignExpert, Approve, Decline, SetHold, Define, AddPool, Grant, Revoke, PendingRequests, AllCapabilities, RevokeDigits, RevokeAccount, CountRows}
-use Rattle.reg_core.specs.declared.command.PublicCommand.TheVariants.{Registries, Registry, RegistryListing, PoolList, BlockListing}
+use Rattle.reg_core.specs.declared.command.PublicCommand.TheVariants.{Registries, Registry, RegistryCsv, PoolList, BlocksCsv}
 use Rattle.reg_core.specs.declared.told.Told.TheVariants as tells
 use Rattle.reg_core.proofs.Outcomes.Accepted.{Serves, ClerkServes, CommandSo}
 use Rattle.reg_laws.proofs.Capabilities.{none_are}
@@ -121,10 +121,10 @@ module _ (digest_of : List ℕ → List ℕ) (v : World) (moment : ℕ) (now : i
         rw now (tells.Names (keys v.registries), refl)
     public_again (Registry name) (tells.Page shown) so =
         (tells.Page (page (published v) name shown.table (utc_day moment)), rw (now, so.1) refl)
-    public_again (RegistryListing name) (tells.Listing shown) so =
-        (tells.Listing (page (published v) name shown.table (utc_day moment)), rw (now, so.1) refl)
+    public_again (RegistryCsv name) (tells.Sheet shown) so =
+        (tells.Sheet (page (published v) name shown.table (utc_day moment)), rw (now, so.1) refl)
     public_again PoolList (tells.Pool prefixes) so = rw now (tells.Pool (keys v.pool), refl)
-    public_again BlockListing (tells.Blocks rows) so =
+    public_again BlocksCsv (tells.Blocks rows) so =
         rw now (tells.Blocks (listed_rows (published v).blocks), refl)
     public_again command told so = absurd so
 
@@ -212,11 +212,11 @@ module _ (digest_of : List ℕ → List ℕ) (v : World) (moment : ℕ) (now : i
       expert_again : (command : ExpertCommand) (told : Told)
           → IsDone digest_of v by first (Expert command) told
           → OnlyTells (answer_to digest_of v caller moment (Expert command))
-      expert_again Queue (tells.Queue rows) so = (
-        tells.Queue (queue_rows (queue_of may.cap.account v)),
+      expert_again Queue (tells.Items rows) so = (
+        tells.Items (queue_rows (queue_of may.cap.account v)),
         rw (now, may.is_there, may.late, may.of_kind) refl,
       )
-      expert_again (Advise account reference advice) (tells.Queued row) so =
+      expert_again (Advise account reference advice) (tells.Item row) so =
           let name : RequestName = (account, reference) in
           let is = so.3 in
           let assigned =

@@ -154,7 +154,7 @@ module _
   expert_same cap other Queue h = record {
     whole = λ mine. absurd (not_mine cap other mine);
     change = refl;
-    rows = ap (λ rows. Accepted (tells.Queue rows)) (same_queue hidden _ _ (queued cap.account));
+    rows = ap (λ rows. Accepted (tells.Items rows)) (same_queue hidden _ _ (queued cap.account));
   }
   expert_same cap other (Advise applicant reference advice) h =
       same_whole (rw (queued cap.account (applicant, reference) h) refl)

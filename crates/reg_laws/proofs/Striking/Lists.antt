@@ -15,7 +15,7 @@ use Rattle.reg_core.specs.declared.command.Command.TheVariants.{Public, Applican
 use Rattle.reg_core.specs.declared.command.ApplicantCommand.TheVariants.{Own, OwnOne, Submit, Withdraw, Holdings, SetListing, Agents, Principals, PrincipalRows}
 use Rattle.reg_core.specs.declared.command.ExpertCommand.TheVariants.{Queue, Advise}
 use Rattle.reg_core.specs.declared.command.ClerkCommand.TheVariants.{AllRequests, OneRequest, AssignExpert, Approve, Decline, SetHold, PendingRequests, AllCapabilities, CountRows}
-use Rattle.reg_core.specs.declared.command.PublicCommand.TheVariants.{Registry, RegistryListing}
+use Rattle.reg_core.specs.declared.command.PublicCommand.TheVariants.{Registry, RegistryCsv}
 use Rattle.reg_core.specs.declared.told.Told.TheVariants as tells
 use Rattle.reg_core.specs.declared.case_file.CaseFile.{CaseFile}
 use Rattle.reg_core.specs.declared.queue.QueueRow.{QueueRow}
@@ -103,7 +103,7 @@ module _ (hidden : RequestName → Bool) (v : World) (none : HasNoneUnseen hidde
   public_plain : (today : ℕ) (given : PublicCommand) (o : Outcome)
       → PublicSo v today given o → IsPlain o
   public_plain today (Registry name) o so = plain so.so refl
-  public_plain today (RegistryListing name) o so = plain so.so refl
+  public_plain today (RegistryCsv name) o so = plain so.so refl
   public_plain today given o so = plain so refl
 
   made_plain : (name : RequestName) (ask : Ask) (existing : Option Case)
@@ -130,7 +130,7 @@ module _ (hidden : RequestName → Bool) (v : World) (none : HasNoneUnseen hidde
   expert_plain : (of : List ℕ) (given : ExpertCommand) (o : Outcome)
       → ExpertSo v of given o → IsPlain o
   expert_plain of Queue o so =
-      plain so (ap tells.Queue (plain_rows name_keys hidden (seen_queued hidden) queue_row
+      plain so (ap tells.Items (plain_rows name_keys hidden (seen_queued hidden) queue_row
       (λ name queued. refl) (queue_of of v) (queue_bare of)))
   expert_plain of (Advise applicant reference advice) o so = plain so.so.is refl
 

@@ -16,7 +16,7 @@ use Rattle.reg_core.specs.declared.command.Command.TheVariants.{Expert, Clerk}
 use Rattle.reg_core.specs.declared.command.ClerkCommand.TheVariants.{AssignExpert}
 use Rattle.reg_core.specs.declared.command.ExpertCommand.TheVariants.{Advise}
 use Rattle.reg_core.specs.declared.refusal.Refusal.TheVariants as no
-use Rattle.reg_core.specs.declared.told.Told.TheVariants.{Queued, Desk}
+use Rattle.reg_core.specs.declared.told.Told.TheVariants.{Item, Desk}
 use Rattle.reg_laws.proofs.Worked.FirstLines.{stays, tells}
 use Rattle.reg_core.proofs.Allowances.{allowance_needs}
 use Rattle.reg_core.specs.declared.request.StateWord.{StateWord}
@@ -55,7 +55,7 @@ on_desk ask =
 
 abbrev with_fine : Ask → StateWord → Told
 with_fine ask word =
-    Queued (record {
+    Item (record {
       account = alice;
       reference = reference;
       ask = ask;

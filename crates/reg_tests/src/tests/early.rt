@@ -5,7 +5,7 @@ use reg_early::evidence::EarlyEvidence;
 use reg_early::laws;
 use reg_early::requirements::early_missing;
 use reg_early::term::{RenewFault, SettleFault, Term};
-use reg_ranges::evidence::EvidenceItem;
+use reg_ranges::evidence::Item;
 use reg_ranges::policy::Policy;
 use reg_ranges::text::Text;
 use std::alloc::Global;
@@ -279,12 +279,12 @@ fn evidence(alloc: Global, items: u8, will_be_rfc: bool) -> Result<EarlyEvidence
 }
 
 // With so many items one is missing.
-const MISSING: &[(u8, Option<EvidenceItem>)] = &[
-    (0, Some(EvidenceItem::Draft)),
-    (1, Some(EvidenceItem::Stable)),
-    (2, Some(EvidenceItem::Interest)),
-    (3, Some(EvidenceItem::Chair)),
-    (4, Some(EvidenceItem::Director)),
+const MISSING: &[(u8, Option<Item>)] = &[
+    (0, Some(Item::Draft)),
+    (1, Some(Item::Stable)),
+    (2, Some(Item::Interest)),
+    (3, Some(Item::Chair)),
+    (4, Some(Item::Director)),
     (5, None),
 ];
 
@@ -292,7 +292,7 @@ fn expect_missing(
     rt: &impl Abort,
     alloc: Global,
     items: u8,
-    missing: Option<EvidenceItem>,
+    missing: Option<Item>,
 ) -> Result<(), Fail> {
     let shown = evidence(alloc, items, false)?;
     let found = early_missing(Policy::StandardsAction, &shown);
@@ -309,10 +309,10 @@ fn early_items_are_asked_in_order(rt: HostRuntime) -> Result<(), Fail> {
     Ok(())
 }
 
-const NEVER: Option<EvidenceItem> = Some(EvidenceItem::Policy);
+const NEVER: Option<Item> = Some(Item::Policy);
 
 // What is missing under each policy, and what where the document will be an RFC.
-const POLICIES: &[(Policy, Option<EvidenceItem>, Option<EvidenceItem>)] = &[
+const POLICIES: &[(Policy, Option<Item>, Option<Item>)] = &[
     (Policy::PrivateUse, NEVER, NEVER),
     (Policy::ExperimentalUse, NEVER, NEVER),
     (Policy::HierarchicalAllocation, NEVER, NEVER),
@@ -330,7 +330,7 @@ fn expect_allowed(
     alloc: Global,
     policy: Policy,
     will_be_rfc: bool,
-    missing: Option<EvidenceItem>,
+    missing: Option<Item>,
 ) -> Result<(), Fail> {
     let shown = evidence(alloc, 5, will_be_rfc)?;
     expect(rt, early_missing(policy, &shown), missing, policy.word());

@@ -55,7 +55,7 @@ module _ (g : Over) (c : After-decide_advise g) where
       (answer_to_expert expert
       (Advise c.args.account.now c.args.reference.now c.args.advice.now))
       (advise_rule name expert c.args.advice.now row.advice row.word)
-      (λ decision. tells.Queued (advised_row c.args.advice.now row))
+      (λ decision. tells.Item (advised_row c.args.advice.now row))
   decides = record {
     answered = λ h.
         ap (λ o. or_refusal no.Request o >>= advised expert c.args.advice.now asked) (found h).0
@@ -86,6 +86,6 @@ returns g c =
     let d = (goal.at.returns g c).After-decide_advise in
     let concluded = c.in_ok-conclude.ensures in
     performs_decided c.in_ok-decision.decision (decides g d) c.in_ok-decision.ensures
-    (ap tells.Queued (the_value (advised_row c.args.advice.now (row g d)) concluded.told
+    (ap tells.Item (the_value (advised_row c.args.advice.now (row g d)) concluded.told
     c.with_advice-advised.ensures.advised))
     concluded.change

@@ -8,10 +8,10 @@ use Rattle.reg_print.proofs.ListingText.{text_rows-block_listing_text, text_rows
 use Rattle.reg_print.proofs.answer.told_bytes.Goals as goal
 
 -- the bytes are the listing's text, which reads back
-pub returns-in-Listing-clause-reads_back : goal.returns-in-Listing-clause-reads_back
-returns-in-Listing-clause-reads_back c =
-    let page = c.in-Listing.page in
-    rw c.in-Listing.is
+pub returns-in-Sheet-clause-reads_back : goal.returns-in-Sheet-clause-reads_back
+returns-in-Sheet-clause-reads_back c =
+    let page = c.in-Sheet.page in
+    rw c.in-Sheet.is
     (IfOk-weaker c.listing.result (λ v. v.items ≡ listing_text page)
     (λ v. text_rows v.items ≡ listing_records page)
     (λ v h. ap text_rows h ∙ text_rows-listing_text page) c.listing.ensures)

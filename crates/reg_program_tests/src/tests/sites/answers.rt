@@ -135,7 +135,7 @@ impl Exercise for ReadBack {
             PublicCommand::Registries,
             PublicCommand::Registry(bits),
             PublicCommand::Registry(codes),
-            PublicCommand::BlockListing,
+            PublicCommand::BlocksCsv,
             PublicCommand::PoolList,
         ] {
             assert_read(rt, &mut office, command)?;

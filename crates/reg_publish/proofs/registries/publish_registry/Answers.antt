@@ -7,7 +7,7 @@ use Rattle.reg_site.specs.Recent.{day_part}
 use Rattle.reg_site.specs.Records.{records_text}
 use Rattle.reg_site.specs.Registry.{registry_page}
 use Rattle.reg_site.specs.Site.{one_file, told_text}
-use Rattle.reg_site.specs.declared.files.File.TheVariants.{RegistryPage, RegistryListing, RegistryTree, RegistryRecords}
+use Rattle.reg_site.specs.declared.files.File.TheVariants.{RegistryPage, RegistryCsv, RegistryTree, RegistryRecords}
 use Rattle.reg_publish.proofs.Placed.{summed_as, summed_both}
 use Rattle.reg_publish.proofs.registries.publish_registry.Goals as goal
 
@@ -32,12 +32,12 @@ returns g c = λ records is.
     let s4 = c.put_records.new.sums in
     let html = one_file (RegistryPage name)
     (registry_page notes c.in_ok-changed.changed.now page) in
-    let csv = one_file (RegistryListing name) (told_text (tells.Listing page)) in
+    let csv = one_file (RegistryCsv name) (told_text (tells.Sheet page)) in
     let tree = one_file (RegistryTree name) (told_text (tells.Page page)) in
     let xml = one_file (RegistryRecords name) (records_text notes c.day_part.result.now page) in
     summed_as Puts f f4 s s4 (html ++ (csv ++ (tree ++ xml))) _
     (λ i. (path_of (RegistryPage name), registry_page notes (changed i) page)
-    ∷ (path_of (RegistryListing name), told_text (tells.Listing page))
+    ∷ (path_of (RegistryCsv name), told_text (tells.Sheet page))
     ∷ (path_of (RegistryTree name), told_text (tells.Page page))
     ∷ (path_of (RegistryRecords name), records_text notes (day i) page)
     ∷ [])

@@ -1,6 +1,6 @@
 use Rattle.std.proofs.Common.{ap, ◌∙◌}
 use Rattle.reg_site.specs.Site.{one_file}
-use Rattle.reg_site.specs.declared.files.File.TheVariants.{RegistryListing}
+use Rattle.reg_site.specs.declared.files.File.TheVariants.{RegistryCsv}
 use Rattle.reg_publish.proofs.Placed.{summed_if}
 use Rattle.reg_publish.proofs.ToldTexts.{listing_told}
 use Rattle.reg_publish.proofs.registries.put_listing.Goals as goal
@@ -9,4 +9,4 @@ pub returns : goal.returns
 returns g c =
     summed_if g.F.Folder.Puts c.put_portions.result c.args.folder.now c.put_portions.new.folder
     c.args.sums.now c.put_portions.new.sums _ _
-    (ap (one_file (RegistryListing c.args.page.now.name)) (c.in_ok-csv.ensures ∙ listing_told c.args.page.now)) c.put_portions.ensures
+    (ap (one_file (RegistryCsv c.args.page.now.name)) (c.in_ok-csv.ensures ∙ listing_told c.args.page.now)) c.put_portions.ensures

@@ -1,6 +1,6 @@
 use Rattle.std.proofs.Common.{◌≡◌, ap, ◌∙◌}
 use Rattle.reg_core.specs.View.{Published}
-use Rattle.reg_core.specs.declared.command.PublicCommand.TheVariants.{Registries, PoolList, BlockListing}
+use Rattle.reg_core.specs.declared.command.PublicCommand.TheVariants.{Registries, PoolList, BlocksCsv}
 use Rattle.reg_core.specs.declared.reply.Reply.TheVariants.{Accepted}
 use Rattle.reg_site.specs.Site.{told_to_all}
 use Rattle.reg_publish.specs.Told.{AreTold, IsTold}
@@ -22,7 +22,7 @@ returns g c =
     λ p. told_to_all p moment Registries ≡ Accepted c.in_ok-names.names in
     let Shown : Published → Type 0 = λ p. AreTold p moment names c.in_ok-pages.pages.items in
     let Given : Published → Type 0 =
-    λ p. told_to_all p moment BlockListing ≡ Accepted c.in_ok-given.given in
+    λ p. told_to_all p moment BlocksCsv ≡ Accepted c.in_ok-given.given in
     let Pooled : Published → Type 0 =
     λ p. told_to_all p moment PoolList ≡ Accepted c.in_ok-pool.pool in
     asks_as published Holds s s4 (λ p. (Named p × Shown p) × (Given p × Pooled p))

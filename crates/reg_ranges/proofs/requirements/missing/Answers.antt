@@ -1,10 +1,10 @@
 use Rattle.std.proofs.Common.{◌≡◌, Bool, true, false, not, cond, List, [], ◌∷◌, Some, refl, sym, ◌∙◌}
 use Rattle.std.specs.Prelude.{find, filter}
-use Rattle.reg_ranges.specs.declared.evidence.EvidenceItem.{EvidenceItem}
+use Rattle.reg_ranges.specs.declared.evidence.Item.{Item}
 use Rattle.reg_ranges.specs.Requirements.{asked_items, first_item, is_met}
 use Rattle.reg_ranges.proofs.requirements.missing.Goals as goal
 
-first_item-filter : (p : EvidenceItem → Bool) (xs : List EvidenceItem) → first_item (filter p xs) ≡ find p xs
+first_item-filter : (p : Item → Bool) (xs : List Item) → first_item (filter p xs) ≡ find p xs
 first_item-filter p [] = refl
 first_item-filter p (x ∷ xs) =
     elim (p x) as

@@ -1,7 +1,7 @@
 use Rattle.std.proofs.Common.{◌∷◌, ap}
 use Rattle.reg_print.specs.Listing.{csv_text, header, listing_text}
 use Rattle.reg_site.specs.Listing.{records}
-use Rattle.reg_site.proofs.listing.RegistryListing.of.Goals as goal
+use Rattle.reg_site.proofs.listing.RegistryCsv.of.Goals as goal
 
 pub returns : goal.returns
 unfolding listing_text
