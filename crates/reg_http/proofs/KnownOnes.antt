@@ -80,7 +80,6 @@ module _ (by_all : AskByAllTheirBytes) {S : Type 0} (Serves : S → Call → Res
         → FailsBy Serves came why before now (Some all) left (Some []) wrote
         → Heard came all wrote before now 0
     failed fault.Read h = unheard h.1 h.0.same
-    failed fault.TooManyReads h = absurd h
     failed (fault.Write n) h =
         replied h.told (take n (response_text h.told)) 0 h.answered h.wrote
         (λ text is others. inr (n, is, omega arith))

@@ -26,7 +26,6 @@ module _ {S : Type 0} (Serves : S → Call → Response → S → Type 0) (momen
   unanswered : (why : WireFault) → IsUnanswered why before after unread left
       → Appends had has [] → FailsBy Serves moment why before after unread left had has
   unanswered fault.Read h nothing = (h, nothing)
-  unanswered fault.TooManyReads h nothing = absurd h
   unanswered (fault.Write n) h nothing = absurd h
   unanswered fault.Memory h nothing = (inr h, nothing)
 
@@ -35,7 +34,6 @@ module _ {S : Type 0} (Serves : S → Call → Response → S → Type 0) (momen
       → IsSentBy (Ok told) (Err why) had has
       → FailsBy Serves moment why before after unread left had has
   unsent told fault.Read h k = absurd k
-  unsent told fault.TooManyReads h k = absurd k
   unsent told (fault.Write n) h k = record { told = told; answered = h; fewer = k.0; wrote = k.1 }
   unsent told fault.Memory h k = (inl (told, h, k.0), k.1)
 

@@ -60,7 +60,6 @@ module _ {S : Type 0} (Serves : S → Call → Response → S → Type 0) where
       → ChangesByTurns Serves 1 0 before after
   failed_turn moment fault.Read before after unread left had has h =
       no_turn 1 before after h.0.same
-  failed_turn moment fault.TooManyReads before after unread left had has h = absurd h
   failed_turn moment (fault.Write n) before after unread left had has h =
       one_turn 0 moment before after unread left h.told (omega arith) h.answered
   failed_turn moment fault.Memory before after unread left had has (inl h, nothing) =

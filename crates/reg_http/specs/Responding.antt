@@ -8,6 +8,5 @@ use Rattle.reg_http.specs.Serving.{IsUnasked}
 abbrev pub IsUnanswered : {S : Type 0} → WireFault → S → S → Option (List ℕ) → Option (List ℕ)
     → Type 0
 IsUnanswered fault.Read before after unread left = IsUnasked before after unread left
-IsUnanswered fault.TooManyReads before after unread left = ⊥
 IsUnanswered (fault.Write n) before after unread left = ⊥
 IsUnanswered fault.Memory before after unread left = after ≡ before

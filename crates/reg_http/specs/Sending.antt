@@ -10,7 +10,6 @@ use Rattle.reg_http.specs.declared.response.Response.{Response}
 -- the first n bytes, and there are more; or nothing, of an answer that is not storage
 abbrev pub IsUnsent : WireFault → Response → Option (List ℕ) → Option (List ℕ) → Type 0
 IsUnsent fault.Read told had has = ⊥
-IsUnsent fault.TooManyReads told had has = ⊥
 IsUnsent (fault.Write n) told had has =
     (n < length (response_text told)) × Appends had has (take n (response_text told))
 IsUnsent fault.Memory told had has = (told ≢ storage) × Appends had has []

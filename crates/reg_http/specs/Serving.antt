@@ -120,7 +120,6 @@ abbrev pub FailsBy : {S : Type 0} → (S → Call → Response → S → Type 0)
     → Option (List ℕ) → Option (List ℕ) → Option (List ℕ) → Option (List ℕ) → Type 0
 FailsBy Serves moment fault.Read before after unread left had has =
     IsUnasked before after unread left × Appends had has []
-FailsBy Serves moment fault.TooManyReads before after unread left had has = ⊥
 FailsBy Serves moment (fault.Write n) before after unread left had has =
     IsCutShort Serves moment before after unread left had has n
 FailsBy Serves moment fault.Memory before after unread left had has =

@@ -9,6 +9,5 @@ use Rattle.reg_head.specs.declared.watch.Watch.{Watch}
 abbrev pub IsWatchedOver : {T : Type 0} → Watch → Watch → Result T WireFault → Type 0
 IsWatchedOver old new (Ok value) = new ≡ old
 IsWatchedOver old new (Err fault.Read) = has_failed new ≡ true
-IsWatchedOver old new (Err fault.TooManyReads) = new ≡ old
 IsWatchedOver old new (Err (fault.Write n)) = new ≡ old
 IsWatchedOver old new (Err fault.Memory) = new ≡ old

@@ -33,7 +33,6 @@ found_failure (found.Fault fault) = failure_of fault
 -- why a script was not run to its end, as a job says it
 abbrev pub script_failure : WireFault → JobFailure
 script_failure wire.Read = Read
-script_failure wire.TooManyReads = Read
 script_failure (wire.Write n) = Write
 script_failure wire.Memory = Memory
 

@@ -136,7 +136,7 @@ impl From<WireFault> for Undone {
 
     fn from(fault: WireFault) -> Undone {
         Undone::Fault(match fault {
-            WireFault::Read | WireFault::TooManyReads => JobFailure::Read,
+            WireFault::Read => JobFailure::Read,
             WireFault::Write(_) => JobFailure::Write,
             WireFault::Memory => JobFailure::Memory,
         })

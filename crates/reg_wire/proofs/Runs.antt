@@ -11,7 +11,7 @@ use Rattle.reg_wire.specs.declared.wire_fault.WireFault.{WireFault}
 use Rattle.reg_wire.specs.declared.wire_fault.WireFault.TheVariants as fault
 use Rattle.reg_wire.specs.Exchange.{Call}
 use Rattle.reg_wire.specs.Script.Line.{line_of, most_bytes}
-use Rattle.reg_wire.specs.Script.Lines.{refusal, most_reads, Answered, Ran, IsOneLine, ended, Cut, rest_line, AreLines, BeginWith, LinesBefore, Wrote, AnswersAll, StopsAt}
+use Rattle.reg_wire.specs.Script.Lines.{refusal, Answered, Ran, IsOneLine, ended, Cut, rest_line, AreLines, BeginWith, LinesBefore, Wrote, AnswersAll, StopsAt}
 use Rattle.reg_wire.specs.Script.LineBuffer.{AnswersLine, IsBuffered, CutShort, Progress, WroteSome, RanOver, Whole, Halted, HaltedLast}
 
 -- ---- A line
@@ -90,7 +90,6 @@ wrote_short : (why : WireFault) (answers : List (List ℕ)) (answer : List ℕ) 
     → Appends had has (flat_map ended answers) → sent ≡ length (flat_map ended answers)
     → CutShort why sent answer has now → WroteSome why (answers ++ answer ∷ []) had now
 wrote_short fault.Read answers answer sent had has now p count h = h
-wrote_short fault.TooManyReads answers answer sent had has now p count h = h
 wrote_short fault.Memory answers answer sent had has now p count h =
     let same = append-nil (flat_map ended answers) in
     inr (answers, answer, refl, h.0, rw same at (Appends-trans had has now _ _ p h.1))
@@ -316,21 +315,18 @@ module _ {S : Type 0} (Serves : S → Call → List ℕ → S → Type 0) (first
     wrote = wrote;
   }
 
-  -- after so many reads that each gave a byte
+  -- after the last of its reads, as at one that failed
   pub stops_after_reads : (bytes buffered : List ℕ) (sent : ℕ) (w : S)
       (unread left has : Option (List ℕ))
       → Consumes unread left bytes → Progress Serves first had bytes buffered sent w has
-      → most_reads ≤ length bytes
-      → StopsAt Serves fault.TooManyReads first w unread left had has
-  stops_after_reads bytes buffered sent w unread left has got p many =
-      stopped fault.TooManyReads bytes p.lines p.answers w unread left has got (p.rest, p.cut, many)
-      p.ran p.wrote
+      → StopsAt Serves fault.Read first w unread left had has
+  stops_after_reads bytes buffered sent w unread left has got p =
+      stopped fault.Read bytes p.lines p.answers w unread left has got (p.rest, p.cut) p.ran p.wrote
 
   pub stops_at : (why : WireFault) (bytes : List ℕ) (w : S) (unread left has : Option (List ℕ))
       → Consumes unread left bytes → Halted Serves why first had bytes w has
       → StopsAt Serves why first w unread left had has
   stops_at fault.Read bytes w unread left has got h = absurd h.wrote
-  stops_at fault.TooManyReads bytes w unread left has got h = absurd h.wrote
   stops_at fault.Memory bytes w unread left has got h =
       stopped fault.Memory bytes h.lines h.answers w unread left has got (inl h.over) h.ran
       h.wrote
@@ -342,7 +338,6 @@ module _ {S : Type 0} (Serves : S → Call → List ℕ → S → Type 0) (first
       → Consumes unread left bytes → IsAtEnd left → HaltedLast Serves why first had bytes w has
       → StopsAt Serves why first w unread left had has
   stops_last fault.Read bytes w unread left has got end h = absurd h.wrote
-  stops_last fault.TooManyReads bytes w unread left has got end h = absurd h.wrote
   stops_last fault.Memory bytes w unread left has got end h =
       stopped fault.Memory bytes h.lines h.answers w unread left has got (inr (end, h.over)) h.ran
       h.wrote
@@ -362,12 +357,6 @@ stops_before Serves first unread had = record {
   ran = refl;
   wrote = inl (Appends-nil had);
 }
-
--- a read that gave something gave a byte at least
-pub one_more : (bytes buf : List ℕ) (made count : ℕ) → made ≤ length bytes → count ≢ 0
-    → 0 < length buf → made + 1 ≤ length (bytes ++ take count buf)
-one_more bytes buf made count far some room =
-    omega (arith, far, some, room, length-append bytes (take count buf), length-take count buf)
 
 -- ---- The next line feed
 

@@ -29,8 +29,8 @@ use std::io::{Read, Write};
 /// one at which the store or memory failed `503 {"error":"storage"}`, with the content of the
 /// office unchanged.
 ///
-/// `Read` where a read failed, and `TooManyReads` after 16,777,216 reads that each gave at least a
-/// byte: all lines whose line feed was read were answered. `Write(n)` where a write failed or took
+/// `Read` where a read failed, and after 16,777,216 reads that each gave at least a byte: all lines
+/// whose line feed was read were answered. `Write(n)` where a write failed or took
 /// nothing: exactly the first n bytes of the answers went out, and the line whose answer was cut
 /// short was carried out. `Memory` where there was none to hold a line, or an answer: the lines
 /// before were answered, and the last may have been carried out, but not where the store failed at

@@ -7,10 +7,8 @@ use std::alloc::{AllocError, AllocFailed};
 /// Why reading requests and writing answers ended before its time.
 #[derive(Clone, Copy, Debug, PartialEq, Eq)]
 pub enum WireFault {
-    /// A read failed.
+    /// A read failed, or a script was read by as many reads as `run` makes.
     Read,
-    /// 16,777,216 reads were made, and each gave at least a byte.
-    TooManyReads,
     /// A write failed or took nothing, after so many bytes.
     Write(usize),
     /// There was no memory.

@@ -6,7 +6,7 @@ use Rattle.reg_wire.specs.Exchange.{Call}
 use Rattle.reg_wire.specs.Script.Line.{most_bytes}
 use Rattle.reg_wire.specs.Script.Lines.{storage, ended, Answered, Cut, AreLines, BeginWith, Ran, Wrote}
 use Rattle.reg_wire.specs.declared.wire_fault.WireFault.{WireFault}
-use Rattle.reg_wire.specs.declared.wire_fault.WireFault.TheVariants.{Read, TooManyReads, Write, Memory}
+use Rattle.reg_wire.specs.declared.wire_fault.WireFault.TheVariants.{Read, Write, Memory}
 use Rattle.reg_wire.specs.declared.script.responder.Unanswered.{Unanswered}
 use Rattle.reg_wire.specs.declared.script.responder.Unanswered.TheVariants as without
 
@@ -24,7 +24,6 @@ Unserved Serves before line without.Memory after =
 -- what went out of an answer before a fault, after `sent` bytes of others
 abbrev pub CutShort : WireFault → ℕ → List ℕ → Option (List ℕ) → Option (List ℕ) → Type 0
 CutShort Read sent answer had has = ⊥
-CutShort TooManyReads sent answer had has = ⊥
 CutShort Memory sent answer had has = (answer ≢ storage) × Appends had has []
 CutShort (Write n) sent answer had has =
     (m : ℕ) × (m ≤ length answer) × (n ≡ sent + m) × Appends had has (take m (ended answer))
@@ -59,7 +58,6 @@ FromProgress {S} Serves buffered sent now has Comes =
 -- what went out of the answers before a fault that is not of reads
 abbrev pub WroteSome : WireFault → List (List ℕ) → Option (List ℕ) → Option (List ℕ) → Type 0
 WroteSome Read answers had has = ⊥
-WroteSome TooManyReads answers had has = ⊥
 WroteSome Memory answers had has = Wrote Memory answers had has
 WroteSome (Write n) answers had has = Wrote (Write n) answers had has
 

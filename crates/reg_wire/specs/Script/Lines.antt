@@ -5,7 +5,7 @@ use Rattle.std.specs.Io.KnownBytes.{Appends, Consumes, IsAtEnd}
 use Rattle.reg_wire.specs.Exchange.{Call}
 use Rattle.reg_wire.specs.Script.Line.{line_of}
 use Rattle.reg_wire.specs.declared.wire_fault.WireFault.{WireFault}
-use Rattle.reg_wire.specs.declared.wire_fault.WireFault.TheVariants.{Read, TooManyReads, Write, Memory}
+use Rattle.reg_wire.specs.declared.wire_fault.WireFault.TheVariants.{Read, Write, Memory}
 
 -- ---- Lines
 
@@ -79,16 +79,9 @@ pub record AnswersAll {S : Type 0} (Serves : S → Call → List ℕ → S → T
   pub ran : Ran Serves first lines answers last
   pub wrote : Appends had has (flat_map ended answers)
 
--- how many reads a run makes at most
-abbrev pub most_reads : ℕ
-most_reads = 16777216
-
--- the lines that were answered before a fault: at one of reads all whose line feed was read; and
--- there are too many reads only after so many bytes
+-- the lines that were answered before a fault: at one of reads all whose line feed was read
 abbrev pub LinesBefore : WireFault → Option (List ℕ) → List ℕ → List (List ℕ) → Type 0
 LinesBefore Read left bytes lines = (rest : List ℕ) × Cut bytes lines rest
-LinesBefore TooManyReads left bytes lines =
-    (rest : List ℕ) × Cut bytes lines rest × (most_reads ≤ length bytes)
 LinesBefore Memory left bytes lines = BeginWith bytes lines ⊎ (IsAtEnd left × AreLines bytes lines)
 LinesBefore (Write n) left bytes lines =
     BeginWith bytes lines ⊎ (IsAtEnd left × AreLines bytes lines)
@@ -101,7 +94,6 @@ WithLast front answers = (last : List ℕ) × (answers ≡ front ++ last ∷ [])
 -- after `Write(n)` n bytes, which end in the last answer
 abbrev pub Wrote : WireFault → List (List ℕ) → Option (List ℕ) → Option (List ℕ) → Type 0
 Wrote Read answers had has = Appends had has (flat_map ended answers)
-Wrote TooManyReads answers had has = Appends had has (flat_map ended answers)
 Wrote Memory answers had has =
     Appends had has (flat_map ended answers)
     ⊎ ((front : List (List ℕ)) × (last : List ℕ) × (answers ≡ front ++ last ∷ [])

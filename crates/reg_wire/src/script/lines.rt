@@ -43,7 +43,7 @@ pub(crate) fn respond_all<A: Responder, R: Read, W: Write>(
         let piece = &buf[..count];
         sent = take_piece(alloc, responder, routes, writer, &mut buffer, sent, piece)?;
     }
-    Err(WireFault::TooManyReads)
+    Err(WireFault::Read)
 }
 
 // Answers the line in the buffer; gives how many bytes went out by now.

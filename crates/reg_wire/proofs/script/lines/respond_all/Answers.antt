@@ -2,13 +2,13 @@ use Rattle.std.proofs.Common.{[], ◌++◌, take, arith}
 use Rattle.std.proofs.KnownBytes.{Consumes-nil, Consumes-trans}
 use Rattle.std.proofs.lemmas.Result.{IfOk-weaker, IfErr-weaker, err_from_is_err_and}
 use Rattle.reg_wire.proofs.Sent.{read_none}
-use Rattle.reg_wire.proofs.Runs.{progress_start, one_more, stops_after_reads, stops_at, stops_last, answers_all}
+use Rattle.reg_wire.proofs.Runs.{progress_start, stops_after_reads, stops_at, stops_last, answers_all}
 use Rattle.reg_wire.proofs.script.lines.respond_all.Goals as goal
 
 pub loop-made-init : goal.loop-made-init
 loop-made-init g c =
     let start = progress_start g.A.Responder.Serves _ _ in
-    ([], Consumes-nil _, rw c.new-buffer.ensures start, omega arith)
+    ([], Consumes-nil _, rw c.new-buffer.ensures start)
 
 pub returns-then-count-eq0-clause-ok : goal.returns-then-count-eq0-clause-ok
 returns-then-count-eq0-clause-ok g c =
@@ -43,12 +43,9 @@ loop-made-preserved g c =
       i.0 ++ take c.in-Ok.count c.read.new.buf,
       Consumes-trans _ _ _ _ _ i.1 c.in-Ok.ensures.bytes.0,
       c.in_ok-sent.ensures.ok _ _ i.0 i.2,
-      one_more i.0 c.read.new.buf _ _ i.3 c.if-count-eq0.false
-          (omega (arith, c.if-count-eq0.array_long)),
     )
 
 pub returns-clause-err : goal.returns-clause-err
 returns-clause-err g c =
     let i = c.loop-made.invariant in
     stops_after_reads g.A.Responder.Serves _ _ i.0 _ _ _ _ _ _ i.1 i.2
-    (omega (arith, i.3, c.loop-made-test.false))

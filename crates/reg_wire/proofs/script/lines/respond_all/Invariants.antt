@@ -1,4 +1,4 @@
-use Rattle.std.proofs.Common.{◌≤◌, List, ℕ, length}
+use Rattle.std.proofs.Common.{List, ℕ}
 use Rattle.std.specs.Io.KnownBytes.{Consumes}
 use Rattle.reg_wire.specs.Script.LineBuffer.{Progress}
 use Rattle.reg_wire.proofs.script.lines.respond_all.Given as goal
@@ -9,4 +9,3 @@ invariant-loop-made g l =
     (g.R.Read.remaining l.reader) bytes
     × Progress g.A.Responder.Serves l.initial.responder (g.W.Write.contents l.initial.writer)
     bytes l.buffer l.sent l.responder (g.W.Write.contents l.writer)
-    × (l._made ≤ length bytes)
