@@ -1,14 +1,12 @@
 //! The office of an assignment authority as a program.
 #![tactic(auto)]
 
-use reg_files::Files;
-use reg_files::copies::FileCopies;
-use reg_http::dates::ClockDates;
+use reg_files::performing::perform_at;
 use reg_jobs::command_line::job;
 use reg_jobs::jobs::{Job, JobFault};
 use reg_program::console::Console;
-use reg_program::performing::{perform, refuse};
-use std::io::{IsTerminal, Read, Write};
+use reg_program::performing::refuse;
+use std::io::IsTerminal;
 use std::process::ExitCode;
 use std::{env, io};
 
@@ -24,21 +22,11 @@ fn main(rt: HostRuntime) -> ExitCode {
                 errors: &mut errors,
                 is_watched,
             };
-            carried_out(&rt, job, &mut console)
+            perform_at(&rt, job, &mut console)
         }
         Err(fault) => refuse(fault, &mut errors),
     };
     ExitCode::from(status)
-}
-
-// Does a job by the clock and the files of the system.
-fn carried_out<R: Read, W: Write, E: Write>(
-    rt: &HostRuntime,
-    job: Job,
-    console: &mut Console<'_, R, W, E>,
-) -> u8 {
-    let mut dates = ClockDates { clock: rt };
-    perform(rt, &mut dates, &mut Files, &FileCopies, job, console)
 }
 
 // The job that the program's arguments ask for.

@@ -5,6 +5,7 @@ mod access;
 pub mod copies;
 pub mod laws;
 pub mod originals;
+pub mod performing;
 pub mod private_disk;
 pub mod targets;
 

@@ -12,11 +12,11 @@ use Rattle.reg_head.specs.Request.{BytesAsk}
 use Rattle.reg_http.specs.Known.{AreKnownAnswers, IsAnswerTo, IsWrittenOver, KnownConnectionsAreAnswered}
 use Rattle.reg_http.specs.Listening.{moment_by}
 use Rattle.reg_http.specs.Meeting.{Came, Dated, Ended, InTurn, Meeting, Meets, first_of, rest_of, wholes}
-use Rattle.reg_http.specs.Response.{response_text}
-use Rattle.reg_http.specs.Serving.{AnswersOver, Exchange, FailsBy, IsAnswered, Lead, Responds}
-use Rattle.reg_http.specs.declared.response.Response.{Response}
-use Rattle.reg_http.proofs.Exchanges.{requests_of_model}
-use Rattle.reg_http.proofs.StandSoFar.{exchanged}
+use Rattle.reg_wire.specs.Response.{response_text}
+use Rattle.reg_wire.specs.Serving.{AnswersOver, Exchange, FailsBy, IsAnswered, Lead, Responds}
+use Rattle.reg_wire.specs.declared.response.Response.{Response}
+use Rattle.reg_wire.proofs.Exchanges.{requests_of_model}
+use Rattle.reg_wire.proofs.StandSoFar.{exchanged}
 
 -- the bytes that came, where some did
 abbrev bytes_of : Option (Option (List ℕ)) → Option (List ℕ)

@@ -1,7 +1,3 @@
-mod StorageText
-mod AlikeRequests
-mod Exchanges
-mod StandSoFar
 mod Turns
 mod Meetings
 mod KnownOnes

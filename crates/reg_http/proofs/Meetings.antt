@@ -7,11 +7,12 @@ use Rattle.reg_wire.specs.Exchange.{Call}
 use Rattle.reg_wire.specs.declared.wire_fault.WireFault.{WireFault}
 use Rattle.reg_wire.specs.declared.wire_fault.WireFault.TheVariants as fault
 use Rattle.reg_http.specs.Listening.{ChangesByTurns, count_of, moment_by, sent_of}
-use Rattle.reg_http.specs.Meeting.{Came, Comes, Dated, Ended, EndsOneMore, Exchanges, InTurn, IsSentBy, Meeting, Meets, ServesInTurn, TakesNext, WhereKnown, rest_of, unread_of, wholes}
-use Rattle.reg_http.specs.Responding.{IsUnanswered}
-use Rattle.reg_http.specs.Serving.{IsAnswered, FailsBy}
-use Rattle.reg_http.specs.declared.log.Sent.{Sent}
-use Rattle.reg_http.specs.declared.response.Response.{Response}
+use Rattle.reg_http.specs.Meeting.{Came, Comes, Dated, Ended, EndsOneMore, Exchanges, InTurn, Meeting, Meets, ServesInTurn, TakesNext, WhereKnown, rest_of, unread_of, wholes}
+use Rattle.reg_wire.specs.Responding.{IsUnanswered}
+use Rattle.reg_wire.specs.Sending.{IsSentBy}
+use Rattle.reg_wire.specs.Serving.{IsAnswered, FailsBy}
+use Rattle.reg_wire.specs.declared.log.Sent.{Sent}
+use Rattle.reg_wire.specs.declared.response.Response.{Response}
 use Rattle.reg_http.proofs.Turns.{no_turn, turn, turns_then}
 
 -- ---- One connection

@@ -8,8 +8,8 @@ use Rattle.reg_wire.specs.declared.wire_fault.WireFault.TheVariants as fault
 use Rattle.reg_head.specs.Request.{Request, BytesAsk, IsSettled}
 use Rattle.reg_head.specs.declared.malformed.Malformed.{Malformed}
 use Rattle.reg_http.specs.Listening.{ChangesByTurns, count_of, sent_of}
-use Rattle.reg_http.specs.Serving.{Exchange, IsAnswered, IsServed, FailsBy, Lead}
-use Rattle.reg_http.specs.declared.response.Response.{Response}
+use Rattle.reg_wire.specs.Serving.{Exchange, IsAnswered, IsServed, FailsBy, Lead}
+use Rattle.reg_wire.specs.declared.response.Response.{Response}
 
 -- what was read asks it, also where no more came
 asks_it : (left : Option (List ℕ)) (bytes : List ℕ) (asked : Result Request Malformed)

@@ -2,11 +2,11 @@
 use Rattle.std.specs.Prelude.{◌≡◌, ◌⊎◌, ◌+◌, ℕ, Bool, List, [], ◌∷◌, length, map, take, Option, Some}
 use Rattle.std.specs.declared.time.Duration.{Duration}
 use Rattle.reg_core.specs.World.{World}
-use Rattle.reg_http.specs.Laws.{ExchangesAreOfModel, faultless}
+use Rattle.reg_wire.specs.RequestLaws.{ExchangesAreOfModel, faultless}
 use Rattle.reg_http.specs.Listening.{moment_by}
 use Rattle.reg_http.specs.Meeting.{ServesInTurn, first_of, rest_of}
-use Rattle.reg_http.specs.Response.{response_text}
-use Rattle.reg_http.specs.Serving.{AnswersOver, Exchange, Lead}
+use Rattle.reg_wire.specs.Response.{response_text}
+use Rattle.reg_wire.specs.Serving.{AnswersOver, Exchange, Lead}
 
 -- connections come with these bytes to be read, in this order
 abbrev pub all_coming : List (List ℕ) → Option (List (Option (List ℕ)))

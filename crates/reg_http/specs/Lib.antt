@@ -1,13 +1,3 @@
 pub mod Known
-pub mod Laws
 pub mod Listening
 pub mod Meeting
-pub mod Response
-pub mod Responding
-pub mod Sending
-pub mod Serving
-pub mod Watched
-pub use Rattle.reg_head.specs.Fields
-pub use Rattle.reg_head.specs.Head
-pub use Rattle.reg_head.specs.Reading
-pub use Rattle.reg_head.specs.Request

@@ -3,10 +3,10 @@ use Rattle.std.specs.Prelude.{◌≤◌, ◌/◌, ℕ, List, length, Option, Som
 use Rattle.std.specs.Duration.{as_nanos}
 use Rattle.std.specs.declared.time.Duration.{Duration}
 use Rattle.reg_wire.specs.Exchange.{Call}
-use Rattle.reg_http.specs.Serving.{Exchange, Lead}
+use Rattle.reg_wire.specs.Serving.{Exchange, Lead}
 use Rattle.reg_wire.specs.declared.wire_fault.WireFault.{WireFault}
-use Rattle.reg_http.specs.declared.log.Sent.{Sent}
-use Rattle.reg_http.specs.declared.response.Response.{Response}
+use Rattle.reg_wire.specs.declared.log.Sent.{Sent}
+use Rattle.reg_wire.specs.declared.response.Response.{Response}
 
 -- the moment by what the clock said: whole seconds; 0 where it failed
 abbrev pub moment_by : Option Duration → ℕ

@@ -1,16 +1,13 @@
 -- Connections that come to an office, in turn, and what is done with each.
 use Rattle.std.specs.Prelude.{◌≡◌, ◌+◌, ℕ, ⊤, List, [], ◌∷◌, ◌++◌, length, Option, Some, None, Result, Ok, Err, IfOk, IfErr}
 use Rattle.std.specs.Option.{option_map}
-use Rattle.std.specs.Io.KnownBytes.{Appends}
 use Rattle.std.specs.declared.time.Duration.{Duration}
 use Rattle.reg_wire.specs.Exchange.{Call}
 use Rattle.reg_wire.specs.declared.wire_fault.WireFault.{WireFault}
 use Rattle.reg_http.specs.Listening.{count_of, moment_by}
-use Rattle.reg_http.specs.Response.{response_text, status}
-use Rattle.reg_http.specs.Sending.{IsUnsent}
-use Rattle.reg_http.specs.Serving.{IsServed, FailsBy}
-use Rattle.reg_http.specs.declared.log.Sent.{Sent}
-use Rattle.reg_http.specs.declared.response.Response.{Response}
+use Rattle.reg_wire.specs.Serving.{IsServed, FailsBy}
+use Rattle.reg_wire.specs.declared.log.Sent.{Sent}
+use Rattle.reg_wire.specs.declared.response.Response.{Response}
 
 -- ---- What is to come, in turn; nothing where none is left
 
@@ -85,14 +82,6 @@ pub record Exchanges {S : Type 0} (Serves : S → Call → Response → S → Ty
       after outcome
   pub counted : count_of sent ≡ wholes outcome
   pub ends : EndsOneMore had has wrote
-
--- what is given to be told is sent, or told to have failed
-abbrev pub IsSentBy : Result Response WireFault → Result ℕ WireFault → Option (List ℕ)
-    → Option (List ℕ) → Type 0
-IsSentBy (Ok told) (Ok n) had has = (n ≡ status told) × Appends had has (response_text told)
-IsSentBy (Ok told) (Err fault) had has = IsUnsent fault told had has
-IsSentBy (Err why) (Ok n) had has = ⊥
-IsSentBy (Err why) (Err fault) had has = (fault ≡ why) × Appends had has []
 
 -- ---- Turns, each with a connection that came, or with none
 

@@ -3,8 +3,8 @@ ghost use Rattle.std.specs.Prelude.{[], ◌∷◌, Some};
 ghost use Rattle.std.specs.Option.{option_map_or};
 
 use crate::dates::Dates;
-use crate::log::Sent;
 use crate::peers::Peers;
+use reg_wire::log::Sent;
 use std::alloc::Global;
 use std::time::Duration;
 

@@ -2,17 +2,17 @@
 ghost use Rattle.std.specs.Prelude.{◌≡◌, ◌+◌, ◌≤◌};
 ghost use Rattle.reg_http.specs.Listening.{ChangesByTurns, count_of, sent_of};
 ghost use Rattle.reg_http.specs.Meeting.{Exchanges, ServesInTurn};
-ghost use Rattle.reg_http.specs.Serving.{AnswersOver};
+ghost use Rattle.reg_wire.specs.Serving.{AnswersOver};
 
 use crate::body_size::BodySize;
 use crate::dates::{Dates, moment_now};
-use crate::log::{Log, Sent};
 use crate::peers::Peers;
-use crate::serving::{respond, send_told};
 use reg_head::watch::Watch;
 use reg_keeper::keeper::Keeper;
 use reg_office::Office;
 use reg_parse::route::Routes;
+use reg_wire::log::{Log, Sent};
+use reg_wire::serving::{respond, send_told};
 use reg_wire::wire_fault::WireFault;
 use std::alloc::Global;
 use std::io;

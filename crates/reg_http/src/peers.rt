@@ -3,7 +3,7 @@ ghost use Rattle.std.specs.Prelude.{◌≡◌, IfOk};
 ghost use Rattle.std.specs.Option.{option_map};
 ghost use Rattle.reg_http.specs.Meeting.{Comes, EndsOneMore};
 
-use crate::log::Sent;
+use reg_wire::log::Sent;
 use std::io;
 use std::io::{Read, Write};
 use std::net::SocketAddr;

@@ -8,7 +8,7 @@ use Rattle.std.specs.declared.net.socket_addr.SocketAddr.TheVariants.{V4, V6}
 use Rattle.std.specs.declared.time.Duration.{Duration}
 use Rattle.reg_wire.specs.Exchange.{Call}
 use Rattle.reg_http.specs.Meeting.{ServesInTurn}
-use Rattle.reg_http.specs.declared.response.Response.{Response}
+use Rattle.reg_wire.specs.declared.response.Response.{Response}
 use Rattle.reg_program.specs.declared.faults.Undone.{Undone}
 
 -- the address is that of this port of loopback, 127.0.0.1

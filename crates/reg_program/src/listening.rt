@@ -1,7 +1,7 @@
 //! The job that serves an office over HTTP.
 ghost use Rattle.std.specs.Prelude.{IfOk};
 ghost use Rattle.reg_http.specs.Meeting.{ServesInTurn};
-ghost use Rattle.reg_http.specs.Serving.{AnswersOver};
+ghost use Rattle.reg_wire.specs.Serving.{AnswersOver};
 ghost use Rattle.reg_program.specs.Serving.{IsLoopback, IsListener, IsPatience, ServesOrStays};
 
 use crate::asking::print;
@@ -10,7 +10,7 @@ use crate::faults::{JobFailure, Undone};
 use crate::log::Lines;
 use reg_http::dates::Dates;
 use reg_http::listener::{PATIENCE_SECONDS, serve_listener};
-use reg_http::log::Unlogged;
+use reg_wire::log::Unlogged;
 use reg_http::peers::{Peers, Ports};
 use reg_keeper::keeper::Keeper;
 use reg_office::Office;

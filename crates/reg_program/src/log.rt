@@ -2,7 +2,7 @@
 ghost use Rattle.std.specs.Prelude.{◌<◌};
 
 use jiff::Timestamp;
-use reg_http::log::{Log, Sent};
+use reg_wire::log::{Log, Sent};
 use reg_parse::shown::Shown;
 use std::alloc::{AllocError, Global};
 use std::io::Write;

@@ -1,7 +1,7 @@
 //! Offices in what keeps them at paths: one is opened, has a task carried out, and is closed.
 ghost use Rattle.std.specs.Prelude.{MatchResult};
 ghost use Rattle.reg_core.specs.View.{published};
-ghost use Rattle.reg_http.specs.Serving.{AnswersOver};
+ghost use Rattle.reg_wire.specs.Serving.{AnswersOver};
 ghost use Rattle.reg_program.specs.Carrying.{CarriesOut, LooksInto};
 ghost use Rattle.reg_program.specs.Checking.{ChecksAt};
 ghost use Rattle.reg_program.specs.Publishing.{PublishesNow};

@@ -6,7 +6,7 @@ ghost use Rattle.reg_program.specs.Doing.{Does};
 ghost use Rattle.reg_program.specs.Founding.{IsReady, IsUnready};
 ghost use Rattle.reg_program.specs.Publishing.{PublishesNow};
 ghost use Rattle.reg_program.specs.Serving.{ServesOrStays};
-ghost use Rattle.reg_http.specs.Serving.{AnswersOver};
+ghost use Rattle.reg_wire.specs.Serving.{AnswersOver};
 ghost use Rattle.reg_program.specs.Tasks.{Did, IfPublishes, IfServes, begins, looks_on, streams_by};
 ghost use Rattle.reg_program.specs.declared.faults.JobFailure.TheVariants as failure;
 

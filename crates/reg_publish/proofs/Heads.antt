@@ -2,7 +2,7 @@
 use Rattle.std.proofs.Common.{◌≡◌, ◌++◌, ◌∙◌, ℕ, List, codes, length, ap, append_assoc}
 use Rattle.std.specs.Prelude.{Some}
 use Rattle.std.specs.Fmt.{decimal}
-use Rattle.reg_http.specs.Response.{field_line, head_text, line_end, media_type, reason, status_line}
+use Rattle.reg_wire.specs.Response.{field_line, head_text, line_end, media_type, reason, status_line}
 use Rattle.reg_print.specs.declared.answer.Format.{Format}
 use Rattle.reg_ranges.specs.Numbers.{read_number}
 use Rattle.reg_ranges.proofs.Numerals.{reads_decimals}

@@ -1,7 +1,7 @@
 -- The bytes of an answer, and the answer that they are.
 use Rattle.std.specs.Prelude.{◌≡◌, ◌<◌, ◌++◌, ℕ, List, length, codes, Option, IfSome}
 use Rattle.std.specs.Fmt.{decimal}
-use Rattle.reg_http.specs.Response.{field_line, head_text, line_end, media_type}
+use Rattle.reg_wire.specs.Response.{field_line, head_text, line_end, media_type}
 use Rattle.reg_print.specs.declared.answer.Format.{Format}
 
 -- the bytes are all that there are, where those are known

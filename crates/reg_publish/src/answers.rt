@@ -2,12 +2,12 @@
 //! office's.
 ghost use Rattle.std.specs.Prelude.{◌≡◌, ◌+◌, ◌<◌, ◌≤◌, ◌++◌, true, IfOk, IfSome, codes, length};
 ghost use Rattle.std.specs.Fmt.{decimal};
-ghost use Rattle.reg_http.specs.Response.{field_line, media_type, reason, status_line};
+ghost use Rattle.reg_wire.specs.Response.{field_line, media_type, reason, status_line};
 ghost use Rattle.reg_print.specs.Comparing.{Leaves};
 ghost use Rattle.reg_publish.specs.Answers.{AreAll, AreMore, answer_text, end_of_head};
 
 use crate::unpublished::{Unpublished, unread};
-use reg_http::response::reason;
+use reg_wire::response::reason;
 use reg_print::answer::Format;
 use reg_ranges::number::read_number;
 use std::alloc::Global;

@@ -1,8 +1,10 @@
 pub mod AlikeLines
+pub mod AlikeRequests
 pub mod AnswerLines
 pub mod AskForms
 pub mod AskText
 pub mod Calls
+pub mod Exchanges
 pub mod LineSoFar
 pub mod ListedMembers
 pub mod Moments
@@ -12,6 +14,8 @@ pub mod Runs
 pub mod ScriptRun
 pub mod Sent
 pub mod SoFar
+pub mod StandSoFar
+pub mod StorageText
 pub mod StruckLines
 pub mod TreeText
 pub mod WrittenLines

@@ -1,7 +1,10 @@
-//! Laws of calls and their answers, over their definitions. They speak of no carrier: lines and
-//! whatever else carries calls have theirs by these.
+//! Laws of calls and their answers, over their definitions, and of requests over HTTP, by those of
+//! calls. Lines of scripts have theirs by those of calls too.
 ghost use Rattle.reg_wire.specs.Laws.{AsksReadBack, CallsAreAnsweredAlike, CallsRunAsTheModel, UnseenCallsLeaveNoTrace};
+ghost use Rattle.reg_wire.specs.RequestLaws.{RequestsAreAnsweredAlike, RequestsRunAsTheModel, RequestsStandSoFar, UnseenRequestsLeaveNoTrace};
 
+pub use reg_head::laws::{bytes_ask_one_thing, readers_ask_by_all_their_bytes};
+use reg_keeper::keeper::Keeper;
 pub use reg_parse::laws::{commands_have_form, files_have_own_faults};
 pub use reg_print::laws::rows_cover_ranges;
 
@@ -34,4 +37,44 @@ pub fn unseen_calls_leave_no_trace()
     ensures { UnseenCallsLeaveNoTrace }
 {
     reg_office::laws::struck();
+}
+
+/// Isolation, to the byte: two well kept offices that show whoever the bytes of a request come
+/// from, who is no clerk, the same view answer them at the same moment by the same bytes, and then
+/// show it the same view again. Answers 503 `storage` are left out.
+pub fn requests_are_answered_alike()
+    ensures { RequestsAreAnsweredAlike }
+{
+    bytes_ask_one_thing();
+    calls_are_answered_alike();
+}
+
+/// Without those that were answered 503 `storage`, requests in turn are answered as the model's run
+/// of their events, with what is wrong with other bytes between, and so is the last world.
+pub fn requests_run_as_the_model()
+    ensures { RequestsRunAsTheModel }
+{
+    calls_run_as_the_model();
+}
+
+/// What is promised of requests in turn stands under the premise of the store right after them,
+/// whatever comes later: the first of them, as many as one likes, were answered in turn as the
+/// contents are, and so as the model's run of their events, where the premise is true then. It is,
+/// where it was at the beginning, the store failed at none of them and the device behind it was
+/// sound until then; want of memory ends nothing. `serve_listener` changes an office by such
+/// requests.
+pub fn requests_stand_so_far<K: Keeper>()
+    ensures { RequestsStandSoFar K.world K.Holds K.Sound K.FAILS }
+{
+    calls_run_as_the_model();
+}
+
+/// Striking, to the byte: take the requests whose events are about requests that an account does
+/// not see out of a list. The others are answered by the same bytes, but where an answer lists
+/// requests of others; and there by the same bytes but for the rows of these requests. At the end
+/// both show the account the same. Answers 503 `storage` are left out.
+pub fn unseen_requests_leave_no_trace()
+    ensures { UnseenRequestsLeaveNoTrace }
+{
+    unseen_calls_leave_no_trace();
 }

@@ -1,7 +1,7 @@
 use Rattle.std.proofs.Common.{ℕ, List, Option, ap, ◌∙◌, subst}
 use Rattle.reg_http.specs.Listening.{count_of}
 use Rattle.reg_http.specs.Meeting.{EndsOneMore, Meets}
-use Rattle.reg_http.specs.Serving.{AnswersOver}
+use Rattle.reg_wire.specs.Serving.{AnswersOver}
 use Rattle.reg_http.proofs.Meetings.{count_is, met}
 use Rattle.reg_http.proofs.listener.exchange.Goals as goal
 

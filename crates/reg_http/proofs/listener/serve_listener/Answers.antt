@@ -1,5 +1,5 @@
 use Rattle.std.proofs.Common.{arith}
-use Rattle.reg_http.specs.Serving.{AnswersOver}
+use Rattle.reg_wire.specs.Serving.{AnswersOver}
 use Rattle.reg_http.proofs.Meetings.{as_turns, served_then}
 use Rattle.reg_http.proofs.Turns.{turns_then}
 use Rattle.reg_http.proofs.listener.serve_listener.Goals as goal

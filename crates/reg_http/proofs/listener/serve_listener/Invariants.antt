@@ -1,7 +1,7 @@
 use Rattle.std.proofs.Common.{◌≤◌}
 use Rattle.reg_http.specs.Listening.{ChangesByTurns}
 use Rattle.reg_http.specs.Meeting.{ServesInTurn}
-use Rattle.reg_http.specs.Serving.{AnswersOver}
+use Rattle.reg_wire.specs.Serving.{AnswersOver}
 use Rattle.reg_http.proofs.listener.serve_listener.Given as goal
 
 abbrev pub invariant-loop : goal.invariant-loop

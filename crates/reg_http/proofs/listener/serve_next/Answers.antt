@@ -1,6 +1,6 @@
 use Rattle.std.proofs.Common.{ℕ, List, Option, Some, subst, sym}
 use Rattle.reg_http.specs.Meeting.{Comes, Exchanges}
-use Rattle.reg_http.specs.Serving.{AnswersOver}
+use Rattle.reg_wire.specs.Serving.{AnswersOver}
 use Rattle.reg_http.proofs.Meetings.{a_meeting, no_meeting}
 use Rattle.reg_http.proofs.listener.serve_next.Goals as goal
 

@@ -3,9 +3,9 @@ use crate::tests::exercise::{Exercise, over_lists};
 use crate::tests::http::served::Served;
 use reg_http::known::{OneCaller, OneDate};
 use reg_http::listener::Connections;
-use reg_http::log::Sent;
 use reg_keeper::keeper::Keeper;
 use reg_testing::facts::ensure;
+use reg_wire::log::Sent;
 use std::test::Fail;
 use std::time::Duration;
 

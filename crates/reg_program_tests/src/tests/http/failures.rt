@@ -3,10 +3,10 @@ use crate::tests::exercise::{Exercise, over_lists};
 use crate::tests::http::asking::{founded, opened};
 use crate::tests::http::messages::{HEAD, MADE, SHORT, SUBMISSION, SUBMISSION_HEAD, THERE};
 use crate::tests::http::served::Served;
-use reg_http::wire_fault::WireFault;
 use reg_keeper::keeper::Keeper;
 use reg_testing::devices::{FailsAfter, FailsBefore, GivesOne};
 use reg_testing::facts::ensure;
+use reg_wire::wire_fault::WireFault;
 use std::alloc::{AllocError, Global};
 use std::test::Fail;
 

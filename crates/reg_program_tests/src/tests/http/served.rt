@@ -2,15 +2,14 @@
 use crate::tests::http::messages::request;
 use reg_http::dates::Dates;
 use reg_http::listener::{Connections, serve_listener};
-use reg_http::log::Unlogged;
 use reg_http::peers::Peers;
-use reg_http::serving::serve_one;
-use reg_http::watch::Watch;
-use reg_http::wire_fault::WireFault;
 use reg_keeper::keeper::Keeper;
 use reg_office::Office;
 use reg_parse::route::Routes;
 use reg_testing::facts::ensure;
+use reg_wire::log::Unlogged;
+use reg_wire::serving::serve_one;
+use reg_wire::wire_fault::WireFault;
 use std::alloc::{AllocError, Global};
 use std::io::{Read, Write};
 use std::test::Fail;
@@ -90,17 +89,7 @@ impl<K: Keeper + Drop> Served<K> {
         reader: &mut R,
         writer: &mut W,
     ) -> Result<u16, WireFault> {
-        let mut watch = Watch::new();
-        serve_one(
-            alloc,
-            &mut self.office,
-            &self.routes,
-            MOMENT,
-            reader,
-            writer,
-            &mut watch,
-            &mut Unlogged,
-        )
+        serve_one(alloc, &mut self.office, MOMENT, reader, writer)
     }
 
     /// Serves so many connections, at these dates.

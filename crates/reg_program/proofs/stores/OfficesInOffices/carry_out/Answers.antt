@@ -1,7 +1,7 @@
 use Rattle.std.proofs.Common.{Result}
 use Rattle.std.specs.Prelude.{⊤}
 use Rattle.reg_core.specs.View.{published}
-use Rattle.reg_http.specs.Serving.{AnswersOver}
+use Rattle.reg_wire.specs.Serving.{AnswersOver}
 use Rattle.reg_program.specs.Publishing.{PublishesNow}
 use Rattle.reg_program.specs.Serving.{ServesOrStays}
 use Rattle.reg_program.specs.Tasks.{Did, IfPublishes, IfServes, begins, streams_by}

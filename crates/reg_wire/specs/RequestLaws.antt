@@ -13,10 +13,10 @@ use Rattle.reg_wire.specs.Exchange.{Call, PremiseGoesOn, events_of, answers_with
 use Rattle.reg_wire.specs.Laws.{LookAlike, replies_at}
 use Rattle.reg_head.specs.Request.{Request, BytesAsk}
 use Rattle.reg_head.specs.declared.malformed.Malformed.{Malformed}
-use Rattle.reg_http.specs.Response.{status, response_text, reply_text}
-use Rattle.reg_http.specs.Serving.{Answers, AnswersOver, Exchange, Lead, Responds, asker, call_at, storage}
-use Rattle.reg_http.specs.declared.response.Response.{Response}
-use Rattle.reg_http.specs.declared.response.Response.TheVariants as response
+use Rattle.reg_wire.specs.Response.{status, response_text, reply_text}
+use Rattle.reg_wire.specs.Serving.{Answers, AnswersOver, Exchange, Lead, Responds, asker, call_at, storage}
+use Rattle.reg_wire.specs.declared.response.Response.{Response}
+use Rattle.reg_wire.specs.declared.response.Response.TheVariants as response
 
 -- ---- Isolation
 

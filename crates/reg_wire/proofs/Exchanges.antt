@@ -12,10 +12,10 @@ use Rattle.reg_wire.specs.Exchange.{Call, spelled, answer_for, answer_to, world_
 use Rattle.reg_wire.specs.Laws.{CallsRunAsTheModel, UnseenCallsLeaveNoTrace}
 use Rattle.reg_head.specs.Request.{Request}
 use Rattle.reg_head.specs.declared.malformed.Malformed.{Malformed}
-use Rattle.reg_http.specs.Laws.{Exchanged, is_storage, faultless, call_in, calls_of, next_told, told_with, told_of, RequestsRunAsTheModel, AreWrittenAlike, UnseenRequestsLeaveNoTrace}
-use Rattle.reg_http.specs.Response.{reply_text}
-use Rattle.reg_http.specs.Serving.{Answers, Exchange, Responds, call_at}
-use Rattle.reg_http.specs.declared.response.Response.TheVariants as response
+use Rattle.reg_wire.specs.RequestLaws.{Exchanged, is_storage, faultless, call_in, calls_of, next_told, told_with, told_of, RequestsRunAsTheModel, AreWrittenAlike, UnseenRequestsLeaveNoTrace}
+use Rattle.reg_wire.specs.Response.{reply_text}
+use Rattle.reg_wire.specs.Serving.{Answers, Exchange, Responds, call_at}
+use Rattle.reg_wire.specs.declared.response.Response.TheVariants as response
 
 -- answered as the calls are
 record OfCalls (first last : World) (xs : List Exchange) : Type 0 where

@@ -1,5 +1,5 @@
-use Rattle.reg_http.proofs.StandSoFar.{stand_so_far}
-use Rattle.reg_http.proofs.laws.requests_stand_so_far.Goals as goal
+use Rattle.reg_wire.proofs.StandSoFar.{stand_so_far}
+use Rattle.reg_wire.proofs.laws.requests_stand_so_far.Goals as goal
 
 pub returns : goal.returns
 returns g c =

@@ -12,9 +12,9 @@ use Rattle.reg_wire.specs.declared.wire_fault.WireFault.TheVariants as fault
 use Rattle.reg_head.specs.Reading.{IsAsked, IsUnfinished}
 use Rattle.reg_head.specs.Request.{Request, BytesAsk}
 use Rattle.reg_head.specs.declared.malformed.Malformed.{Malformed}
-use Rattle.reg_http.specs.Response.{status, response_text}
-use Rattle.reg_http.specs.declared.response.Response.{Response}
-use Rattle.reg_http.specs.declared.response.Response.TheVariants as response
+use Rattle.reg_wire.specs.Response.{status, response_text}
+use Rattle.reg_wire.specs.declared.response.Response.{Response}
+use Rattle.reg_wire.specs.declared.response.Response.TheVariants as response
 
 -- ---- What is answered
 

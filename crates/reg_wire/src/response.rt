@@ -1,7 +1,7 @@
 //! Answers as HTTP/1.1 writes them.
 ghost use Rattle.std.specs.Prelude.{◌≡◌, ◌++◌, ◌<◌, ◌^◌, IfOk, OnOk, length, string_bytes};
 ghost use Rattle.std.specs.Fmt.{decimal};
-ghost use Rattle.reg_http.specs.Response.{malformed_status, malformed_body, status, media_type, reason, status_line, field_line, head_text, response_text, reply_text};
+ghost use Rattle.reg_wire.specs.Response.{malformed_status, malformed_body, status, media_type, reason, status_line, field_line, head_text, response_text, reply_text};
 
 use reg_head::malformed::Malformed;
 use reg_print::answer::{Answer, Format, body_of};

@@ -1,14 +1,14 @@
 //! Writes an answer.
 ghost use Rattle.std.specs.Prelude.{◌≡◌, ◌≢◌, true, false, IfOk, IfErr};
 ghost use Rattle.std.specs.Io.KnownBytes.{Appends};
-ghost use Rattle.reg_http.specs.Response.{status, response_text};
-ghost use Rattle.reg_http.specs.Sending.{IsUnsent};
-ghost use Rattle.reg_http.specs.Serving.{storage};
+ghost use Rattle.reg_wire.specs.Response.{status, response_text};
+ghost use Rattle.reg_wire.specs.Sending.{IsUnsent};
+ghost use Rattle.reg_wire.specs.Serving.{storage};
 
 use crate::response::{Response, response_bytes};
+use crate::sending::send;
+use crate::wire_fault::WireFault;
 use reg_print::answer::Answer;
-use reg_wire::sending::send;
-use reg_wire::wire_fault::WireFault;
 use std::alloc::Global;
 use std::io::Write;
 

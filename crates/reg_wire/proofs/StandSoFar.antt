@@ -11,11 +11,11 @@ use Rattle.reg_wire.specs.Exchange.{Call, FaultOf, GivesAnswer, IsNotStorage, Is
 use Rattle.reg_wire.specs.Laws.{CallsRunAsTheModel}
 use Rattle.reg_head.specs.Request.{Request}
 use Rattle.reg_head.specs.declared.malformed.Malformed.{Malformed}
-use Rattle.reg_http.specs.Laws.{Exchanged, RequestsStandSoFar, is_storage, told_of}
-use Rattle.reg_http.specs.Serving.{Answers, AnswersOver, Exchange, Lead, Responds, call_at, given_response, storage}
-use Rattle.reg_http.specs.declared.response.Response.{Response}
-use Rattle.reg_http.specs.declared.response.Response.TheVariants as response
-use Rattle.reg_http.proofs.Exchanges.{requests_of_model}
+use Rattle.reg_wire.specs.RequestLaws.{Exchanged, RequestsStandSoFar, is_storage, told_of}
+use Rattle.reg_wire.specs.Serving.{Answers, AnswersOver, Exchange, Lead, Responds, call_at, given_response, storage}
+use Rattle.reg_wire.specs.declared.response.Response.{Response}
+use Rattle.reg_wire.specs.declared.response.Response.TheVariants as response
+use Rattle.reg_wire.proofs.Exchanges.{requests_of_model}
 
 answer_is_no_storage : (a : Answer) → IsNotStorage a → response.Answer a ≢ storage
 answer_is_no_storage (answer.Reply reply) h same = false≢true (ap is_storage same)

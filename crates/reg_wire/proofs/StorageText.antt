@@ -4,8 +4,8 @@ use Rattle.std.specs.Prelude.{codes}
 use Rattle.std.specs.Fmt.{digits}
 use Rattle.serde_json.proofs.OnLiterals.{serde_json_on_literals}
 use Rattle.reg_print.specs.Answer.{body_text}
-use Rattle.reg_http.specs.Response.{head_text, response_text}
-use Rattle.reg_http.specs.Serving.{storage}
+use Rattle.reg_wire.specs.Response.{head_text, response_text}
+use Rattle.reg_wire.specs.Serving.{storage}
 
 abbrev pub storage_text : List ℕ
 storage_text =

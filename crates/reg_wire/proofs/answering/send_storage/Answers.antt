@@ -1,6 +1,6 @@
 use Rattle.std.proofs.Common.{refl, sym}
-use Rattle.reg_http.proofs.StorageText.{storage_is}
-use Rattle.reg_http.proofs.sending.send_storage.Goals as goal
+use Rattle.reg_wire.proofs.StorageText.{storage_is}
+use Rattle.reg_wire.proofs.answering.send_storage.Goals as goal
 
 pub returns-in-Ok-clause-ok : goal.returns-in-Ok-clause-ok
 returns-in-Ok-clause-ok g c = (refl, rw (sym storage_is) c.in-Ok.ensures.ok)

@@ -8,8 +8,8 @@ use Rattle.reg_print.specs.declared.answer.Format.{Format}
 use Rattle.reg_print.specs.declared.answer.Format.TheVariants as formats
 use Rattle.reg_head.specs.declared.malformed.Malformed.{Malformed}
 use Rattle.reg_head.specs.declared.malformed.Malformed.TheVariants as malformed
-use Rattle.reg_http.specs.declared.response.Response.{Response}
-use Rattle.reg_http.specs.declared.response.Response.TheVariants as response
+use Rattle.reg_wire.specs.declared.response.Response.{Response}
+use Rattle.reg_wire.specs.declared.response.Response.TheVariants as response
 
 -- ---- Status, media type and body
 

@@ -1,15 +1,17 @@
 //! Serves one request.
 ghost use Rattle.std.specs.Prelude.{IfOk, IfErr};
-ghost use Rattle.reg_http.specs.Serving.{AnswersOver, IsAnswered, IsServed, FailsBy, call_at};
-ghost use Rattle.reg_http.specs.Meeting.{IsSentBy};
-ghost use Rattle.reg_http.specs.Responding.{IsUnanswered};
-ghost use Rattle.reg_http.specs.Watched.{IsWatchedOver};
+ghost use Rattle.reg_wire.specs.Serving.{AnswersOver, IsAnswered, IsServed, FailsBy, call_at};
+ghost use Rattle.reg_wire.specs.Sending.{IsSentBy};
+ghost use Rattle.reg_wire.specs.Responding.{IsUnanswered};
+ghost use Rattle.reg_wire.specs.Watched.{IsWatchedOver};
 ghost use Rattle.reg_head.specs.Reading.{IsMessage, LiesInBytes};
 ghost use Rattle.reg_head.specs.Request.{Request};
 
-use crate::log::Log;
+use crate::answering::send_response;
+use crate::exchange::{Call, answer_to};
+use crate::log::{Log, Unlogged};
 use crate::response::Response;
-use crate::sending::send_response;
+use crate::wire_fault::WireFault;
 use reg_head::message::Message;
 use reg_head::reading::read_request;
 use reg_head::unread::Unread;
@@ -18,14 +20,11 @@ use reg_keeper::keeper::Keeper;
 use reg_office::Office;
 use reg_parse::route::Routes;
 use reg_print::answer::Answer;
-use reg_wire::exchange::{Call, answer_to};
-use reg_wire::wire_fault::WireFault;
 use std::alloc::Global;
 use std::io::{Read, Write};
 
 /// Reads one request (RFC 9112), answers it, and gives the status of the answer. The moment is in
-/// seconds since 1970-01-01T00:00:00Z. The log is told what is asked, where that could be read: the
-/// method, and what may be shown of the path.
+/// seconds since 1970-01-01T00:00:00Z.
 ///
 /// A request is answered as its call is; one at which the store or memory failed by
 /// `503 {"error":"storage"}`, with the content of the office unchanged. Bytes that are no request
@@ -34,19 +33,16 @@ use std::io::{Read, Write};
 /// tested.
 ///
 /// `Read` where a read failed before the request was whole, where it could still become so: nothing
-/// was written, and nothing has changed; `watch` tells that a read failed. `Write(n)` where a write
-/// failed or took nothing, which is tested: exactly the first n bytes of the answer went out, and
-/// the request was carried out. `Memory` where there was none to hold the request, or its answer:
-/// nothing was written, and the request was carried out or nothing has changed.
-pub fn serve_one<K: Keeper, R: Read, W: Write, L: Log>(
+/// was written, and nothing has changed. `Write(n)` where a write failed or took nothing, which is
+/// tested: exactly the first n bytes of the answer went out, and the request was carried out.
+/// `Memory` where there was none for the routes, to hold the request, or to make its answer: nothing
+/// was written, and the request was carried out or nothing has changed.
+pub fn serve_one<K: Keeper, R: Read, W: Write>(
     alloc: Global,
     office: &mut Office<K>,
-    routes: &Routes,
     moment: u64,
     reader: &mut R,
     writer: &mut W,
-    watch: &mut Watch,
-    log: &mut L,
 ) -> Result<u16, WireFault>
     ensures ok { IfOk result (λ status. IsServed (AnswersOver K.world K.Holds K.Sound K.FAILS)
         moment office.old office.new (R.remaining reader.old) (R.remaining reader.new)
@@ -54,14 +50,23 @@ pub fn serve_one<K: Keeper, R: Read, W: Write, L: Log>(
     ensures err { IfErr result (λ fault. FailsBy (AnswersOver K.world K.Holds K.Sound K.FAILS)
         moment fault office.old office.new (R.remaining reader.old) (R.remaining reader.new)
         (W.contents writer.old) (W.contents writer.new)) }
-    ensures watched { IsWatchedOver watch.old watch.new result }
 {
-    let response = respond(alloc, office, routes, moment, reader, watch, log)?;
+    let routes = Routes::new(alloc)?;
+    let mut watch = Watch::new();
+    let response = respond(
+        alloc,
+        office,
+        &routes,
+        moment,
+        reader,
+        &mut watch,
+        &mut Unlogged,
+    )?;
     send_response(alloc, writer, response)
 }
 
-/// Writes what is to be told, if anything is.
-pub(crate) fn send_told<W: Write>(
+/// Writes what is to be told, if anything is, and gives its status.
+pub fn send_told<W: Write>(
     alloc: Global,
     writer: &mut W,
     told: Result<Response, WireFault>,
@@ -74,8 +79,9 @@ pub(crate) fn send_told<W: Write>(
     }
 }
 
-/// Reads a request and answers it, without writing.
-pub(crate) fn respond<K: Keeper, R: Read, L: Log>(
+/// Reads a request and answers it, without writing. The log is told what is asked, where that could
+/// be read: the method, and what may be shown of the path. The watch tells whether a read failed.
+pub fn respond<K: Keeper, R: Read, L: Log>(
     alloc: Global,
     office: &mut Office<K>,
     routes: &Routes,

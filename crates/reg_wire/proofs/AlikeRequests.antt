@@ -7,11 +7,11 @@ use Rattle.reg_office.specs.Caller.{caller_of}
 use Rattle.reg_wire.specs.Laws.{CallsAreAnsweredAlike, LookAlike}
 use Rattle.reg_head.specs.Request.{Request, AskOneThing}
 use Rattle.reg_head.specs.declared.malformed.Malformed.{Malformed}
-use Rattle.reg_http.specs.Laws.{RequestsAreAnsweredAlike}
-use Rattle.reg_http.specs.Response.{status, response_text}
-use Rattle.reg_http.specs.Serving.{Answers, Responds, asker, call_at, storage}
-use Rattle.reg_http.specs.declared.response.Response.{Response}
-use Rattle.reg_http.specs.declared.response.Response.TheVariants as response
+use Rattle.reg_wire.specs.RequestLaws.{RequestsAreAnsweredAlike}
+use Rattle.reg_wire.specs.Response.{status, response_text}
+use Rattle.reg_wire.specs.Serving.{Answers, Responds, asker, call_at, storage}
+use Rattle.reg_wire.specs.declared.response.Response.{Response}
+use Rattle.reg_wire.specs.declared.response.Response.TheVariants as response
 
 module _ (isolation : CallsAreAnsweredAlike) (w v now then : World) (moment : ℕ)
     (told other : Response) (no_fault : told ≢ storage) (no_other_fault : other ≢ storage) where

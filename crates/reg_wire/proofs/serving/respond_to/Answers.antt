@@ -1,8 +1,8 @@
 use Rattle.std.proofs.Common.{Ok, Err, refl, subst}
 use Rattle.reg_head.specs.Request.{Request}
-use Rattle.reg_http.specs.Serving.{AnswersOver, call_at, storage}
-use Rattle.reg_http.specs.declared.response.Response.TheVariants as response
-use Rattle.reg_http.proofs.serving.respond_to.Goals as goal
+use Rattle.reg_wire.specs.Serving.{AnswersOver, call_at, storage}
+use Rattle.reg_wire.specs.declared.response.Response.TheVariants as response
+use Rattle.reg_wire.proofs.serving.respond_to.Goals as goal
 
 pub returns-in-Ok : goal.returns-in-Ok
 returns-in-Ok g c request is =

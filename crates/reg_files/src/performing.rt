@@ -1,0 +1,42 @@
+//! Does the jobs of the program by the clock and the files of the system.
+ghost use Rattle.std.specs.Prelude.{◌≡◌, ◌⊎◌};
+
+use crate::Files;
+use crate::copies::FileCopies;
+use reg_http::dates::ClockDates;
+use reg_jobs::jobs::Job;
+use reg_program::console::Console;
+use reg_program::performing;
+use std::io::{Read, Write};
+
+/// Does a job over this standard input, output and error, and gives the exit status: 0, or 1 with
+/// why on standard error.
+pub fn perform<R: Read, W: Write, E: Write>(
+    rt: &HostRuntime,
+    job: Job,
+    input: &mut R,
+    output: &mut W,
+    errors: &mut E,
+) -> u8
+    ensures status { (result ≡ 0) ⊎ (result ≡ 1) }
+{
+    let mut console = Console {
+        input,
+        output,
+        errors,
+        is_watched: false,
+    };
+    perform_at(rt, job, &mut console)
+}
+
+/// Does a job at a console, and gives the exit status as `perform` does.
+pub fn perform_at<R: Read, W: Write, E: Write>(
+    rt: &HostRuntime,
+    job: Job,
+    console: &mut Console<'_, R, W, E>,
+) -> u8
+    ensures status { (result ≡ 0) ⊎ (result ≡ 1) }
+{
+    let mut dates = ClockDates { clock: rt };
+    performing::perform(rt, &mut dates, &mut Files, &FileCopies, job, console)
+}
