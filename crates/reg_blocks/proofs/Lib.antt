@@ -1,5 +1,6 @@
 pub mod InsertedPrefixes
 pub mod HexDigits
+pub mod WrittenDigits
 pub mod TextReadsBack
 pub mod EndsDecideClash
 pub mod SweptPrefix

@@ -29,21 +29,21 @@ pub(crate) fn hex_text(alloc: Global, count: usize, n: u64) -> Result<String, Al
     let mut left = count;
     while left > 0 {
         left -= 1;
-        text.push(upper_digit((n >> (4 * left)) % 16))?;
+        text.push(char::from(upper_digit((n >> (4 * left)) % 16)))?;
     }
     Ok(text)
 }
 
 /// The upper-case hexadecimal digit of a number below 16.
-fn upper_digit(n: u64) -> char
+pub(crate) fn upper_digit(n: u64) -> u8
     requires { n < 16 }
     ensures value { result ≡ digit_glyph true n }
     ensures ascii { result < 128 }
 {
     let digit = n as u8;
-    char::from(if digit < 10 {
+    if digit < 10 {
         b'0' + digit
     } else {
         b'A' + (digit - 10)
-    })
+    }
 }

@@ -4,6 +4,7 @@
 #![tactic(auto)]
 
 pub mod block;
+pub mod block_digits;
 mod digits;
 pub mod due;
 pub mod laws;

@@ -1,5 +1,5 @@
 //! The sizes of blocks.
-ghost use Rattle.std.specs.Prelude.{◌≡◌, ◌↔◌, Some};
+ghost use Rattle.std.specs.Prelude.{◌≡◌, ◌≤◌, ◌↔◌, Some};
 ghost use Rattle.reg_blocks.specs.declared.size.Size.{Size as BlockSize};
 ghost use Rattle.reg_blocks.specs.Size.{prefix_bits, address_count, blocks_in_prefix, digit_count, size_of_digits, word_of};
 
@@ -63,7 +63,8 @@ impl Size {
 
     /// How many hexadecimal digits write the prefix of a block: 6, 7 or 9.
     pub(crate) fn digit_count(self) -> usize
-        ensures { result ≡ digit_count self }
+        ensures value { result ≡ digit_count self }
+        ensures most { result ≤ 9 }
     {
         match self {
             Size::MaL => 6,

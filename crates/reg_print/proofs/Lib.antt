@@ -4,5 +4,4 @@ pub mod ListedMembers
 pub mod ListingText
 pub mod PrintedTokens
 pub mod ReadObjects
-pub mod WrittenDigits
 pub mod WrittenRecords

@@ -1,7 +1,6 @@
 //! Registries and blocks as listings: their rows, and the records that are printed of them.
 
 pub mod blocks;
-mod digits;
 pub mod registry;
 pub mod rows;
 pub mod writing;

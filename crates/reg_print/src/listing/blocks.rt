@@ -3,9 +3,9 @@ ghost use Rattle.std.specs.Prelude.{◌≡◌, ◌∷◌, IfOk, OnOk, [], codes,
 ghost use Rattle.reg_print.specs.BlockListing.{block_fields, block_header, block_listing_text};
 ghost use Rattle.reg_print.specs.Records.{Adds};
 
-use crate::listing::digits::BlockDigits;
 use crate::listing::writing::{empty, text_of, write_record};
 use csv::Writer;
+use reg_blocks::block_digits::BlockDigits;
 use reg_core::holding::Listed;
 use std::alloc::{AllocError, Global};
 use std::io::Write;

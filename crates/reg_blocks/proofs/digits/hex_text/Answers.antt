@@ -14,11 +14,11 @@ loop-left-preserved c =
     let pushed =
     c.in_ok-push.ensures.bytes
     ∙ ap (λ bytes. string_bytes c.loop-left.text ++ bytes)
-    (c.in_ok-push.ensures.ascii c.upper_digit.ensures.ascii) in
+    (c.in_ok-push.ensures.ascii (rw c.from.ensures c.upper_digit.ensures.ascii)) in
     record {
       within = omega arith;
       written =
-          written_next _ c.loop-left.left _ c.upper_digit.result (string_bytes c.loop-left.text) _
+          written_next _ c.loop-left.left _ c.from.result (string_bytes c.loop-left.text) _
           c.loop-left-test.true c.loop-left.invariant.within c.loop-left.invariant.written
-          c.upper_digit.ensures.value pushed;
+          (c.from.ensures ∙ c.upper_digit.ensures.value) pushed;
     }

@@ -1,11 +1,9 @@
 //! The digits of blocks, written in place.
-ghost use Rattle.std.specs.Prelude.{◌≡◌, ◌<◌, ◌≤◌, true};
-ghost use Rattle.std.specs.Fmt.{digit_glyph};
+ghost use Rattle.std.specs.Prelude.{◌≡◌};
 ghost use Rattle.reg_blocks.specs.Digits.{block_text};
-ghost use Rattle.reg_blocks.specs.Size.{digit_count};
 
-use reg_blocks::block::Block;
-use reg_blocks::size::Size;
+use crate::block::Block;
+use crate::digits::upper_digit;
 use std::marker::Model;
 
 /// The digits of an MA-S, whose prefix is longest.
@@ -13,7 +11,7 @@ const MOST_DIGITS: usize = 9;
 
 /// The hexadecimal digits of a block's prefix, in upper case.
 #[derive(Drop)]
-pub(crate) struct BlockDigits {
+pub struct BlockDigits {
     digits: [u8; MOST_DIGITS],
     count: usize,
 }
@@ -30,10 +28,10 @@ impl Model for BlockDigits {
 
 impl BlockDigits {
     /// The digits of this block, leading zeros included.
-    pub(crate) fn of(block: &Block) -> BlockDigits
+    pub fn of(block: &Block) -> BlockDigits
         ensures { result ≡ block_text block.now }
     {
-        let count = digit_count(block.size());
+        let count = block.size().digit_count();
         let prefix = block.prefix();
         let mut digits = [b'0'; MOST_DIGITS];
         for place in 0..count {
@@ -43,34 +41,10 @@ impl BlockDigits {
         BlockDigits { digits, count }
     }
 
-    pub(crate) fn as_slice(&self) -> &[u8]
+    /// The digits.
+    pub fn as_slice(&self) -> &[u8]
         ensures { result.now ≡ self.now }
     {
         &self.digits[..self.count]
-    }
-}
-
-/// How many digits write the prefix of a block: 6, 7 or 9.
-fn digit_count(size: Size) -> usize
-    ensures value { result ≡ digit_count size }
-    ensures most { result ≤ 9 }
-{
-    match size {
-        Size::MaL => 6,
-        Size::MaM => 7,
-        Size::MaS => MOST_DIGITS,
-    }
-}
-
-/// The upper-case hexadecimal digit of a number below 16.
-fn upper_digit(n: u64) -> u8
-    requires { n < 16 }
-    ensures { result ≡ digit_glyph true n }
-{
-    let digit = n as u8;
-    if digit < 10 {
-        b'0' + digit
-    } else {
-        b'A' + (digit - 10)
     }
 }

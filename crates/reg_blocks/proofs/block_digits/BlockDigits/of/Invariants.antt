@@ -1,6 +1,6 @@
 use Rattle.std.proofs.Common.{◌≡◌, ◌-◌, ◌*◌, ◌/◌, ◌^◌, length, take}
 use Rattle.reg_blocks.specs.Digits.{hex_digits}
-use Rattle.reg_print.proofs.listing.digits.BlockDigits.of.Given as goal
+use Rattle.reg_blocks.proofs.block_digits.BlockDigits.of.Given as goal
 
 -- the first so many digits are written
 abbrev pub invariant-loop-place : goal.invariant-loop-place

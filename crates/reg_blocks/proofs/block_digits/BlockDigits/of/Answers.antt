@@ -1,7 +1,7 @@
 use Rattle.std.proofs.Common.{◌∙◌, length-set, refl, arith}
 use Rattle.reg_blocks.specs.Digits.{hex_digits}
-use Rattle.reg_print.proofs.WrittenDigits.{digit_more}
-use Rattle.reg_print.proofs.listing.digits.BlockDigits.of.Goals as goal
+use Rattle.reg_blocks.proofs.WrittenDigits.{digit_more}
+use Rattle.reg_blocks.proofs.block_digits.BlockDigits.of.Goals as goal
 
 pub loop-place-init : goal.loop-place-init
 unfolding hex_digits
@@ -18,5 +18,5 @@ loop-place-preserved c =
       written =
           digit_more digits c.digit_count-count.result place c.prefix-prefix.result digit
           c.loop-place-test.true (omega (arith, c.digit_count-count.ensures.most))
-          so_far.written c.upper_digit.ensures;
+          so_far.written c.upper_digit.ensures.value;
     }
