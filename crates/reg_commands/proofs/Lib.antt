@@ -4,6 +4,7 @@ pub mod Counted
 pub mod Decided
 pub mod Digests
 pub mod Pages
+pub mod PublishedRows
 pub mod Requests
 pub mod Rows
 pub mod Selected

@@ -6,7 +6,7 @@ ghost use Rattle.reg_core.specs.View.{published};
 ghost use Rattle.reg_core.specs.declared.ask.Ask.TheVariants as asks;
 ghost use Rattle.reg_keeper.specs.Keeper.{Selects};
 
-use crate::decisions::Ground;
+use crate::decisions::FoundGround;
 use reg_blocks::block::Block;
 use reg_core::ask::{Ask, BlockAsk, Want};
 use reg_core::entry::Entry;
@@ -55,10 +55,10 @@ impl GroundRows {
     }
 
     /// The rows as a decision takes them.
-    pub fn ground(&self) -> Ground<'_>
+    pub fn ground(&self) -> FoundGround<'_>
         ensures { seen result ≡ self.now }
     {
-        Ground {
+        FoundGround {
             table: self.table.as_ref(),
             entry: self.entry.as_ref(),
             least: self.least,

@@ -6,7 +6,7 @@ ghost use Rattle.reg_commands.specs.Performs.{Performs};
 ghost use Rattle.reg_commands.specs.Rows.{marked_row};
 
 use crate::carrying::conclude;
-use crate::decisions::decide_private;
+use crate::decisions::decide_listing;
 use crate::stop::Stop;
 use reg_blocks::block::Block;
 use reg_core::holding::Holding;
@@ -34,7 +34,7 @@ pub fn set_listing<K: Keeper>(
         (answer_to_account account.now (command.SetListing block.now private)) }
 {
     let held = keeper.holding(account, block)?.ok_or(Refusal::Holding)?;
-    let decision = decide_private(&held, private);
+    let decision = decide_listing(&held, private);
     let row = marked(held, private);
     Ok(Told::Held(conclude(keeper, Ok(row), decision)?))
 }

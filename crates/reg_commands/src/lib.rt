@@ -15,6 +15,7 @@ mod digest;
 pub mod expert;
 mod ground;
 mod holdings;
+pub mod laws;
 pub mod public;
 mod registers;
 pub mod stop;

@@ -112,7 +112,7 @@ module _ (registry : List ℕ) (m : FinMap place_cmp Registration) where
       (values_below k ks own.0 sorted.0 own.1, rising ks sorted.1 own.1)
 
   -- the values of the registry ascend
-  values_ascend : IsStrictlyIncreasing (values_in registry m)
+  pub values_ascend : IsStrictlyIncreasing (values_in registry m)
   values_ascend =
       let own = entries_of registry m in
       subst IsStrictlyIncreasing (map-map (λ k. k.1) (λ e. e.0) (entries own))

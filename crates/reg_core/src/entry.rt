@@ -15,7 +15,7 @@ pub struct Registration {
 }
 
 /// An entry of a registry: a value that was given.
-#[derive(Drop)]
+#[derive(Clone, Drop)]
 pub struct Entry {
     pub registry: Name,
     pub value: u32,
@@ -46,6 +46,13 @@ impl Registration {
 impl Entry {
     ghost use Rattle.reg_core.specs.declared.request.Given.TheVariants.{Value};
     ghost use Rattle.reg_core.specs.declared.request.State.TheVariants.{Approved};
+
+    /// An equal entry.
+    pub fn copy(&self) -> Result<Self, AllocError>
+        ensures { IfOk result (λ e. e ≡ self.now) }
+    {
+        self.clone()
+    }
 
     /// The state of a request that was given this entry.
     pub fn approval(&self) -> State

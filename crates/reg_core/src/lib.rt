@@ -25,3 +25,5 @@ pub mod rows;
 pub mod text;
 pub mod told;
 pub mod wire_refusal;
+
+pub use case_file::CaseFile as File;

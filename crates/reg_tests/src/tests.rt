@@ -1,4 +1,5 @@
 //! The tests, and what they share.
+mod asks;
 mod blocks;
 mod digits;
 mod early;

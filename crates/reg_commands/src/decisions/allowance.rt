@@ -28,9 +28,10 @@ use reg_ranges::range::Range;
 use reg_ranges::requirements::{missing, needs_expert};
 use reg_ranges::table::RangeTable;
 
-/// The published rows that an ask needs.
+/// What an ask needs of the published rows, found already: no list is gone through for it. An office
+/// has the last two from what it keeps of free places.
 #[derive(Clone, Copy)]
-pub struct Ground<'a> {
+pub struct FoundGround<'a> {
     /// The ranges of the registry that the ask names, if there is one.
     pub table: Option<&'a RangeTable>,
     /// The entry at the value that the ask names, if it names one and there is one.
@@ -52,12 +53,12 @@ pub struct Allowance<'a> {
     pub needs_advice: bool,
 }
 
-/// What an ask of an account would be given now, or the first refusal that it meets: `Registry`,
-/// `Range`, `Policy`, `Early` where it asks for an early allocation or its renewal, `Evidence` with
-/// its item; then, of a new entry, `Taken` or `Exhausted`, and of one that stands `Entry`,
-/// `Permanent` or, of a renewal, `Renewed`; for a block only `Exhausted`. Other requests are not
-/// looked at, and no memory is taken.
-pub fn check_ask<'a>(account: &'a Account, ask: &'a Ask, rows: Ground<'a>) -> Result<Given, Refusal>
+/// What an ask of an account is given by what is found for it, or the first refusal that it meets.
+pub fn given_for<'a>(
+    account: &'a Account,
+    ask: &'a Ask,
+    rows: FoundGround<'a>,
+) -> Result<Given, Refusal>
     ensures { result ≡ allowed_on (seen rows.entry) account.now ask.now }
 {
     let allowance = allowance_for(account, ask, rows)?;
@@ -68,7 +69,7 @@ pub fn check_ask<'a>(account: &'a Account, ask: &'a Ask, rows: Ground<'a>) -> Re
 pub fn allowance_for<'a>(
     account: &'a Account,
     ask: &'a Ask,
-    rows: Ground<'a>,
+    rows: FoundGround<'a>,
 ) -> Result<Allowance<'a>, Refusal>
     ensures { result_map_both allowance_view (λ refusal. refusal) result
         ≡ allowance_on (seen rows.entry) account.now ask.now }
@@ -85,7 +86,7 @@ pub fn allowance_for<'a>(
 fn code_allowance<'a>(
     account: &'a Account,
     code: &'a CodeAsk,
-    rows: Ground<'_>,
+    rows: FoundGround<'_>,
 ) -> Result<Allowance<'a>, Refusal>
     ensures { result_map_both allowance_view (λ refusal. refusal) result
         ≡ code_allowance (seen rows.entry) account.now code.now }
@@ -111,7 +112,7 @@ fn code_allowance<'a>(
 fn early_allowance<'a>(
     account: &'a Account,
     early: &'a EarlyAsk,
-    rows: Ground<'_>,
+    rows: FoundGround<'_>,
 ) -> Result<Allowance<'a>, Refusal>
     ensures { result_map_both allowance_view (λ refusal. refusal) result
         ≡ early_allowance (seen rows.entry) account.now early.now }
@@ -137,7 +138,7 @@ fn early_allowance<'a>(
 fn renewal_allowance<'a>(
     account: &'a Account,
     renewal: &'a RenewalAsk,
-    rows: Ground<'a>,
+    rows: FoundGround<'a>,
 ) -> Result<Allowance<'a>, Refusal>
     ensures { result_map_both allowance_view (λ refusal. refusal) result
         ≡ renewal_allowance (seen rows.entry) account.now renewal.now }
@@ -164,7 +165,7 @@ fn renewal_allowance<'a>(
 fn permanence_allowance<'a>(
     account: &'a Account,
     permanence: &'a PermanenceAsk,
-    rows: Ground<'a>,
+    rows: FoundGround<'a>,
 ) -> Result<Allowance<'a>, Refusal>
     ensures { result_map_both allowance_view (λ refusal. refusal) result
         ≡ permanence_allowance (seen rows.entry) account.now permanence.now }
@@ -210,7 +211,7 @@ fn block_allowance<'a>(
 }
 
 // The value that is wanted, where it has no entry.
-fn value_for(rows: Ground<'_>, table: &RangeTable, want: Want) -> Result<u32, Refusal>
+fn value_for(rows: FoundGround<'_>, table: &RangeTable, want: Want) -> Result<u32, Refusal>
     ensures { result ≡ value_wanted (seen rows.entry) table.now want }
 {
     match want {

@@ -5,7 +5,7 @@ ghost use Rattle.reg_commands.specs.Ground.{seen};
 ghost use Rattle.reg_core.specs.Rules.{Follows, approve_rule, give_rule};
 ghost use Rattle.reg_core.specs.World.{RequestName};
 
-use crate::decisions::allowance::{Ground, allowance_for};
+use crate::decisions::allowance::{FoundGround, allowance_for};
 use crate::decisions::review::is_advised;
 use reg_core::advice::Opinion;
 use reg_core::decide::{Decision, Deny};
@@ -23,7 +23,7 @@ pub fn decide_approve<'a>(
     request: &'a Request,
     experts: &[Account],
     opinions: &[Opinion],
-    rows: Ground<'a>,
+    rows: FoundGround<'a>,
     today: Day,
 ) -> Result<Decision, Deny>
     ensures { let name : RequestName = (request.now.account, request.now.reference) in
@@ -41,7 +41,7 @@ pub fn decide_approve<'a>(
 fn decide_pending<'a>(
     request: &'a Request,
     advised: bool,
-    rows: Ground<'a>,
+    rows: FoundGround<'a>,
     today: Day,
 ) -> Result<Decision, Deny>
     ensures { let name : RequestName = (request.now.account, request.now.reference) in

@@ -6,7 +6,7 @@ ghost use Rattle.reg_commands.specs.Ground.{seen};
 ghost use Rattle.reg_core.specs.Request.{case_of};
 ghost use Rattle.reg_core.specs.Rules.{Follows, submit_rule};
 
-use crate::decisions::allowance::{Ground, check_ask};
+use crate::decisions::allowance::{FoundGround, given_for};
 use reg_core::ask::Ask;
 use reg_core::change::Change;
 use reg_core::decide::{Decision, Deny};
@@ -22,7 +22,7 @@ pub fn decide_submit<'a>(
     account: &'a Account,
     reference: &Ref,
     ask: &'a Ask,
-    rows: Ground<'a>,
+    rows: FoundGround<'a>,
 ) -> Result<Decision, Deny>
     ensures { let allowance = allowed_on (seen rows.entry) account.now ask.now in
         Follows (submit_rule allowance (account.now, reference.now) ask.now
@@ -32,7 +32,7 @@ pub fn decide_submit<'a>(
         Some(old) if old.ask.is_same(ask) => Ok(Decision::Same),
         Some(_) => Err(Deny::Refused(Refusal::Ref)),
         None => {
-            check_ask(account, ask, rows)?;
+            given_for(account, ask, rows)?;
             let change = Change::Submit(*account, *reference, ask.copy()?);
             Ok(Decision::Make(change))
         }

@@ -8,7 +8,7 @@ use reg_core::holding::Holding;
 
 /// Decides how a block of the applicant's is listed: where its holder has the mark already,
 /// nothing changes. It refuses nothing and takes no memory.
-pub fn decide_private(holding: &Holding, private: bool) -> Decision
+pub fn decide_listing(holding: &Holding, private: bool) -> Decision
     ensures { result ≡ private_rule holding.now.block private holding.now.private }
 {
     match (private, holding.private) {
