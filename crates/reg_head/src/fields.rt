@@ -10,6 +10,8 @@ ghost use Rattle.reg_head.specs.Found.{IsFieldFound, IsWithinIf, token_at};
 ghost use Rattle.reg_head.specs.Head.{named};
 
 use crate::malformed::Malformed;
+use http::header;
+use http::header::HeaderName;
 use httparse::spans::{HeaderSpan, Span};
 
 /// The most bytes of a body.
@@ -28,7 +30,7 @@ pub(crate) fn announced(buf: &[u8], headers: &[HeaderSpan]) -> Result<usize, Mal
     requires { All (IsHeaderWithin (length buf.now)) headers.now }
     ensures { result ≡ announced_by (map (header_bytes buf.now) headers.now) }
 {
-    match values_of(buf, headers, b"transfer-encoding") {
+    match values_of(buf, headers, &header::TRANSFER_ENCODING) {
         Found::None => announced_length(buf, headers),
         Found::One(_) | Found::Many => Err(Malformed::Encoding),
     }
@@ -40,7 +42,7 @@ fn announced_length(buf: &[u8], headers: &[HeaderSpan]) -> Result<usize, Malform
     ensures { result ≡ length_by []
         (named (codes "content-length") (map (header_bytes buf.now) headers.now)) }
 {
-    match values_of(buf, headers, b"content-length") {
+    match values_of(buf, headers, &header::CONTENT_LENGTH) {
         Found::None => Ok(0),
         Found::One(value) => length_of(value.of(buf)),
         Found::Many => Err(Malformed::Length),
@@ -54,7 +56,7 @@ pub(crate) fn authorization(buf: &[u8], headers: &[HeaderSpan]) -> Option<Span>
     ensures token { token_at buf.now result
         ≡ token_given (map (header_bytes buf.now) headers.now) }
 {
-    match values_of(buf, headers, b"authorization") {
+    match values_of(buf, headers, &header::AUTHORIZATION) {
         Found::One(value) => Some(value),
         Found::None | Found::Many => None,
     }
@@ -113,7 +115,7 @@ fn capped(value: &[u8]) -> usize
 }
 
 // The values of the fields with this name, which is compared without case.
-fn values_of(buf: &[u8], headers: &[HeaderSpan], name: &[u8]) -> Found
+fn values_of(buf: &[u8], headers: &[HeaderSpan], name: &HeaderName) -> Found
     requires { All (IsHeaderWithin (length buf.now)) headers.now }
     ensures { IsFieldFound buf.now (named name.now (map (header_bytes buf.now) headers.now)) result }
 {
@@ -125,7 +127,7 @@ fn values_of(buf: &[u8], headers: &[HeaderSpan], name: &[u8]) -> Found
 }
 
 // What is found with one header more.
-fn with_header(buf: &[u8], found: Found, header: HeaderSpan, name: &[u8]) -> Found
+fn with_header(buf: &[u8], found: Found, header: HeaderSpan, name: &HeaderName) -> Found
     requires { IsHeaderWithin (length buf.now) header }
     ensures { (values : List (List ℕ)) → IsFieldFound buf.now values found
         → IsFieldFound buf.now (values ++ named name.now (header_bytes buf.now header ∷ [])) result }
@@ -139,9 +141,9 @@ fn with_header(buf: &[u8], found: Found, header: HeaderSpan, name: &[u8]) -> Fou
     }
 }
 
-fn has_name(buf: &[u8], header: HeaderSpan, name: &[u8]) -> bool
+fn has_name(buf: &[u8], header: HeaderSpan, name: &HeaderName) -> bool
     requires { IsWithin (length buf.now) header.name }
     ensures { result ≡ str_eq_ignore_ascii_case (span_bytes buf.now header.name) name.now }
 {
-    header.name.of(buf).eq_ignore_ascii_case(name)
+    header.name.of(buf).eq_ignore_ascii_case(name.as_str().as_bytes())
 }

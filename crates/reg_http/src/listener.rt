@@ -7,6 +7,7 @@ ghost use Rattle.reg_wire.specs.Serving.{AnswersOver};
 use crate::body_size::BodySize;
 use crate::dates::{Dates, moment_now};
 use crate::peers::Peers;
+use http::StatusCode;
 use reg_head::watch::Watch;
 use reg_keeper::keeper::Keeper;
 use reg_office::Office;
@@ -125,7 +126,7 @@ fn exchange<K: Keeper, P: Peers, L: Log>(
 }
 
 // The answer that was written whole, with the size of its body.
-fn sent_of(served: Result<u16, WireFault>, body: usize) -> Option<Sent>
+fn sent_of(served: Result<StatusCode, WireFault>, body: usize) -> Option<Sent>
     ensures { result ≡ sent_of served body }
 {
     match served {

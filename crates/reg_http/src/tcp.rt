@@ -1,8 +1,10 @@
 //! The connections of a listener.
-ghost use Rattle.std.specs.Prelude.{◌≡◌, ◌+◌, IfSome};
+ghost use Rattle.std.specs.Prelude.{◌≡◌, ◌+◌, ◌↔◌, ◌⊎◌, IfSome, IsTrue};
 ghost use Rattle.std.specs.Duration.{as_nanos};
+ghost use Rattle.http.specs.StatusCode.{IsInClass};
 
 use crate::peers::{Peers, Ports};
+use http::StatusCode;
 use reg_wire::log::Sent;
 use std::io;
 use std::io::{ErrorKind, Read, Write};
@@ -86,10 +88,16 @@ impl<'a, C: Clock> Peers for TcpPeers<'a, C> {
     }
 
     fn end(&mut self, writer: Timed<'a, C>, sent: Option<Sent>) {
-        if sent.is_some_and(|sent| sent.status >= 400) {
+        if sent.is_some_and(|sent| is_refusing(sent.status)) {
             linger(writer);
         }
     }
+}
+
+fn is_refusing(status: StatusCode) -> bool
+    ensures { IsTrue result ↔ (IsInClass 400 status ⊎ IsInClass 500 status) }
+{
+    status.is_client_error() || status.is_server_error()
 }
 
 // By when a connection is to be read, and by when to be written.

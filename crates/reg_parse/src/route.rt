@@ -1,7 +1,9 @@
 //! The routes: which command a method and a path name.
 ghost use Rattle.std.specs.Prelude.{◌≡◌, true, OnOk, map};
+ghost use Rattle.std.specs.Str.{bytes_eq};
 ghost use Rattle.reg_parse.specs.Route.{with_row, with_rows, fits, all_fit, operation_for, methods_at};
 
+use http::Method;
 use matchit::{InsertError, Router};
 use std::alloc::{AllocError, Global};
 use std::marker::Model;
@@ -56,16 +58,23 @@ impl Methods {
     pub fn operation(&self, method: &[u8]) -> Option<Operation>
         ensures { result ≡ operation_for method.now self.now }
     {
-        if method == b"GET".as_slice() {
+        if names(method, &Method::GET) {
             self.get
-        } else if method == b"PUT".as_slice() {
+        } else if names(method, &Method::PUT) {
             self.put
-        } else if method == b"DELETE".as_slice() {
+        } else if names(method, &Method::DELETE) {
             self.delete
         } else {
             None
         }
     }
+}
+
+// Whether these bytes are the name of a method.
+fn names(bytes: &[u8], method: &Method) -> bool
+    ensures { result ≡ bytes_eq bytes.now method.now }
+{
+    bytes == method.as_str().as_bytes()
 }
 
 /// The routes of all commands.

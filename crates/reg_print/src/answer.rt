@@ -14,6 +14,7 @@ use crate::listing::blocks::block_listing;
 use crate::listing::registry::listing;
 use crate::printing::{Itself, printed};
 use crate::refusal::{RefusalRow, office_row, storage_row, wire_row};
+use http::StatusCode;
 use reg_core::reply::Reply;
 use reg_core::told::Told;
 use reg_core::wire_refusal::WireRefusal;
@@ -40,6 +41,17 @@ pub enum Answer {
 }
 
 impl Answer {
+    /// Its status (RFC 9110 section 15).
+    pub fn status(&self) -> StatusCode
+        ensures { result ≡ status_of self.now }
+    {
+        match self {
+            Answer::Reply(reply) => reply_status(reply),
+            Answer::Wire(refusal) => wire_row(*refusal).status,
+            Answer::Storage => storage_row().status,
+        }
+    }
+
     /// What the bytes of its body are.
     pub fn format(&self) -> Format
         ensures { result ≡ format_of (answer_body self.now) }
@@ -51,7 +63,7 @@ impl Answer {
     }
 }
 
-/// The status (RFC 9110 section 15) and the body of an answer, whose format is `Answer::format`.
+/// The number of `Answer::status`, and the body of an answer, whose format is `Answer::format`.
 #[tactic(auto, unfolding(crate::specs::Answer::body_text))]
 pub fn body_of(alloc: Global, answer: &Answer) -> Result<(u16, Vec<u8>), AllocError>
     ensures status { IfOk result (λ r. r.0 ≡ status_of answer.now) }
@@ -59,20 +71,10 @@ pub fn body_of(alloc: Global, answer: &Answer) -> Result<(u16, Vec<u8>), AllocEr
     ensures reads_back { IfOk result (λ r. ReadsBack (answer_body answer.now) r.1.items) }
 {
     let body = answer_bytes(alloc, answer)?;
-    Ok((status_of(answer), body))
+    Ok((answer.status().as_u16(), body))
 }
 
-fn status_of(answer: &Answer) -> u16
-    ensures { result ≡ status_of answer.now }
-{
-    match answer {
-        Answer::Reply(reply) => reply_status(reply),
-        Answer::Wire(refusal) => wire_row(*refusal).status,
-        Answer::Storage => storage_row().status,
-    }
-}
-
-fn reply_status(reply: &Reply) -> u16
+fn reply_status(reply: &Reply) -> StatusCode
     ensures { result ≡ reply_status reply.now }
 {
     match reply {
@@ -81,11 +83,11 @@ fn reply_status(reply: &Reply) -> u16
     }
 }
 
-fn told_status(told: &Told) -> u16
+fn told_status(told: &Told) -> StatusCode
     ensures { result ≡ told_status told.now }
 {
     match told {
-        Told::Made(_) => 201,
+        Told::Made(_) => StatusCode::CREATED,
         Told::Names(_)
         | Told::Page(_)
         | Told::Sheet(_)
@@ -109,7 +111,7 @@ fn told_status(told: &Told) -> u16
         | Told::Revoked
         | Told::Cases(_)
         | Told::Capabilities(_)
-        | Told::Counts(_) => 200,
+        | Told::Counts(_) => StatusCode::OK,
     }
 }
 
@@ -120,8 +122,8 @@ fn answer_bytes(alloc: Global, answer: &Answer) -> Result<Vec<u8>, AllocError>
 {
     match answer {
         Answer::Reply(reply) => reply_bytes(alloc, reply),
-        Answer::Wire(refusal) => refusal_bytes(alloc, wire_row(*refusal)),
-        Answer::Storage => refusal_bytes(alloc, storage_row()),
+        Answer::Wire(refusal) => refusal_bytes(alloc, &wire_row(*refusal)),
+        Answer::Storage => refusal_bytes(alloc, &storage_row()),
     }
 }
 
@@ -131,15 +133,15 @@ fn reply_bytes(alloc: Global, reply: &Reply) -> Result<Vec<u8>, AllocError>
 {
     match reply {
         Reply::Accepted(told) => told_bytes(alloc, told),
-        Reply::Refused(refusal) => refusal_bytes(alloc, office_row(*refusal)),
+        Reply::Refused(refusal) => refusal_bytes(alloc, &office_row(*refusal)),
     }
 }
 
-fn refusal_bytes(alloc: Global, row: RefusalRow) -> Result<Vec<u8>, AllocError>
-    ensures text { IfOk result (λ v. v.items ≡ text_of (json (error_tree (row_view row)))) }
-    ensures reads_back { IfOk result (λ v. ReadsBack (json (error_tree (row_view row))) v.items) }
+fn refusal_bytes(alloc: Global, row: &RefusalRow) -> Result<Vec<u8>, AllocError>
+    ensures text { IfOk result (λ v. v.items ≡ text_of (json (error_tree (row_view row.now)))) }
+    ensures reads_back { IfOk result (λ v. ReadsBack (json (error_tree (row_view row.now))) v.items) }
 {
-    printed(alloc, &row)
+    printed(alloc, row)
 }
 
 fn told_bytes(alloc: Global, told: &Told) -> Result<Vec<u8>, AllocError>

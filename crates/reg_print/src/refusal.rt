@@ -3,6 +3,7 @@ ghost use Rattle.std.specs.Prelude.{◌≡◌};
 ghost use Rattle.reg_print.specs.Refusal.{row_view, row as plain_row, row_about, office_row, wire_row, storage_row};
 
 use crate::detail::Detail;
+use http::StatusCode;
 use reg_core::refusal::Refusal;
 use reg_core::wire_refusal::WireRefusal;
 
@@ -10,7 +11,7 @@ use reg_core::wire_refusal::WireRefusal;
 #[derive(Clone, Copy)]
 pub struct RefusalRow {
     /// The status (RFC 9110 sections 15.5 and 15.6).
-    pub status: u16,
+    pub status: StatusCode,
     /// The name.
     pub name: &'static str,
     /// What it is about: a part of the request, what a policy asks for, or a fault of a range file.
@@ -22,30 +23,30 @@ pub fn office_row(refusal: Refusal) -> RefusalRow
     ensures { row_view result ≡ office_row refusal }
 {
     match refusal {
-        Refusal::Clock => row(503, "clock"),
-        Refusal::Token => row(401, "token"),
-        Refusal::Kind => row(403, "kind"),
-        Refusal::Ref => row(409, "ref"),
-        Refusal::Request => row(404, "request"),
-        Refusal::Principal => row(404, "principal"),
-        Refusal::Closed => row(409, "closed"),
-        Refusal::Registry => row(404, "registry"),
-        Refusal::Range => row(422, "range"),
-        Refusal::Policy => row(409, "policy"),
-        Refusal::Early => row(409, "early"),
-        Refusal::Evidence(item) => row_about(422, "evidence", Detail::Evidence(item)),
-        Refusal::Entry => row(404, "entry"),
-        Refusal::Permanent => row(409, "permanent"),
-        Refusal::Renewed => row(409, "renewed"),
-        Refusal::Expired => row(409, "expired"),
-        Refusal::Taken => row(409, "taken"),
-        Refusal::Exhausted => row(409, "exhausted"),
-        Refusal::Advice => row(409, "advice"),
-        Refusal::Own => row(409, "own"),
-        Refusal::Several => row(409, "several"),
-        Refusal::Holding => row(404, "holding"),
-        Refusal::Exists => row(409, "exists"),
-        Refusal::Bits => row(422, "bits"),
+        Refusal::Clock => row(StatusCode::SERVICE_UNAVAILABLE, "clock"),
+        Refusal::Token => row(StatusCode::UNAUTHORIZED, "token"),
+        Refusal::Kind => row(StatusCode::FORBIDDEN, "kind"),
+        Refusal::Ref => row(StatusCode::CONFLICT, "ref"),
+        Refusal::Request => row(StatusCode::NOT_FOUND, "request"),
+        Refusal::Principal => row(StatusCode::NOT_FOUND, "principal"),
+        Refusal::Closed => row(StatusCode::CONFLICT, "closed"),
+        Refusal::Registry => row(StatusCode::NOT_FOUND, "registry"),
+        Refusal::Range => row(StatusCode::UNPROCESSABLE_ENTITY, "range"),
+        Refusal::Policy => row(StatusCode::CONFLICT, "policy"),
+        Refusal::Early => row(StatusCode::CONFLICT, "early"),
+        Refusal::Evidence(item) => unprocessable("evidence", Detail::Evidence(item)),
+        Refusal::Entry => row(StatusCode::NOT_FOUND, "entry"),
+        Refusal::Permanent => row(StatusCode::CONFLICT, "permanent"),
+        Refusal::Renewed => row(StatusCode::CONFLICT, "renewed"),
+        Refusal::Expired => row(StatusCode::CONFLICT, "expired"),
+        Refusal::Taken => row(StatusCode::CONFLICT, "taken"),
+        Refusal::Exhausted => row(StatusCode::CONFLICT, "exhausted"),
+        Refusal::Advice => row(StatusCode::CONFLICT, "advice"),
+        Refusal::Own => row(StatusCode::CONFLICT, "own"),
+        Refusal::Several => row(StatusCode::CONFLICT, "several"),
+        Refusal::Holding => row(StatusCode::NOT_FOUND, "holding"),
+        Refusal::Exists => row(StatusCode::CONFLICT, "exists"),
+        Refusal::Bits => row(StatusCode::UNPROCESSABLE_ENTITY, "bits"),
     }
 }
 
@@ -54,12 +55,12 @@ pub fn wire_row(refusal: WireRefusal) -> RefusalRow
     ensures { row_view result ≡ wire_row refusal }
 {
     match refusal {
-        WireRefusal::Line => row(400, "line"),
-        WireRefusal::Route => row(404, "route"),
-        WireRefusal::Method => row(405, "method"),
-        WireRefusal::Body => row(400, "body"),
-        WireRefusal::Field(item) => row_about(422, "field", Detail::Part(item)),
-        WireRefusal::Ranges(fault) => row_about(422, "ranges", Detail::Ranges(fault)),
+        WireRefusal::Line => row(StatusCode::BAD_REQUEST, "line"),
+        WireRefusal::Route => row(StatusCode::NOT_FOUND, "route"),
+        WireRefusal::Method => row(StatusCode::METHOD_NOT_ALLOWED, "method"),
+        WireRefusal::Body => row(StatusCode::BAD_REQUEST, "body"),
+        WireRefusal::Field(item) => unprocessable("field", Detail::Part(item)),
+        WireRefusal::Ranges(fault) => unprocessable("ranges", Detail::Ranges(fault)),
     }
 }
 
@@ -67,10 +68,10 @@ pub fn wire_row(refusal: WireRefusal) -> RefusalRow
 pub fn storage_row() -> RefusalRow
     ensures { row_view result ≡ storage_row }
 {
-    row(503, "storage")
+    row(StatusCode::SERVICE_UNAVAILABLE, "storage")
 }
 
-fn row(status: u16, name: &'static str) -> RefusalRow
+fn row(status: StatusCode, name: &'static str) -> RefusalRow
     ensures { row_view result ≡ plain_row status name.now }
 {
     RefusalRow {
@@ -80,11 +81,12 @@ fn row(status: u16, name: &'static str) -> RefusalRow
     }
 }
 
-fn row_about(status: u16, name: &'static str, item: Detail) -> RefusalRow
-    ensures { row_view result ≡ row_about status name.now item }
+// A refusal that says what it is about.
+fn unprocessable(name: &'static str, item: Detail) -> RefusalRow
+    ensures { row_view result ≡ row_about 422 name.now item }
 {
     RefusalRow {
-        status,
+        status: StatusCode::UNPROCESSABLE_ENTITY,
         name,
         item: Some(item),
     }

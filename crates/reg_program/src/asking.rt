@@ -13,6 +13,7 @@ ghost use Rattle.reg_program.specs.Looking.{only_looks};
 ghost use Rattle.reg_program.specs.Undone.{IsRefusedBy, answer_line as line_of, line_by, refusal_line as text_of_refusal};
 
 use crate::faults::{JobFailure, Undone};
+use http::Method;
 use reg_core::command::Command;
 use reg_core::refusal::Refusal;
 use reg_core::reply::Reply;
@@ -33,7 +34,12 @@ pub fn definition(alloc: Global, order: &Definition, ranges: &[u8]) -> Result<Co
         Spells (asked (codes "PUT") path ranges.now) result }
 {
     let path = definition_path(alloc, order)?;
-    command(alloc, b"PUT", path.as_bytes(), ranges)
+    command(
+        alloc,
+        Method::PUT.as_str().as_bytes(),
+        path.as_bytes(),
+        ranges,
+    )
 }
 
 /// The path at which a registry is defined.
@@ -53,7 +59,7 @@ pub fn listing(alloc: Global, registry: &Option<String>) -> Result<Command, Undo
     ensures looks { IfOk result (λ command. only_looks command ≡ true) }
 {
     let path = listing_path(alloc, registry)?;
-    command(alloc, b"GET", path.as_bytes(), b"")
+    command(alloc, Method::GET.as_str().as_bytes(), path.as_bytes(), b"")
 }
 
 /// The path at which a registry is listed or, without one, the blocks.

@@ -19,6 +19,7 @@ use crate::publishing::port_of;
 use crate::served::{Sent, answer_of, unaccepted};
 use crate::tasks::{Offices, Task};
 use crate::tokens::{account_of, no_token, print_rows};
+use http::Method;
 use reg_core::capability::CapRow;
 use reg_core::refusal::Refusal;
 use reg_core::text::Digits;
@@ -110,8 +111,9 @@ pub fn list_served<W: Write>(
 {
     let alloc = rt.alloc();
     let token = optional_token(rt, alloc, token)?;
+    let method = Method::GET;
     let sent = Sent {
-        method: "GET",
+        method: method.as_str(),
         path: "/desk/tokens",
         body: b"",
     };
@@ -133,8 +135,9 @@ pub fn revoke_served<W: Write>(
     let alloc = rt.alloc();
     let token = optional_token(rt, alloc, token)?;
     let path = revocation_path(alloc, which)?;
+    let method = Method::DELETE;
     let sent = Sent {
-        method: "DELETE",
+        method: method.as_str(),
         path: path.as_str(),
         body: b"",
     };

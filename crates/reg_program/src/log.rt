@@ -2,8 +2,8 @@
 ghost use Rattle.std.specs.Prelude.{◌<◌};
 
 use jiff::Timestamp;
-use reg_wire::log::{Log, Sent};
 use reg_parse::shown::Shown;
+use reg_wire::log::{Log, Sent};
 use std::alloc::{AllocError, Global};
 use std::io::Write;
 
@@ -98,7 +98,10 @@ fn line_of(
     line.push(b' ')?;
     line.extend_from_slice(if asked.is_empty() { UNREAD } else { asked })?;
     let end = match sent {
-        Some(Sent { status, body }) => format!(in alloc; " {status} {body}\n")?,
+        Some(Sent { status, body }) => {
+            let status = status.as_str();
+            format!(in alloc; " {status} {body}\n")?
+        }
         None => String::from_str(alloc, " dropped\n")?,
     };
     line.extend_from_slice(end.as_bytes())?;

@@ -15,6 +15,7 @@ use crate::asking::{
 use crate::faults::{JobFailure, Undone};
 use crate::inputs::{body_of, bytes_of, optional_token, token_of};
 use crate::publishing::undone;
+use http::{Method, StatusCode};
 use reg_core::text::Token;
 use reg_jobs::jobs::{Definition, Request};
 use reg_publish::answers::{Answered, answer_in};
@@ -72,8 +73,9 @@ pub fn define_served<W: Write>(
     let ranges = bytes_of(rt, alloc, order.ranges.as_str())?;
     drop(definition(alloc, order, ranges.as_slice())?);
     let path = definition_path(alloc, order)?;
+    let method = Method::PUT;
     let sent = Sent {
-        method: "PUT",
+        method: method.as_str(),
         path: path.as_str(),
         body: ranges.as_slice(),
     };
@@ -93,8 +95,9 @@ pub fn list_served<W: Write>(
     let alloc = rt.alloc();
     drop(listing(alloc, registry)?);
     let path = listing_path(alloc, registry)?;
+    let method = Method::GET;
     let sent = Sent {
-        method: "GET",
+        method: method.as_str(),
         path: path.as_str(),
         body: b"",
     };
@@ -208,7 +211,7 @@ pub fn print_answer<W: Write>(
         let text = text_of(alloc, answered, form)?;
         print(output, text.as_slice())
     } else {
-        Err(Undone::Refused(line_by(alloc, answered.status, answered.body)?))
+        Err(Undone::Refused(line_by(alloc, answered.status.as_u16(), answered.body)?))
     }
 }
 
@@ -221,17 +224,17 @@ pub fn unaccepted(alloc: Global, answer: &[u8]) -> Result<Undone, AllocError>
     match answer_in(answer) {
         Some(answered) if !is_accepting(answered.status) => Ok(Undone::Refused(line_by(
             alloc,
-            answered.status,
+            answered.status.as_u16(),
             answered.body,
         )?)),
         _ => Ok(Undone::Fault(JobFailure::Read)),
     }
 }
 
-fn is_accepting(status: u16) -> bool
+fn is_accepting(status: StatusCode) -> bool
     ensures { result ≡ is_accepting status }
 {
-    status == 200 || status == 201
+    status == StatusCode::OK || status == StatusCode::CREATED
 }
 
 // What is printed of an answer.
@@ -250,6 +253,6 @@ fn line_in(alloc: Global, answered: Answered<'_>, form: Form) -> Result<Vec<u8>,
 {
     match form {
         Form::Body => answered.body.to_vec(alloc),
-        Form::Line => line_by(alloc, answered.status, answered.body),
+        Form::Line => line_by(alloc, answered.status.as_u16(), answered.body),
     }
 }

@@ -7,9 +7,10 @@ ghost use Rattle.reg_print.specs.Comparing.{Leaves};
 ghost use Rattle.reg_publish.specs.Answers.{AreAll, AreMore, answer_text, end_of_head};
 
 use crate::unpublished::{Unpublished, unread};
-use reg_wire::response::reason;
+use http::StatusCode;
 use reg_print::answer::Format;
 use reg_ranges::number::read_number;
+use reg_wire::response::reason;
 use std::alloc::Global;
 use std::io::Read;
 
@@ -62,7 +63,7 @@ pub fn read_up_to<R: Read>(
 #[derive(Clone, Copy)]
 pub struct Answered<'a> {
     /// Its status (RFC 9110 section 15), which is one that an office gives.
-    pub status: u16,
+    pub status: StatusCode,
     /// What the bytes of its body are.
     pub format: Format,
     /// The bytes of its body.
@@ -90,7 +91,7 @@ pub fn body_of(format: Format, answer: &[u8]) -> Option<&[u8]>
     ensures { IfSome result (λ body. answer.now ≡ answer_text 200 format body.now) }
 {
     let answered = answer_in(answer)?;
-    if answered.status == 200 && answered.format == format {
+    if answered.status == StatusCode::OK && answered.format == format {
         Some(answered.body)
     } else {
         None
@@ -98,7 +99,7 @@ pub fn body_of(format: Format, answer: &[u8]) -> Option<&[u8]>
 }
 
 // The status that the first line says, and what stands behind that line.
-fn status_in(answer: &[u8]) -> Option<(u16, &[u8])>
+fn status_in(answer: &[u8]) -> Option<(StatusCode, &[u8])>
     ensures whole { IfSome result (λ r. answer.now ≡ status_line r.0 ++ r.1.now) }
     ensures given { IfSome result (λ r. 0 < length (reason r.0)) }
 {
@@ -111,18 +112,15 @@ fn status_in(answer: &[u8]) -> Option<(u16, &[u8])>
     Some((status, rest))
 }
 
-fn status_of(digits: &[u8]) -> Option<u16>
+#[tactic(auto, using(reg_wire::proofs::StatusDigits::decimal_code))]
+fn status_of(digits: &[u8]) -> Option<StatusCode>
     ensures { IfSome result (λ status. digits.now ≡ decimal status) }
 {
-    let status = read_number(digits)?;
-    if status > 999 {
-        return None;
-    }
-    Some(status as u16)
+    StatusCode::from_bytes(digits).ok()
 }
 
 // The phrase of a status that an office gives.
-fn phrase_of(status: u16) -> Option<&'static [u8]>
+fn phrase_of(status: StatusCode) -> Option<&'static [u8]>
     ensures is { IfSome result (λ phrase. phrase.now ≡ reason status) }
     ensures given { IfSome result (λ phrase. 0 < length (reason status)) }
 {

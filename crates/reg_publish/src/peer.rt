@@ -9,6 +9,7 @@ use crate::reading::told_of;
 use crate::source::Source;
 use crate::timed::{Timed, left};
 use crate::unpublished::{Unpublished, unread};
+use http::Method;
 use reg_core::command::PublicCommand;
 use reg_core::told::Told;
 use reg_print::answer::Format;
@@ -106,7 +107,8 @@ fn connect<H: Clock + Net<Listener = TcpListener, Stream = TcpStream>>(
 // The bytes of a request without a token.
 fn request(alloc: Global, command: &PublicCommand) -> Result<String, AllocError> {
     let path = path_of(alloc, command)?;
-    format!(in alloc; "GET {path} HTTP/1.1\r\nHost: 127.0.0.1\r\nConnection: close\r\n\r\n")
+    let method = Method::GET;
+    format!(in alloc; "{method} {path} HTTP/1.1\r\nHost: 127.0.0.1\r\nConnection: close\r\n\r\n")
 }
 
 /// The path of a command.

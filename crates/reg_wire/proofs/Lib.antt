@@ -15,6 +15,7 @@ pub mod ScriptRun
 pub mod Sent
 pub mod SoFar
 pub mod StandSoFar
+pub mod StatusDigits
 pub mod StorageText
 pub mod StruckLines
 pub mod TreeText

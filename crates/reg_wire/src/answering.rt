@@ -8,6 +8,7 @@ ghost use Rattle.reg_wire.specs.Serving.{storage};
 use crate::response::{Response, response_bytes};
 use crate::sending::send;
 use crate::wire_fault::WireFault;
+use http::StatusCode;
 use reg_print::answer::Answer;
 use std::alloc::Global;
 use std::io::Write;
@@ -23,7 +24,7 @@ pub(crate) fn send_response<W: Write>(
     alloc: Global,
     writer: &mut W,
     response: Response,
-) -> Result<u16, WireFault>
+) -> Result<StatusCode, WireFault>
     ensures ok { IfOk result (λ n. (n ≡ status response)
         × Appends (W.contents writer.old) (W.contents writer.new) (response_text response)) }
     ensures err { IfErr result (λ fault. IsUnsent fault response (W.contents writer.old)
@@ -49,14 +50,14 @@ fn is_storage(response: &Response) -> bool
     matches!(response, Response::Answer(Answer::Storage))
 }
 
-fn send_storage<W: Write>(writer: &mut W) -> Result<u16, WireFault>
+fn send_storage<W: Write>(writer: &mut W) -> Result<StatusCode, WireFault>
     ensures ok { IfOk result (λ n. (n ≡ status storage)
         × Appends (W.contents writer.old) (W.contents writer.new) (response_text storage)) }
     ensures err { IfErr result (λ fault. IsUnsent fault storage (W.contents writer.old)
         (W.contents writer.new)) }
 {
     match send(writer, STORAGE) {
-        Ok(()) => Ok(503),
+        Ok(()) => Ok(StatusCode::SERVICE_UNAVAILABLE),
         Err(n) => Err(WireFault::Write(n)),
     }
 }

@@ -1,11 +1,12 @@
 //! What is told of connections while they are served.
+use http::StatusCode;
 use reg_parse::shown::Shown;
 
 /// An answer that was written whole.
 #[derive(Clone, Copy, Debug, PartialEq, Eq)]
 pub struct Sent {
     /// Its status.
-    pub status: u16,
+    pub status: StatusCode,
     /// How many bytes its body has; 0 where the log keeps nothing.
     pub body: usize,
 }

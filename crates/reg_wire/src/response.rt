@@ -3,6 +3,7 @@ ghost use Rattle.std.specs.Prelude.{◌≡◌, ◌++◌, ◌<◌, ◌^◌, IfOk,
 ghost use Rattle.std.specs.Fmt.{decimal};
 ghost use Rattle.reg_wire.specs.Response.{malformed_status, malformed_body, status, media_type, reason, status_line, field_line, head_text, response_text, reply_text};
 
+use http::StatusCode;
 use reg_head::malformed::Malformed;
 use reg_print::answer::{Answer, Format, body_of};
 use std::alloc::{AllocError, Global};
@@ -32,7 +33,7 @@ pub fn reply_bytes(alloc: Global, answer: &Answer) -> Result<Vec<u8>, AllocError
 pub(crate) fn response_bytes(
     alloc: Global,
     response: &Response,
-) -> Result<(u16, Vec<u8>), AllocError>
+) -> Result<(StatusCode, Vec<u8>), AllocError>
     ensures status { IfOk result (λ r. r.0 ≡ status response.now) }
     ensures bytes { IfOk result (λ r. r.1.items ≡ response_text response.now) }
 {
@@ -43,17 +44,18 @@ pub(crate) fn response_bytes(
 }
 
 #[tactic(auto, unfolding(crate::specs::Response::response_text))]
-fn answer_bytes(alloc: Global, answer: &Answer) -> Result<(u16, Vec<u8>), AllocError>
+fn answer_bytes(alloc: Global, answer: &Answer) -> Result<(StatusCode, Vec<u8>), AllocError>
     ensures status { IfOk result (λ r. r.0 ≡ status (Response.Answer answer.now)) }
     ensures bytes { IfOk result (λ r. r.1.items ≡ reply_text answer.now) }
 {
-    let (status, body) = body_of(alloc, answer)?;
+    let (_, body) = body_of(alloc, answer)?;
+    let status = answer.status();
     let bytes = message(alloc, status, media_type(answer.format()), body.as_slice())?;
     Ok((status, bytes))
 }
 
 #[tactic(auto, unfolding(crate::specs::Response::response_text))]
-fn malformed_bytes(alloc: Global, why: Malformed) -> Result<(u16, Vec<u8>), AllocError>
+fn malformed_bytes(alloc: Global, why: Malformed) -> Result<(StatusCode, Vec<u8>), AllocError>
     ensures status { IfOk result (λ r. r.0 ≡ status (Response.Malformed why)) }
     ensures bytes { IfOk result
         (λ r. r.1.items ≡ response_text (Response.Malformed why)) }
@@ -63,13 +65,13 @@ fn malformed_bytes(alloc: Global, why: Malformed) -> Result<(u16, Vec<u8>), Allo
     Ok((status, bytes))
 }
 
-fn malformed_status(why: Malformed) -> u16
+fn malformed_status(why: Malformed) -> StatusCode
     ensures { result ≡ malformed_status why }
 {
     match why {
-        Malformed::Head | Malformed::Length | Malformed::Short => 400,
-        Malformed::Large => 413,
-        Malformed::Encoding => 501,
+        Malformed::Head | Malformed::Length | Malformed::Short => StatusCode::BAD_REQUEST,
+        Malformed::Large => StatusCode::PAYLOAD_TOO_LARGE,
+        Malformed::Encoding => StatusCode::NOT_IMPLEMENTED,
     }
 }
 
@@ -95,7 +97,12 @@ fn media_type(format: Format) -> &'static str
 }
 
 // A head, and the body after it, in one piece of memory.
-fn message(alloc: Global, status: u16, media: &str, body: &[u8]) -> Result<Vec<u8>, AllocError>
+fn message(
+    alloc: Global,
+    status: StatusCode,
+    media: &str,
+    body: &[u8],
+) -> Result<Vec<u8>, AllocError>
     ensures { IfOk result
         (λ v. v.items ≡ head_text status media.now (length body.now) ++ body.now) }
 {
@@ -105,12 +112,12 @@ fn message(alloc: Global, status: u16, media: &str, body: &[u8]) -> Result<Vec<u
 }
 
 #[tactic(auto, unfolding(crate::specs::Response::head_text))]
-fn head(alloc: Global, status: u16, media: &str, count: usize) -> Result<String, AllocError>
+fn head(alloc: Global, status: StatusCode, media: &str, count: usize) -> Result<String, AllocError>
     requires { count < 2 ^ 63 }
     ensures { IfOk result (λ s. string_bytes s ≡ head_text status media.now count) }
 {
     let mut text = String::with_capacity(alloc, HEAD_BYTES + count)?;
-    push_status(alloc, &mut text, status)?;
+    push_status(&mut text, status)?;
     push_field(&mut text, "Content-Type", media)?;
     push_number(alloc, &mut text, "Content-Length", count)?;
     push_field(&mut text, "Connection", "close")?;
@@ -118,13 +125,13 @@ fn head(alloc: Global, status: u16, media: &str, count: usize) -> Result<String,
     Ok(text)
 }
 
-fn push_status(alloc: Global, text: &mut String, status: u16) -> Result<(), AllocError>
+#[tactic(auto, using(crate::proofs::StatusDigits::decimal_code))]
+fn push_status(text: &mut String, status: StatusCode) -> Result<(), AllocError>
     ensures { OnOk result
         (string_bytes text.new ≡ string_bytes text.old ++ status_line status) }
 {
-    let digits = status.to_string(alloc)?;
     text.push_str("HTTP/1.1 ")?;
-    text.push_str(digits.as_str())?;
+    text.push_str(status.as_str())?;
     text.push_str(" ")?;
     text.push_str(reason(status))?;
     text.push_str("\r\n")?;
@@ -151,34 +158,22 @@ fn push_number(alloc: Global, text: &mut String, name: &str, n: usize) -> Result
 }
 
 /// The phrase of a status (RFC 9110 section 15); empty for one that no answer has.
-pub fn reason(status: u16) -> &'static str
+pub fn reason(status: StatusCode) -> &'static str
     ensures { result.now ≡ reason status }
 {
-    if status == 200 {
-        "OK"
-    } else if status == 201 {
-        "Created"
-    } else if status == 400 {
-        "Bad Request"
-    } else if status == 401 {
-        "Unauthorized"
-    } else if status == 403 {
-        "Forbidden"
-    } else if status == 404 {
-        "Not Found"
-    } else if status == 405 {
-        "Method Not Allowed"
-    } else if status == 409 {
-        "Conflict"
-    } else if status == 413 {
-        "Payload Too Large"
-    } else if status == 422 {
-        "Unprocessable Entity"
-    } else if status == 501 {
-        "Not Implemented"
-    } else if status == 503 {
-        "Service Unavailable"
-    } else {
-        ""
+    match status {
+        StatusCode::OK
+        | StatusCode::CREATED
+        | StatusCode::BAD_REQUEST
+        | StatusCode::UNAUTHORIZED
+        | StatusCode::FORBIDDEN
+        | StatusCode::NOT_FOUND
+        | StatusCode::METHOD_NOT_ALLOWED
+        | StatusCode::CONFLICT
+        | StatusCode::PAYLOAD_TOO_LARGE
+        | StatusCode::UNPROCESSABLE_ENTITY
+        | StatusCode::NOT_IMPLEMENTED
+        | StatusCode::SERVICE_UNAVAILABLE => status.canonical_reason().unwrap_or(""),
+        _ => "",
     }
 }

@@ -12,6 +12,7 @@ use crate::exchange::{Call, answer_to};
 use crate::log::{Log, Unlogged};
 use crate::response::Response;
 use crate::wire_fault::WireFault;
+use http::StatusCode;
 use reg_head::message::Message;
 use reg_head::reading::read_request;
 use reg_head::unread::Unread;
@@ -62,7 +63,8 @@ pub fn serve_one<K: Keeper, R: Read, W: Write>(
         &mut watch,
         &mut Unlogged,
     )?;
-    send_response(alloc, writer, response)
+    let status = send_response(alloc, writer, response)?;
+    Ok(status.as_u16())
 }
 
 /// Writes what is to be told, if anything is, and gives its status.
@@ -70,7 +72,7 @@ pub fn send_told<W: Write>(
     alloc: Global,
     writer: &mut W,
     told: Result<Response, WireFault>,
-) -> Result<u16, WireFault>
+) -> Result<StatusCode, WireFault>
     ensures { IsSentBy told result (W.contents writer.old) (W.contents writer.new) }
 {
     match told {

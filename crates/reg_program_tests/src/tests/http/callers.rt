@@ -49,7 +49,10 @@ fn assert_status(rt: &HostRuntime, date: Duration, status: u16) -> Result<(), Fa
     let (done, sent) = over_lists(rt, Caller { date })?;
     ensure(done.answered == 1, "one is answered")?;
     ensure(done.dropped == 1, "one does not come")?;
-    ensure(sent.is_some_and(|sent| sent.status == status), "the status")
+    ensure(
+        sent.is_some_and(|sent| sent.status.as_u16() == status),
+        "the status",
+    )
 }
 
 #[test]

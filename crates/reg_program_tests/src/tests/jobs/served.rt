@@ -55,8 +55,8 @@ fn each_status_is_read(rt: HostRuntime) -> Result<(), Fail> {
         let Some(read) = answer_in(bytes.as_bytes()) else {
             return Err(line.into());
         };
-        let status = format!(in alloc; "{} ", read.status)?;
-        ensure(line.starts_with(status.as_str()), "the status")?;
+        let status = format!(in alloc; "{}", read.status)?;
+        ensure(status.as_str() == line, "the status")?;
         ensure(read.format == Format::Json, "the format")?;
         ensure(read.body == b"[]".as_slice(), "the body")?;
     }
