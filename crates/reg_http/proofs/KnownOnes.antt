@@ -14,6 +14,7 @@ use Rattle.reg_http.specs.Listening.{moment_by}
 use Rattle.reg_http.specs.Meeting.{Came, Dated, Ended, InTurn, Meeting, Meets, first_of, rest_of, wholes}
 use Rattle.reg_wire.specs.Response.{response_text}
 use Rattle.reg_wire.specs.Serving.{AnswersOver, Exchange, FailsBy, IsAnswered, Lead, Responds}
+use Rattle.reg_wire.specs.declared.log.Sent.{Sent}
 use Rattle.reg_wire.specs.declared.response.Response.{Response}
 use Rattle.reg_wire.proofs.Exchanges.{requests_of_model}
 use Rattle.reg_wire.proofs.StandSoFar.{exchanged}
@@ -87,10 +88,10 @@ module _ (by_all : AskByAllTheirBytes) {S : Type 0} (Serves : S → Call → Res
         replied h.0 [] 0 h.1 nothing (λ text is others. inr (0, is, omega arith))
     failed fault.Memory (inr same, nothing) = unheard nothing same
 
-  met_known : (m : Meeting) (all : List ℕ) (before now : S) (outcome : Result ℕ WireFault)
+  met_known : (m : Meeting) (all : List ℕ) (before now : S) (outcome : Result Sent WireFault)
       → m.unread ≡ Some all → Meets Serves (Some []) m before now outcome
       → Heard m.moment all m.wrote before now (wholes outcome)
-  met_known m all before now (Ok status) is h =
+  met_known m all before now (Ok sent) is h =
       let Answered : Option (List ℕ) → Type 0 =
       λ unread. IsAnswered Serves m.moment before now unread h.left h.ok.told in
       replied m.moment all before now h.left m.wrote h.ok.told (response_text h.ok.told) 1

@@ -6,7 +6,8 @@ use Rattle.std.specs.declared.time.Duration.{Duration}
 use Rattle.reg_wire.specs.Exchange.{Call}
 use Rattle.reg_wire.specs.declared.wire_fault.WireFault.{WireFault}
 use Rattle.reg_wire.specs.declared.wire_fault.WireFault.TheVariants as fault
-use Rattle.reg_http.specs.Listening.{ChangesByTurns, count_of, moment_by, sent_of}
+use Rattle.std.specs.Result.{result_ok}
+use Rattle.reg_http.specs.Listening.{ChangesByTurns, count_of, moment_by}
 use Rattle.reg_http.specs.Meeting.{Came, Comes, Dated, Ended, EndsOneMore, Exchanges, InTurn, Meeting, Meets, ServesInTurn, TakesNext, WhereKnown, rest_of, unread_of, wholes}
 use Rattle.reg_wire.specs.Responding.{IsUnanswered}
 use Rattle.reg_wire.specs.Sending.{IsSentBy}
@@ -17,10 +18,9 @@ use Rattle.reg_http.proofs.Turns.{no_turn, turn, turns_then}
 
 -- ---- One connection
 
-pub count_is : (served : Result ℕ WireFault) (body : ℕ)
-    → count_of (sent_of served body) ≡ wholes served
-count_is (Ok n) body = refl
-count_is (Err why) body = refl
+pub count_is : (served : Result Sent WireFault) → count_of (result_ok served) ≡ wholes served
+count_is (Ok sent) = refl
+count_is (Err why) = refl
 
 module _ {S : Type 0} (Serves : S → Call → Response → S → Type 0) (moment : ℕ) (before after : S)
     (unread left had has : Option (List ℕ)) where
@@ -38,15 +38,20 @@ module _ {S : Type 0} (Serves : S → Call → Response → S → Type 0) (momen
   unsent told (fault.Write n) h k = record { told = told; answered = h; fewer = k.0; wrote = k.1 }
   unsent told fault.Memory h k = (inl (told, h, k.0), k.1)
 
-  pub met : (told : Result Response WireFault) (served : Result ℕ WireFault)
+  pub met : (told : Result Response WireFault) (served : Result Sent WireFault)
       → IfOk told (λ t. IsAnswered Serves moment before after unread left t)
       → IfErr told (λ why. IsUnanswered why before after unread left)
       → IsSentBy told served had has
       → Meets Serves had (record { moment = moment; unread = unread; wrote = has }) before after
       served
-  met (Ok told) (Ok n) h k sent = record {
+  met (Ok told) (Ok given) h k sent = record {
     left = left;
-    ok = record { told = told; answered = h; wrote = sent.1; status = sent.0 };
+    ok = record {
+      told = told;
+      answered = h;
+      wrote = sent.1;
+      status = ap (λ (s : Sent). s.status) sent.0;
+    };
     err = tt;
   }
   met (Ok told) (Err why) h k sent = record {
@@ -54,7 +59,7 @@ module _ {S : Type 0} (Serves : S → Call → Response → S → Type 0) (momen
     ok = tt;
     err = unsent told why h sent;
   }
-  met (Err why) (Ok n) h k sent = absurd sent
+  met (Err why) (Ok given) h k sent = absurd sent
   met (Err why) (Err other) h k sent = record {
     left = left;
     ok = tt;
@@ -230,11 +235,11 @@ module _ {S : Type 0} (Serves : S → Call → Response → S → Type 0) (blank
   lead_in_turn (Some m ∷ ts) answered before after h =
       let rest = lead_in_turn ts h.2 h.0 after h.5 in
       let one =
-      turn Serves m.moment 0 h.1 before h.0 m.unread h.3.left blank m.wrote h.3.ok h.3.err in
+      turn Serves m.moment h.1 before h.0 m.unread h.3.left blank m.wrote h.3.ok h.3.err in
       let both = turns_then Serves 1 (length ts) _ h.2 before h.0 after one rest in record {
         turns = both.turns;
         few = omega (arith, both.few);
-        enough = omega (arith, both.enough, h.4, count_is h.1 0);
+        enough = omega (arith, both.enough, h.4);
         lead = both.lead;
       }
 

@@ -7,7 +7,9 @@ use Rattle.reg_wire.specs.declared.wire_fault.WireFault.{WireFault}
 use Rattle.reg_wire.specs.declared.wire_fault.WireFault.TheVariants as fault
 use Rattle.reg_head.specs.Request.{Request, BytesAsk, IsSettled}
 use Rattle.reg_head.specs.declared.malformed.Malformed.{Malformed}
-use Rattle.reg_http.specs.Listening.{ChangesByTurns, count_of, sent_of}
+use Rattle.reg_http.specs.Listening.{ChangesByTurns}
+use Rattle.reg_http.specs.Meeting.{wholes}
+use Rattle.reg_wire.specs.declared.log.Sent.{Sent}
 use Rattle.reg_wire.specs.Serving.{Exchange, IsAnswered, IsServed, FailsBy, Lead}
 use Rattle.reg_wire.specs.declared.response.Response.{Response}
 
@@ -67,12 +69,12 @@ module _ {S : Type 0} (Serves : S → Call → Response → S → Type 0) where
   failed_turn moment fault.Memory before after unread left had has (inr same, nothing) =
       no_turn 1 before after same
 
-  pub turn : (moment body : ℕ) (r : Result ℕ WireFault) (before after : S)
+  pub turn : (moment : ℕ) (r : Result Sent WireFault) (before after : S)
       (unread left had has : Option (List ℕ))
-      → IfOk r (λ n. IsServed Serves moment before after unread left had has n)
+      → IfOk r (λ sent. IsServed Serves moment before after unread left had has sent.status)
       → IfErr r (λ why. FailsBy Serves moment why before after unread left had has)
-      → ChangesByTurns Serves 1 (count_of (sent_of r body)) before after
-  turn moment body (Ok n) before after unread left had has h k =
+      → ChangesByTurns Serves 1 (wholes r) before after
+  turn moment (Ok sent) before after unread left had has h k =
       one_turn 1 moment before after unread left h.told (omega arith) h.answered
-  turn moment body (Err why) before after unread left had has h k =
+  turn moment (Err why) before after unread left had has h k =
       failed_turn moment why before after unread left had has k

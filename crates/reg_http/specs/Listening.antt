@@ -1,10 +1,9 @@
 -- What a listener's connections do to an office.
-use Rattle.std.specs.Prelude.{◌≤◌, ◌/◌, ℕ, List, length, Option, Some, None, Result, Ok, Err}
+use Rattle.std.specs.Prelude.{◌≤◌, ◌/◌, ℕ, List, length, Option, Some, None}
 use Rattle.std.specs.Duration.{as_nanos}
 use Rattle.std.specs.declared.time.Duration.{Duration}
 use Rattle.reg_wire.specs.Exchange.{Call}
 use Rattle.reg_wire.specs.Serving.{Exchange, Lead}
-use Rattle.reg_wire.specs.declared.wire_fault.WireFault.{WireFault}
 use Rattle.reg_wire.specs.declared.log.Sent.{Sent}
 use Rattle.reg_wire.specs.declared.response.Response.{Response}
 
@@ -12,11 +11,6 @@ use Rattle.reg_wire.specs.declared.response.Response.{Response}
 abbrev pub moment_by : Option Duration → ℕ
 moment_by None = 0
 moment_by (Some time) = as_nanos time / 1000000000
-
--- the answer that was written whole, with the size of its body
-abbrev pub sent_of : Result ℕ WireFault → ℕ → Option Sent
-sent_of (Ok status) body = Some (record { status = status; body = body })
-sent_of (Err fault) body = None
 
 -- one where an answer was written whole
 abbrev pub count_of : Option Sent → ℕ

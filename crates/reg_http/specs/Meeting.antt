@@ -60,23 +60,23 @@ pub record Meeting : Type 0 where
 -- one exchange over it, and what became of that; `blank` is what is known of one over which nothing
 -- was written
 pub record Meets {S : Type 0} (Serves : S → Call → Response → S → Type 0) (blank : Option (List ℕ))
-    (m : Meeting) (before after : S) (outcome : Result ℕ WireFault) : Type 0 where
+    (m : Meeting) (before after : S) (outcome : Result Sent WireFault) : Type 0 where
   pub left : Option (List ℕ)
   pub ok : IfOk outcome
-      (λ status. IsServed Serves m.moment before after m.unread left blank m.wrote status)
+      (λ sent. IsServed Serves m.moment before after m.unread left blank m.wrote sent.status)
   pub err : IfErr outcome
       (λ fault. FailsBy Serves m.moment fault before after m.unread left blank m.wrote)
 
 -- one where the answer was written whole
-abbrev pub wholes : Result ℕ WireFault → ℕ
-wholes (Ok status) = 1
+abbrev pub wholes : Result Sent WireFault → ℕ
+wholes (Ok sent) = 1
 wholes (Err fault) = 0
 
 -- the exchange over a connection that came, and what is told of it
 pub record Exchanges {S : Type 0} (Serves : S → Call → Response → S → Type 0)
     (blank : Option (List ℕ)) (moment : ℕ) (unread : Option (List ℕ)) (had has : Option (List (Option (List ℕ)))) (before after : S)
     (sent : Option Sent) : Type 0 where
-  pub outcome : Result ℕ WireFault
+  pub outcome : Result Sent WireFault
   pub wrote : Option (List ℕ)
   pub meets : Meets Serves blank (record { moment = moment; unread = unread; wrote = wrote }) before
       after outcome
@@ -121,7 +121,7 @@ abbrev pub InTurn : {S : Type 0} → (S → Call → Response → S → Type 0) 
 InTurn Serves blank before [] answered after = (answered ≡ 0) × (after ≡ before)
 InTurn Serves blank before (None ∷ ts) answered after = InTurn Serves blank before ts answered after
 InTurn {S} Serves blank before (Some m ∷ ts) answered after =
-    (now : S) × (outcome : Result ℕ WireFault) × (rest : ℕ) × Meets Serves blank m before now outcome
+    (now : S) × (outcome : Result Sent WireFault) × (rest : ℕ) × Meets Serves blank m before now outcome
     × (answered ≡ wholes outcome + rest) × InTurn Serves blank now ts rest after
 
 -- Over so many turns the connections that come are met, in this order, each at the moment that the

@@ -1,7 +1,6 @@
 //! Serves connections over HTTP/1.1 (RFC 9112), one after the other.
 #![tactic(auto)]
 
-mod body_size;
 pub mod dates;
 pub mod known;
 pub mod laws;

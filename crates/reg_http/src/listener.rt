@@ -1,23 +1,18 @@
 //! Serves connections, one after the other.
 ghost use Rattle.std.specs.Prelude.{◌≡◌, ◌+◌, ◌≤◌};
-ghost use Rattle.reg_http.specs.Listening.{ChangesByTurns, count_of, sent_of};
+ghost use Rattle.reg_http.specs.Listening.{ChangesByTurns, count_of};
 ghost use Rattle.reg_http.specs.Meeting.{Exchanges, ServesInTurn};
 ghost use Rattle.reg_wire.specs.Serving.{AnswersOver};
 
-use crate::body_size::BodySize;
 use crate::dates::{Dates, moment_now};
 use crate::peers::Peers;
-use http::StatusCode;
 use reg_head::watch::Watch;
 use reg_keeper::keeper::Keeper;
 use reg_office::Office;
 use reg_parse::route::Routes;
 use reg_wire::log::{Log, Sent};
 use reg_wire::serving::{respond, send_told};
-use reg_wire::wire_fault::WireFault;
 use std::alloc::Global;
-use std::io;
-use std::io::Write;
 
 /// How many seconds a peer has to send its request, and again to take the answer.
 pub const PATIENCE_SECONDS: u64 = 10;
@@ -113,48 +108,9 @@ fn exchange<K: Keeper, P: Peers, L: Log>(
     let mut reader = reader;
     let mut watch = Watch::new();
     let told = respond(alloc, office, routes, moment, &mut reader, &mut watch, log);
-    let mut measured = Measured {
-        writer: peers.turned(reader),
-        measures: L::IS_KEPT,
-        size: BodySize::new(),
-    };
-    let served = send_told(alloc, &mut measured, told);
-    let sent = sent_of(served, measured.size.body());
+    let mut writer = peers.turned(reader);
+    let sent = send_told(alloc, &mut writer, told).ok();
     log.ended(moment, sent);
-    peers.end(measured.writer, sent);
+    peers.end(writer, sent);
     sent
-}
-
-// The answer that was written whole, with the size of its body.
-fn sent_of(served: Result<StatusCode, WireFault>, body: usize) -> Option<Sent>
-    ensures { result ≡ sent_of served body }
-{
-    match served {
-        Ok(status) => Some(Sent { status, body }),
-        Err(_) => None,
-    }
-}
-
-// A connection that measures the body of the answer that is written, where that is wanted.
-#[derive(Drop)]
-struct Measured<W> {
-    writer: W,
-    measures: bool,
-    size: BodySize,
-}
-
-impl<W: Write> Write for Measured<W> {
-    ghost contents = { λ m. W.contents m.writer };
-
-    fn write(&mut self, buf: &[u8]) -> io::Result<usize> {
-        let count = self.writer.write(buf)?;
-        if self.measures {
-            self.size.count(&buf[..count]);
-        }
-        Ok(count)
-    }
-
-    fn flush(&mut self) -> io::Result<()> {
-        self.writer.flush()
-    }
 }

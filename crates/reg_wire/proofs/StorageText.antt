@@ -4,7 +4,7 @@ use Rattle.std.specs.Prelude.{codes}
 use Rattle.std.specs.Fmt.{digits}
 use Rattle.serde_json.proofs.OnLiterals.{serde_json_on_literals}
 use Rattle.reg_print.specs.Answer.{body_text}
-use Rattle.reg_wire.specs.Response.{head_text, response_text}
+use Rattle.reg_wire.specs.Response.{head_text, response_text, sent_as}
 use Rattle.reg_wire.specs.Serving.{storage}
 
 abbrev pub storage_text : List ℕ
@@ -14,3 +14,7 @@ storage_text =
 pub storage_is : storage_text ≡ response_text storage
 unfolding body_text digits serde_json_on_literals head_text response_text
 storage_is = refl
+
+pub storage_sent : record { status = 503; body = 19 } ≡ sent_as storage
+unfolding body_text digits serde_json_on_literals
+storage_sent = refl

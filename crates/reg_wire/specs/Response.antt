@@ -8,6 +8,7 @@ use Rattle.reg_print.specs.declared.answer.Format.{Format}
 use Rattle.reg_print.specs.declared.answer.Format.TheVariants as formats
 use Rattle.reg_head.specs.declared.malformed.Malformed.{Malformed}
 use Rattle.reg_head.specs.declared.malformed.Malformed.TheVariants as malformed
+use Rattle.reg_wire.specs.declared.log.Sent.{Sent}
 use Rattle.reg_wire.specs.declared.response.Response.{Response}
 use Rattle.reg_wire.specs.declared.response.Response.TheVariants as response
 
@@ -44,6 +45,10 @@ format (response.Malformed why) = formats.Json
 abbrev pub body : Response → List ℕ
 body (response.Answer answer) = body_text answer
 body (response.Malformed why) = malformed_body why
+
+-- what is told of an answer that was written whole: its status, and how many bytes its body has
+abbrev pub sent_as : Response → Sent
+sent_as told = record { status = status told; body = length (body told) }
 
 -- ---- The bytes
 

@@ -3,7 +3,8 @@ use Rattle.std.specs.Prelude.{◌≡◌, ◌≢◌, ◌<◌, ℕ, List, [], leng
 use Rattle.std.specs.Io.KnownBytes.{Appends}
 use Rattle.reg_wire.specs.declared.wire_fault.WireFault.{WireFault}
 use Rattle.reg_wire.specs.declared.wire_fault.WireFault.TheVariants as fault
-use Rattle.reg_wire.specs.Response.{response_text, status}
+use Rattle.reg_wire.specs.Response.{response_text, sent_as}
+use Rattle.reg_wire.specs.declared.log.Sent.{Sent}
 use Rattle.reg_wire.specs.Serving.{storage}
 use Rattle.reg_wire.specs.declared.response.Response.{Response}
 
@@ -15,9 +16,9 @@ IsUnsent (fault.Write n) told had has =
 IsUnsent fault.Memory told had has = (told ≢ storage) × Appends had has []
 
 -- what is given to be told is sent, or told to have failed
-abbrev pub IsSentBy : Result Response WireFault → Result ℕ WireFault → Option (List ℕ)
+abbrev pub IsSentBy : Result Response WireFault → Result Sent WireFault → Option (List ℕ)
     → Option (List ℕ) → Type 0
-IsSentBy (Ok told) (Ok n) had has = (n ≡ status told) × Appends had has (response_text told)
+IsSentBy (Ok told) (Ok sent) had has = (sent ≡ sent_as told) × Appends had has (response_text told)
 IsSentBy (Ok told) (Err fault) had has = IsUnsent fault told had has
-IsSentBy (Err why) (Ok n) had has = ⊥
+IsSentBy (Err why) (Ok sent) had has = ⊥
 IsSentBy (Err why) (Err fault) had has = (fault ≡ why) × Appends had has []

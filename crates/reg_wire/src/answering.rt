@@ -1,10 +1,11 @@
 //! Writes an answer.
 ghost use Rattle.std.specs.Prelude.{◌≡◌, ◌≢◌, true, false, IfOk, IfErr};
 ghost use Rattle.std.specs.Io.KnownBytes.{Appends};
-ghost use Rattle.reg_wire.specs.Response.{status, response_text};
+ghost use Rattle.reg_wire.specs.Response.{response_text, sent_as};
 ghost use Rattle.reg_wire.specs.Sending.{IsUnsent};
 ghost use Rattle.reg_wire.specs.Serving.{storage};
 
+use crate::log::Sent;
 use crate::response::{Response, response_bytes};
 use crate::sending::send;
 use crate::wire_fault::WireFault;
@@ -17,15 +18,18 @@ use std::io::Write;
 const STORAGE: &[u8] =
     b"HTTP/1.1 503 Service Unavailable\r\nContent-Type: application/json\r\nContent-Length: 19\r\nConnection: close\r\n\r\n{\"error\":\"storage\"}";
 
-/// Writes an answer, by one write where it is taken whole; gives its status. `Write(n)` where
+/// How many bytes its body has.
+const STORAGE_BODY: usize = 19;
+
+/// Writes an answer, by one write where it is taken whole; gives what is told of it. `Write(n)` where
 /// exactly its first n bytes went out, and `Memory` where there was none to make it; there always
 /// is for `Answer::Storage`.
 pub(crate) fn send_response<W: Write>(
     alloc: Global,
     writer: &mut W,
     response: Response,
-) -> Result<StatusCode, WireFault>
-    ensures ok { IfOk result (λ n. (n ≡ status response)
+) -> Result<Sent, WireFault>
+    ensures ok { IfOk result (λ sent. (sent ≡ sent_as response)
         × Appends (W.contents writer.old) (W.contents writer.new) (response_text response)) }
     ensures err { IfErr result (λ fault. IsUnsent fault response (W.contents writer.old)
         (W.contents writer.new)) }
@@ -34,8 +38,8 @@ pub(crate) fn send_response<W: Write>(
     let is_storage = is_storage(&response);
     drop(response);
     match made {
-        Ok((status, bytes)) => match send(writer, bytes.as_slice()) {
-            Ok(()) => Ok(status),
+        Ok((sent, bytes)) => match send(writer, bytes.as_slice()) {
+            Ok(()) => Ok(sent),
             Err(n) => Err(WireFault::Write(n)),
         },
         Err(_) if is_storage => send_storage(writer),
@@ -50,14 +54,17 @@ fn is_storage(response: &Response) -> bool
     matches!(response, Response::Answer(Answer::Storage))
 }
 
-fn send_storage<W: Write>(writer: &mut W) -> Result<StatusCode, WireFault>
-    ensures ok { IfOk result (λ n. (n ≡ status storage)
+fn send_storage<W: Write>(writer: &mut W) -> Result<Sent, WireFault>
+    ensures ok { IfOk result (λ sent. (sent ≡ sent_as storage)
         × Appends (W.contents writer.old) (W.contents writer.new) (response_text storage)) }
     ensures err { IfErr result (λ fault. IsUnsent fault storage (W.contents writer.old)
         (W.contents writer.new)) }
 {
     match send(writer, STORAGE) {
-        Ok(()) => Ok(StatusCode::SERVICE_UNAVAILABLE),
+        Ok(()) => Ok(Sent {
+            status: StatusCode::SERVICE_UNAVAILABLE,
+            body: STORAGE_BODY,
+        }),
         Err(n) => Err(WireFault::Write(n)),
     }
 }

@@ -7,7 +7,7 @@ use reg_parse::shown::Shown;
 pub struct Sent {
     /// Its status.
     pub status: StatusCode,
-    /// How many bytes its body has; 0 where the log keeps nothing.
+    /// How many bytes its body has.
     pub body: usize,
 }
 

@@ -1,8 +1,9 @@
 //! Answers as HTTP/1.1 writes them.
 ghost use Rattle.std.specs.Prelude.{◌≡◌, ◌++◌, ◌<◌, ◌^◌, IfOk, OnOk, length, string_bytes};
 ghost use Rattle.std.specs.Fmt.{decimal};
-ghost use Rattle.reg_wire.specs.Response.{malformed_status, malformed_body, status, media_type, reason, status_line, field_line, head_text, response_text, reply_text};
+ghost use Rattle.reg_wire.specs.Response.{malformed_status, malformed_body, media_type, reason, sent_as, status_line, field_line, head_text, response_text, reply_text};
 
+use crate::log::Sent;
 use http::StatusCode;
 use reg_head::malformed::Malformed;
 use reg_print::answer::{Answer, Format, body_of};
@@ -29,12 +30,13 @@ pub fn reply_bytes(alloc: Global, answer: &Answer) -> Result<Vec<u8>, AllocError
     Ok(bytes)
 }
 
-/// The status and the bytes of what is answered to the bytes of a request.
+/// The bytes of what is answered to the bytes of a request, and what is told of them once they are
+/// written.
 pub(crate) fn response_bytes(
     alloc: Global,
     response: &Response,
-) -> Result<(StatusCode, Vec<u8>), AllocError>
-    ensures status { IfOk result (λ r. r.0 ≡ status response.now) }
+) -> Result<(Sent, Vec<u8>), AllocError>
+    ensures sent { IfOk result (λ r. r.0 ≡ sent_as response.now) }
     ensures bytes { IfOk result (λ r. r.1.items ≡ response_text response.now) }
 {
     match response {
@@ -44,25 +46,33 @@ pub(crate) fn response_bytes(
 }
 
 #[tactic(auto, unfolding(crate::specs::Response::response_text))]
-fn answer_bytes(alloc: Global, answer: &Answer) -> Result<(StatusCode, Vec<u8>), AllocError>
-    ensures status { IfOk result (λ r. r.0 ≡ status (Response.Answer answer.now)) }
+fn answer_bytes(alloc: Global, answer: &Answer) -> Result<(Sent, Vec<u8>), AllocError>
+    ensures sent { IfOk result (λ r. r.0 ≡ sent_as (Response.Answer answer.now)) }
     ensures bytes { IfOk result (λ r. r.1.items ≡ reply_text answer.now) }
 {
     let (_, body) = body_of(alloc, answer)?;
-    let status = answer.status();
-    let bytes = message(alloc, status, media_type(answer.format()), body.as_slice())?;
-    Ok((status, bytes))
+    let sent = Sent {
+        status: answer.status(),
+        body: body.len(),
+    };
+    let media = media_type(answer.format());
+    let bytes = message(alloc, sent.status, media, body.as_slice())?;
+    Ok((sent, bytes))
 }
 
 #[tactic(auto, unfolding(crate::specs::Response::response_text))]
-fn malformed_bytes(alloc: Global, why: Malformed) -> Result<(StatusCode, Vec<u8>), AllocError>
-    ensures status { IfOk result (λ r. r.0 ≡ status (Response.Malformed why)) }
+fn malformed_bytes(alloc: Global, why: Malformed) -> Result<(Sent, Vec<u8>), AllocError>
+    ensures sent { IfOk result (λ r. r.0 ≡ sent_as (Response.Malformed why)) }
     ensures bytes { IfOk result
         (λ r. r.1.items ≡ response_text (Response.Malformed why)) }
 {
-    let status = malformed_status(why);
-    let bytes = message(alloc, status, media_type(Format::Json), malformed_body(why))?;
-    Ok((status, bytes))
+    let body = malformed_body(why);
+    let sent = Sent {
+        status: malformed_status(why),
+        body: body.len(),
+    };
+    let bytes = message(alloc, sent.status, media_type(Format::Json), body)?;
+    Ok((sent, bytes))
 }
 
 fn malformed_status(why: Malformed) -> StatusCode

@@ -9,10 +9,9 @@ ghost use Rattle.reg_head.specs.Request.{Request};
 
 use crate::answering::send_response;
 use crate::exchange::{Call, answer_to};
-use crate::log::{Log, Unlogged};
+use crate::log::{Log, Sent, Unlogged};
 use crate::response::Response;
 use crate::wire_fault::WireFault;
-use http::StatusCode;
 use reg_head::message::Message;
 use reg_head::reading::read_request;
 use reg_head::unread::Unread;
@@ -63,16 +62,16 @@ pub fn serve_one<K: Keeper, R: Read, W: Write>(
         &mut watch,
         &mut Unlogged,
     )?;
-    let status = send_response(alloc, writer, response)?;
-    Ok(status.as_u16())
+    let sent = send_response(alloc, writer, response)?;
+    Ok(sent.status.as_u16())
 }
 
-/// Writes what is to be told, if anything is, and gives its status.
+/// Writes what is to be told, if anything is, and gives what is told of it.
 pub fn send_told<W: Write>(
     alloc: Global,
     writer: &mut W,
     told: Result<Response, WireFault>,
-) -> Result<StatusCode, WireFault>
+) -> Result<Sent, WireFault>
     ensures { IsSentBy told result (W.contents writer.old) (W.contents writer.new) }
 {
     match told {

@@ -7,7 +7,7 @@ use Rattle.reg_http.proofs.listener.exchange.Goals as goal
 
 pub returns-clause-exchanges : goal.returns-clause-exchanges
 returns-clause-exchanges g c =
-    let wrote = g.P.Writer.Write.contents c.send_told-served.new.writer.writer in
+    let wrote = g.P.Writer.Write.contents c.send_told.new.writer in
     let EndsOf : Option (List (Option (List ℕ))) → Type 0 =
     λ had. EndsOneMore had (g.P.Peers.written c.end.new.self) wrote in
     let Over = AnswersOver g.K.Keeper.world g.K.Keeper.Holds g.K.Keeper.Sound g.K.Keeper.FAILS in
@@ -18,9 +18,9 @@ returns-clause-exchanges g c =
       unread = g.P.Reader.Read.remaining c.args.reader;
       wrote = wrote;
     })
-    c.args.office.now c.respond-told.new.office c.send_told-served.result in
+    c.args.office.now c.respond-told.new.office c.send_told.result in
     record {
-      outcome = c.send_told-served.result;
+      outcome = c.send_told.result;
       wrote = wrote;
       meets =
           subst MeetsFrom c.turned.ensures.is_new
@@ -28,9 +28,9 @@ returns-clause-exchanges g c =
           (g.P.Reader.Read.remaining c.args.reader)
           (g.P.Reader.Read.remaining c.respond-told.new.reader)
           (g.P.Writer.Write.contents c.turned.result) wrote c.respond-told.result
-          c.send_told-served.result c.respond-told.ensures.ok c.respond-told.ensures.err
-          c.send_told-served.ensures);
+          c.send_told.result c.respond-told.ensures.ok c.respond-told.ensures.err
+          c.send_told.ensures);
       counted =
-          ap count_of c.sent_of-sent.ensures ∙ count_is c.send_told-served.result c.body.result;
+          ap count_of c.ok-sent.ensures.value ∙ count_is c.send_told.result;
       ends = subst EndsOf c.turned.ensures.ended c.end.ensures.ends;
     }
