@@ -4,8 +4,8 @@ pub mod Counted
 pub mod Decided
 pub mod Digests
 pub mod Pages
-pub mod PublishedRows
 pub mod Requests
 pub mod Rows
+pub mod RowsAscend
 pub mod Selected
 pub mod Submissions

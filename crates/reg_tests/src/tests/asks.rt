@@ -62,11 +62,17 @@ fn block_ask(alloc: Global, size: Size) -> Result<Ask, Fail> {
     }))
 }
 
-// What an ask of ana's is answered by these rows.
-fn expect_answer(rt: &impl Abort, ask: &Ask, rows: &Ground<'_>, want: Result<Given, Refusal>) {
+// What an ask of an account is answered by these rows, which ascend.
+fn expect_answer(
+    rt: &impl Abort,
+    letters: &str,
+    ask: &Ask,
+    rows: &Ground<'_>,
+    want: Result<Given, Refusal>,
+) {
     expect_true(rt, rows.ascends(), "in order");
-    let answer = check_ask(&account(rt, "ana"), ask, rows);
-    expect(rt, answer, want, "what is given");
+    let answer = check_ask(&account(rt, letters), ask, rows);
+    expect(rt, answer, want, letters);
 }
 
 fn expect_code(
@@ -75,7 +81,7 @@ fn expect_code(
     want: Want,
     answer: Result<Given, Refusal>,
 ) -> Result<(), Fail> {
-    expect_answer(rt, &code_ask(rt, want)?, rows, answer);
+    expect_answer(rt, "ana", &code_ask(rt, want)?, rows, answer);
     Ok(())
 }
 
@@ -187,13 +193,8 @@ fn expect_standing(
     rows: &Ground<'_>,
     [ana, bob]: [Result<Given, Refusal>; 2],
 ) {
-    expect_answer(rt, ask, rows, ana);
-    expect(
-        rt,
-        check_ask(&account(rt, "bob"), ask, rows),
-        bob,
-        "what is kept",
-    );
+    expect_answer(rt, "ana", ask, rows, ana);
+    expect_answer(rt, "bob", ask, rows, bob);
 }
 
 #[test]
@@ -225,7 +226,7 @@ fn expect_block(
     digits: &str,
 ) -> Result<(), Fail> {
     let answer = Ok(Given::Block(block(rt, digits)));
-    expect_answer(rt, &block_ask(rt.alloc(), size)?, rows, answer);
+    expect_answer(rt, "ana", &block_ask(rt.alloc(), size)?, rows, answer);
     Ok(())
 }
 
@@ -240,7 +241,7 @@ fn blocks_of_a_pool(rt: HostRuntime) -> Result<(), Fail> {
     expect_block(&rt, &rows, Size::MaS, "001A2B101")?;
     expect_block(&rt, &rows, Size::MaM, "001A2B2")?;
     let large = block_ask(rt.alloc(), Size::MaL)?;
-    expect_answer(&rt, &large, &rows, Err(Refusal::Exhausted));
+    expect_answer(&rt, "ana", &large, &rows, Err(Refusal::Exhausted));
     Ok(())
 }
 
@@ -253,7 +254,7 @@ fn rows_that_an_ask_does_not_need(rt: HostRuntime) -> Result<(), Fail> {
     };
     expect_value(&rt, &nothing, 64, Err(Refusal::Registry))?;
     let large = block_ask(rt.alloc(), Size::MaL)?;
-    expect_answer(&rt, &large, &nothing, Err(Refusal::Exhausted));
+    expect_answer(&rt, "ana", &large, &nothing, Err(Refusal::Exhausted));
     let pool = pool(&rt);
     let blocks = Ground::Block {
         pool: &pool,
