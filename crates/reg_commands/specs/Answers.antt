@@ -18,6 +18,7 @@ use Rattle.reg_core.specs.declared.told.Told.TheVariants.{Made, Row, Rows}
 use Rattle.reg_core.specs.declared.refusal.Refusal.TheVariants as no
 use Rattle.reg_core.specs.declared.request.Request.{Request}
 use Rattle.reg_commands.specs.Caller.{token_digest}
+use Rattle.reg_commands.specs.declared.admission.Caller.{Caller}
 
 -- ---- An applicant
 
@@ -64,11 +65,11 @@ answer_to_expert expert command w = expert_answer expert (personal expert w) com
 
 -- ---- A clerk
 
--- at a moment, on its day; in_use is the digest of the token in use
-abbrev pub answer_to_clerk : List ℕ → ℕ → ℕ → ClerkCommand → World → Answer
-answer_to_clerk in_use moment today command w =
-    clerk_answer token_digest w in_use moment today command
+-- the token in use is the clerk's own
+abbrev pub answer_to_clerk : Caller → ClerkCommand → World → Answer
+answer_to_clerk clerk command w =
+    clerk_answer token_digest w clerk.digest clerk.moment clerk.day command
 
 -- where neither the token in use nor the time makes a difference
 abbrev pub answer_at_desk : ClerkCommand → World → Answer
-answer_at_desk command w = answer_to_clerk [] 0 0 command w
+answer_at_desk command w = clerk_answer token_digest w [] 0 0 command

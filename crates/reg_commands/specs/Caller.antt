@@ -24,13 +24,13 @@ abbrev pub caller_of : Option (List ℕ) → Option (List ℕ)
 caller_of None = None
 caller_of (Some token) = if is_token token then Some (token_digest token) else None
 
--- the caller with the capability by which it gives a command of a kind at a moment, or the first
--- refusal
-abbrev pub admission : World → Option (List ℕ) → ℕ → Kind → Result Caller Refusal
-admission w None moment kind = Err no.Token
-admission w (Some digest) moment kind = do
+-- the caller with the capability by which it gives a command of a kind at a moment, on its day, or
+-- the first refusal
+abbrev pub admission : World → Option (List ℕ) → ℕ → ℕ → Kind → Result Caller Refusal
+admission w None moment day kind = Err no.Token
+admission w (Some digest) moment day kind = do
   cap ← admitted (get w.caps digest) moment kind
-  Ok (record { digest = digest; cap = cap })
+  Ok (record { digest = digest; capability = cap; moment = moment; day = day })
 
 -- the step of the office at a command that comes with this token, or with none
 abbrev pub step_by : World → Option (List ℕ) → ℕ → Command → Stepped

@@ -10,35 +10,47 @@ use crate::stop::Stop;
 use reg_core::capability::{Cap, Kind};
 use reg_core::refusal::Refusal;
 use reg_core::text::Digest;
+use reg_early::day::Day;
 use reg_keeper::keeper::Keeper;
 
-/// A caller who is admitted.
+/// A caller who is admitted, with the moment of its command.
 #[derive(Clone, Copy)]
 pub struct Caller {
     /// The digest of the caller's token.
     pub digest: Digest,
     /// The capability at that digest.
-    pub cap: Cap,
+    pub capability: Cap,
+    /// The moment, in seconds since 1970-01-01T00:00:00Z.
+    pub moment: u64,
+    /// The day of the moment.
+    pub day: Day,
 }
 
-/// The caller with this token, where it may give commands of this kind at this moment, or the first
-/// refusal: `Token`, then `Kind`. A caller without a token is answered without a look at the keeper.
+/// The caller with this token, where it may give commands of this kind at this moment, whose day is
+/// given too, or the first refusal: `Token`, then `Kind`. A caller without a token is answered without
+/// a look at the keeper.
 pub fn admit<K: Keeper>(
     keeper: &mut K,
     token: Option<&[u8]>,
     moment: u64,
+    day: Day,
     kind: Kind,
 ) -> Result<Caller, Stop>
     ensures caller { LooksUp K.world K.Holds K.Sound K.FAILS keeper.old keeper.new result
-        (λ w. admission w (caller (option_copied token.entry)) moment kind) }
+        (λ w. admission w (caller (option_copied token.entry)) moment day kind) }
     ensures nobody { caller (option_copied token.entry) ≡ None →
         result ≡ Err (Stop.Refused Refusal.Token) }
     ensures untouched { caller (option_copied token.entry) ≡ None → keeper.new ≡ keeper.old }
 {
     let digest = caller_of(token).ok_or(Refusal::Token)?;
     let existing = keeper.cap(&digest)?;
-    let cap = serving(existing, moment, kind)?;
-    Ok(Caller { digest, cap })
+    let capability = serving(existing, moment, kind)?;
+    Ok(Caller {
+        digest,
+        capability,
+        moment,
+        day,
+    })
 }
 
 // The capability by which a command of this kind may be given.

@@ -3,6 +3,7 @@ ghost use Rattle.reg_core.specs.declared.command.ApplicantCommand.TheVariants as
 ghost use Rattle.reg_commands.specs.Answers.{answer_to_account};
 ghost use Rattle.reg_commands.specs.Performs.{Performs};
 
+use crate::admission::Caller;
 use crate::carrying::conclude;
 use crate::decisions::decide_agent;
 use crate::stop::Stop;
@@ -16,13 +17,14 @@ use reg_ranges::formed::Formed;
 /// of that account is never looked at.
 pub fn set_agent<K: Keeper>(
     keeper: &mut K,
-    account: &Account,
+    caller: &Caller,
     agent: &Account,
     reads: bool,
 ) -> Result<Told, Stop>
     ensures { Performs K.world K.Holds K.Sound K.FAILS keeper.old keeper.new result
-        (answer_to_account account.now (command.SetAgent agent.now reads)) }
+        (answer_to_account caller.now.capability.account (command.SetAgent agent.now reads)) }
 {
+    let account = &caller.capability.account;
     let there = keeper.is_agent(account, agent)?;
     account.formed();
     agent.formed();

@@ -11,6 +11,7 @@ ghost use Rattle.reg_core.specs.declared.command.ApplicantCommand.TheVariants as
 ghost use Rattle.reg_commands.specs.Answers.{answer_to_account, told_made};
 ghost use Rattle.reg_commands.specs.Performs.{LooksUp, Performs};
 
+use crate::admission::Caller;
 use crate::agents::{list_agents, list_principal_rows, list_principals, set_agent};
 use crate::carrying::{conclude, conclude_on};
 use crate::decisions::{decide_submit, decide_withdraw};
@@ -28,25 +29,26 @@ use reg_keeper::keeper::Keeper;
 use reg_ranges::formed::Formed;
 use std::alloc::AllocError;
 
-/// What a command of this account's is answered.
+/// What a command of this applicant's is answered.
 pub fn perform<K: Keeper>(
     keeper: &mut K,
-    account: &Account,
+    caller: &Caller,
     command: &ApplicantCommand,
 ) -> Result<Told, Stop>
     ensures { Performs K.world K.Holds K.Sound K.FAILS keeper.old keeper.new result
-        (answer_to_account account.now command.now) }
+        (answer_to_account caller.now.capability.account command.now) }
 {
+    let account = &caller.capability.account;
     match command {
         ApplicantCommand::Own => list_own(keeper, account),
         ApplicantCommand::OwnOne(reference) => show_own(keeper, account, reference),
-        ApplicantCommand::Submit(reference, ask) => { submit(keeper, account, reference, ask) }
-        ApplicantCommand::Withdraw(reference) => withdraw(keeper, account, reference),
+        ApplicantCommand::Submit(reference, ask) => submit(keeper, caller, reference, ask),
+        ApplicantCommand::Withdraw(reference) => withdraw(keeper, caller, reference),
         ApplicantCommand::Holdings => list_holdings(keeper, account),
         ApplicantCommand::SetListing(block, private) => {
-            set_listing(keeper, account, block, *private)
+            set_listing(keeper, caller, block, *private)
         }
-        ApplicantCommand::SetAgent(agent, reads) => set_agent(keeper, account, agent, *reads),
+        ApplicantCommand::SetAgent(agent, reads) => set_agent(keeper, caller, agent, *reads),
         ApplicantCommand::Agents => list_agents(keeper, account),
         ApplicantCommand::Principals => list_principals(keeper, account),
         ApplicantCommand::PrincipalRows(principal) => {
@@ -75,13 +77,14 @@ fn show_own<K: Keeper>(keeper: &mut K, account: &Account, reference: &Ref) -> Re
 // A request of the applicant's.
 fn submit<K: Keeper>(
     keeper: &mut K,
-    account: &Account,
+    caller: &Caller,
     reference: &Ref,
     ask: &Ask,
 ) -> Result<Told, Stop>
     ensures { Performs K.world K.Holds K.Sound K.FAILS keeper.old keeper.new result
-        (answer_to_account account.now (command.Submit reference.now ask.now)) }
+        (answer_to_account caller.now.capability.account (command.Submit reference.now ask.now)) }
 {
+    let account = &caller.capability.account;
     let existing = keeper.own_one(account, reference)?;
     request_formed(account, reference, ask);
     let decision = submission(keeper, existing.as_ref(), account, reference, ask)?;
@@ -124,10 +127,11 @@ fn told_of(
 }
 
 // Takes a request of the applicant's back.
-fn withdraw<K: Keeper>(keeper: &mut K, account: &Account, reference: &Ref) -> Result<Told, Stop>
+fn withdraw<K: Keeper>(keeper: &mut K, caller: &Caller, reference: &Ref) -> Result<Told, Stop>
     ensures { Performs K.world K.Holds K.Sound K.FAILS keeper.old keeper.new result
-        (answer_to_account account.now (command.Withdraw reference.now)) }
+        (answer_to_account caller.now.capability.account (command.Withdraw reference.now)) }
 {
+    let account = &caller.capability.account;
     let request = keeper.own_one(account, reference)?.ok_or(Refusal::Request)?;
     let decision = decide_withdraw(&request)?;
     Ok(Told::Row(conclude_on(keeper, request, decision)?))

@@ -7,13 +7,14 @@ ghost use Rattle.reg_core.specs.declared.told.Told.TheVariants.{Granted};
 ghost use Rattle.reg_commands.specs.Answers.{answer_to_clerk, answer_at_desk};
 ghost use Rattle.reg_commands.specs.Performs.{Performs};
 
+use crate::admission::Caller;
 use crate::carrying::conclude;
 use crate::decisions::{decide_grant, decide_revoke, decide_revoke_account, decide_revoke_digits};
 use crate::digest::digest_of;
 use crate::stop::Stop;
 use reg_core::capability::{Cap, CapRow};
 use reg_core::rows::Rows;
-use reg_core::text::{Account, Digest, Digits, Token};
+use reg_core::text::{Account, Digits, Token};
 use reg_core::told::Told;
 use reg_keeper::keeper::Keeper;
 use reg_ranges::formed::Formed;
@@ -50,28 +51,28 @@ pub fn grant<K: Keeper>(keeper: &mut K, token: &Token, cap: &Cap) -> Result<Cap,
     Ok(conclude(keeper, Ok(*cap), decision)?)
 }
 
-/// Takes a token's capability away; `in_use` is the digest of the clerk's own token.
-pub fn revoke<K: Keeper>(keeper: &mut K, in_use: &Digest, token: &Token) -> Result<Told, Stop>
+/// Takes a token's capability away, unless it is the caller's own token.
+pub fn revoke<K: Keeper>(keeper: &mut K, caller: &Caller, token: &Token) -> Result<Told, Stop>
     ensures { Performs K.world K.Holds K.Sound K.FAILS keeper.old keeper.new result
-        (answer_to_clerk in_use.now 0 0 (command.Revoke token.now)) }
+        (answer_to_clerk caller.now (command.Revoke token.now)) }
 {
     let digest = digest_of(token.as_str().as_bytes());
     let existing = keeper.cap(&digest)?;
-    let decision = decide_revoke(in_use, existing.as_ref(), &digest)?;
+    let decision = decide_revoke(&caller.digest, existing.as_ref(), &digest)?;
     Ok(conclude(keeper, Ok(Told::Revoked), decision)?)
 }
 
 /// Takes the capability away of the one token whose digest begins with these digits.
 pub fn revoke_digits<K: Keeper>(
     keeper: &mut K,
-    in_use: &Digest,
+    caller: &Caller,
     digits: &Digits,
 ) -> Result<Told, Stop>
     ensures { Performs K.world K.Holds K.Sound K.FAILS keeper.old keeper.new result
-        (answer_to_clerk in_use.now 0 0 (command.RevokeDigits digits.now)) }
+        (answer_to_clerk caller.now (command.RevokeDigits digits.now)) }
 {
     let rows = beginning_with(keeper.caps()?.into_vec(), digits);
-    let decision = decide_revoke_digits(in_use, rows.as_slice())?;
+    let decision = decide_revoke_digits(&caller.digest, rows.as_slice())?;
     let told = Told::Capabilities(Rows::from_vec(rows));
     Ok(conclude(keeper, Ok(told), decision)?)
 }
@@ -80,14 +81,14 @@ pub fn revoke_digits<K: Keeper>(
 pub fn revoke_account<K: Keeper>(
     alloc: Global,
     keeper: &mut K,
-    in_use: &Digest,
+    caller: &Caller,
     account: &Account,
 ) -> Result<Told, Stop>
     ensures { Performs K.world K.Holds K.Sound K.FAILS keeper.old keeper.new result
-        (answer_to_clerk in_use.now 0 0 (command.RevokeAccount account.now)) }
+        (answer_to_clerk caller.now (command.RevokeAccount account.now)) }
 {
     let rows = those_of(keeper.caps()?.into_vec(), account);
-    let decision = decide_revoke_account(alloc, in_use, rows.as_slice())?;
+    let decision = decide_revoke_account(alloc, &caller.digest, rows.as_slice())?;
     let told = Told::Capabilities(Rows::from_vec(rows));
     Ok(conclude(keeper, Ok(told), decision)?)
 }

@@ -3,27 +3,23 @@
 ghost use Rattle.reg_commands.specs.Answers.{answer_to_clerk};
 ghost use Rattle.reg_commands.specs.Performs.{Performs};
 
+use crate::admission::Caller;
 use crate::stop::Stop;
 use crate::{capabilities, counting, desk, registers};
 use reg_core::command::ClerkCommand;
-use reg_core::text::Digest;
 use reg_core::told::Told;
-use reg_early::day::Day;
 use reg_keeper::keeper::Keeper;
 use std::alloc::Global;
 
-/// What a clerk's command is answered at a moment, in seconds since 1970-01-01T00:00:00Z, on its
-/// day; `in_use` is the digest of the clerk's own token.
+/// What a command of this clerk's is answered.
 pub fn perform<K: Keeper>(
     alloc: Global,
     keeper: &mut K,
-    in_use: &Digest,
-    moment: u64,
-    today: Day,
+    caller: &Caller,
     command: &ClerkCommand,
 ) -> Result<Told, Stop>
     ensures { Performs K.world K.Holds K.Sound K.FAILS keeper.old keeper.new result
-        (answer_to_clerk in_use.now moment today command.now) }
+        (answer_to_clerk caller.now command.now) }
 {
     match command {
         ClerkCommand::AllRequests => desk::list_all(keeper),
@@ -33,7 +29,7 @@ pub fn perform<K: Keeper>(
             desk::assign(keeper, account, reference, expert)
         }
         ClerkCommand::Approve(account, reference) => {
-            desk::approve(keeper, account, reference, today)
+            desk::approve(keeper, caller, account, reference)
         }
         ClerkCommand::Decline(account, reference, reason) => {
             desk::decline(keeper, account, reference, reason)
@@ -41,15 +37,15 @@ pub fn perform<K: Keeper>(
         ClerkCommand::Define(name, table) => registers::define(keeper, name, table),
         ClerkCommand::AddPool(prefix) => registers::add_pool(keeper, *prefix),
         ClerkCommand::SetHold(name, value, held) => {
-            registers::set_hold(keeper, name, *value, *held, today)
+            registers::set_hold(keeper, caller, name, *value, *held)
         }
         ClerkCommand::AllCapabilities => capabilities::list_all(keeper),
         ClerkCommand::Grant(token, cap) => capabilities::tell_grant(keeper, token, cap),
-        ClerkCommand::Revoke(token) => capabilities::revoke(keeper, in_use, token),
-        ClerkCommand::RevokeDigits(digits) => capabilities::revoke_digits(keeper, in_use, digits),
+        ClerkCommand::Revoke(token) => capabilities::revoke(keeper, caller, token),
+        ClerkCommand::RevokeDigits(digits) => capabilities::revoke_digits(keeper, caller, digits),
         ClerkCommand::RevokeAccount(account) => {
-            capabilities::revoke_account(alloc, keeper, in_use, account)
+            capabilities::revoke_account(alloc, keeper, caller, account)
         }
-        ClerkCommand::CountRows => counting::tell_counts(keeper, moment, today),
+        ClerkCommand::CountRows => counting::tell_counts(keeper, caller),
     }
 }

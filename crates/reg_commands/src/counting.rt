@@ -1,5 +1,5 @@
 //! How many rows of each kind an office has, requests apart.
-ghost use Rattle.std.specs.Prelude.{◌≡◌, [], length};
+ghost use Rattle.std.specs.Prelude.{◌≡◌, length};
 ghost use Rattle.reg_core.specs.CapRows.{cap_rows};
 ghost use Rattle.reg_core.specs.Counting.{cap_counts, counts as all_counts, entries_in, entry_counts};
 ghost use Rattle.reg_core.specs.Holding.{listed_rows, masked_blocks};
@@ -8,6 +8,7 @@ ghost use Rattle.reg_keeper.specs.Keeper.{Selects};
 ghost use Rattle.reg_commands.specs.Answers.{answer_to_clerk};
 ghost use Rattle.reg_commands.specs.Performs.{Performs};
 
+use crate::admission::Caller;
 use crate::stop::Stop;
 use reg_core::counts::{CapCounts, Counts, EntryCounts};
 use reg_core::text::Name;
@@ -16,11 +17,11 @@ use reg_early::day::Day;
 use reg_keeper::keeper::{Fault, Keeper};
 
 /// How many rows of each kind there are, as a clerk is told it.
-pub fn tell_counts<K: Keeper>(keeper: &mut K, moment: u64, today: Day) -> Result<Told, Stop>
+pub fn tell_counts<K: Keeper>(keeper: &mut K, caller: &Caller) -> Result<Told, Stop>
     ensures { Performs K.world K.Holds K.Sound K.FAILS keeper.old keeper.new result
-        (answer_to_clerk [] moment today CountRows) }
+        (answer_to_clerk caller.now CountRows) }
 {
-    Ok(Told::Counts(count(keeper, moment, today)?))
+    Ok(Told::Counts(count(keeper, caller.moment, caller.day)?))
 }
 
 /// How many rows of each kind there are on a day, at a moment in seconds since

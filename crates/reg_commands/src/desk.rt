@@ -1,5 +1,5 @@
 //! What a clerk may do about requests, once admitted.
-ghost use Rattle.std.specs.Prelude.{◌≡◌, []};
+ghost use Rattle.std.specs.Prelude.{◌≡◌};
 ghost use Rattle.reg_core.specs.Request.{is_pending as pending};
 ghost use Rattle.reg_core.specs.View.{published};
 ghost use Rattle.reg_core.specs.declared.command.ClerkCommand.TheVariants as command;
@@ -7,6 +7,7 @@ ghost use Rattle.reg_commands.specs.Answers.{answer_to_clerk, answer_at_desk};
 ghost use Rattle.reg_commands.specs.Decisions.{approval_of};
 ghost use Rattle.reg_commands.specs.Performs.{LooksUp, Performs};
 
+use crate::admission::Caller;
 use crate::carrying::conclude_on;
 use crate::decisions::{decide_approve, decide_assign, decide_decline};
 use crate::ground::ground_if;
@@ -62,19 +63,19 @@ pub fn assign<K: Keeper>(
     Ok(Told::Desk(conclude_on(keeper, file.request, decision)?))
 }
 
-/// Approves a request on a day, over its experts and all advice on it.
+/// Approves a request on the caller's day, over its experts and all advice on it.
 pub fn approve<K: Keeper>(
     keeper: &mut K,
+    caller: &Caller,
     account: &Account,
     reference: &Ref,
-    today: Day,
 ) -> Result<Told, Stop>
     ensures { Performs K.world K.Holds K.Sound K.FAILS keeper.old keeper.new result
-        (answer_to_clerk [] 0 today (command.Approve account.now reference.now)) }
+        (answer_to_clerk caller.now (command.Approve account.now reference.now)) }
 {
     let file = keeper.file(account, reference)?.ok_or(Refusal::Request)?;
-    today.formed();
-    let decision = approval(keeper, &file, today)?;
+    caller.day.formed();
+    let decision = approval(keeper, &file, caller.day)?;
     Ok(Told::Desk(conclude_on(keeper, file.request, decision)?))
 }
 

@@ -5,6 +5,7 @@ ghost use Rattle.reg_commands.specs.Answers.{answer_to_expert};
 ghost use Rattle.reg_commands.specs.Performs.{Performs};
 ghost use Rattle.reg_commands.specs.Rows.{advised_row};
 
+use crate::admission::Caller;
 use crate::carrying::conclude;
 use crate::decisions::decide_advise;
 use crate::stop::Stop;
@@ -21,16 +22,16 @@ use std::alloc::AllocError;
 /// What a command of this expert's is answered.
 pub fn perform<K: Keeper>(
     keeper: &mut K,
-    expert: &Account,
+    caller: &Caller,
     command: &ExpertCommand,
 ) -> Result<Told, Stop>
     ensures { Performs K.world K.Holds K.Sound K.FAILS keeper.old keeper.new result
-        (answer_to_expert expert.now command.now) }
+        (answer_to_expert caller.now.capability.account command.now) }
 {
     match command {
-        ExpertCommand::Queue => list_queue(keeper, expert),
+        ExpertCommand::Queue => list_queue(keeper, &caller.capability.account),
         ExpertCommand::Advise(account, reference, advice) => {
-            advise(keeper, expert, account, reference, advice)
+            advise(keeper, caller, account, reference, advice)
         }
     }
 }
@@ -47,14 +48,16 @@ fn list_queue<K: Keeper>(keeper: &mut K, expert: &Account) -> Result<Told, Stop>
 // looked at.
 fn advise<K: Keeper>(
     keeper: &mut K,
-    expert: &Account,
+    caller: &Caller,
     account: &Account,
     reference: &Ref,
     advice: &Advice,
 ) -> Result<Told, Stop>
     ensures { Performs K.world K.Holds K.Sound K.FAILS keeper.old keeper.new result
-        (answer_to_expert expert.now (command.Advise account.now reference.now advice.now)) }
+        (answer_to_expert caller.now.capability.account
+        (command.Advise account.now reference.now advice.now)) }
 {
+    let expert = &caller.capability.account;
     let row = keeper
         .queue_one(expert, account, reference)?
         .ok_or(Refusal::Request)?;

@@ -5,6 +5,7 @@ ghost use Rattle.reg_commands.specs.Answers.{answer_to_account};
 ghost use Rattle.reg_commands.specs.Performs.{Performs};
 ghost use Rattle.reg_commands.specs.Rows.{marked_row};
 
+use crate::admission::Caller;
 use crate::carrying::conclude;
 use crate::decisions::decide_listing;
 use crate::stop::Stop;
@@ -26,13 +27,15 @@ pub fn list_holdings<K: Keeper>(keeper: &mut K, account: &Account) -> Result<Tol
 /// Says of one of the applicant's own blocks whether its holder is private.
 pub fn set_listing<K: Keeper>(
     keeper: &mut K,
-    account: &Account,
+    caller: &Caller,
     block: &Block,
     private: bool,
 ) -> Result<Told, Stop>
     ensures { Performs K.world K.Holds K.Sound K.FAILS keeper.old keeper.new result
-        (answer_to_account account.now (command.SetListing block.now private)) }
+        (answer_to_account caller.now.capability.account
+        (command.SetListing block.now private)) }
 {
+    let account = &caller.capability.account;
     let held = keeper.holding(account, block)?.ok_or(Refusal::Holding)?;
     let decision = decide_listing(&held, private);
     let row = marked(held, private);

@@ -1,11 +1,12 @@
 //! What a clerk does about what is published: registries, marks of entries, and the pool of
 //! prefixes.
-ghost use Rattle.std.specs.Prelude.{◌≡◌, []};
+ghost use Rattle.std.specs.Prelude.{◌≡◌};
 ghost use Rattle.reg_core.specs.declared.command.ClerkCommand.TheVariants.{Define, AddPool, SetHold};
 ghost use Rattle.reg_commands.specs.Answers.{answer_at_desk, answer_to_clerk};
 ghost use Rattle.reg_commands.specs.Performs.{Performs};
 ghost use Rattle.reg_commands.specs.Rows.{held_row};
 
+use crate::admission::Caller;
 use crate::carrying::conclude;
 use crate::decisions::{decide_define, decide_hold, decide_pool};
 use crate::public::show;
@@ -14,7 +15,6 @@ use reg_core::entry::Entry;
 use reg_core::refusal::Refusal;
 use reg_core::text::Name;
 use reg_core::told::Told;
-use reg_early::day::Day;
 use reg_keeper::keeper::Keeper;
 use reg_ranges::formed::Formed;
 use reg_ranges::table::RangeTable;
@@ -41,21 +41,21 @@ pub fn add_pool<K: Keeper>(keeper: &mut K, prefix: u32) -> Result<Told, Stop>
     Ok(conclude(keeper, Ok(Told::Pooled(prefix)), decision)?)
 }
 
-/// Says of an entry whether it is held, and tells how it stands then on a day.
+/// Says of an entry whether it is held, and tells how it stands then on the caller's day.
 pub fn set_hold<K: Keeper>(
     keeper: &mut K,
+    caller: &Caller,
     name: &Name,
     value: u32,
     held: bool,
-    today: Day,
 ) -> Result<Told, Stop>
     ensures { Performs K.world K.Holds K.Sound K.FAILS keeper.old keeper.new result
-        (answer_to_clerk [] 0 today (SetHold name.now value held)) }
+        (answer_to_clerk caller.now (SetHold name.now value held)) }
 {
     keeper.ranges(name)?.ok_or(Refusal::Registry)?;
     let row = keeper.entry(name, value)?.ok_or(Refusal::Entry)?;
-    let decision = decide_hold(&row, held, today)?;
-    let shown = show(marked(row, held), today);
+    let decision = decide_hold(&row, held, caller.day)?;
+    let shown = show(marked(row, held), caller.day);
     Ok(Told::Marked(conclude(keeper, Ok(shown), decision)?))
 }
 

@@ -10,7 +10,7 @@ use Rattle.reg_core.specs.Answer.{Answer, admitted, as_kind, by_rule, own_answer
 use Rattle.reg_core.specs.Capability.{same_kind}
 use Rattle.reg_core.specs.Request.{request_rows}
 use Rattle.reg_core.specs.Rules.{agent_rule}
-use Rattle.reg_core.specs.Step.{answer_to, is_clerk}
+use Rattle.reg_core.specs.Step.{answer_to, clerk_answer, is_clerk}
 use Rattle.reg_core.specs.View.{Personal, published, personal, principal_rows_of, requests_by, requests_of, with_personal}
 use Rattle.reg_core.specs.World.{World}
 use Rattle.reg_core.specs.declared.capability.Cap.{Cap}
@@ -45,24 +45,26 @@ is_open_on moment today h = by (is_in_clock moment) refl h
 
 -- ---- A kind
 
--- who is admitted at this digest
-abbrev caller_by : List ℕ → Result Cap Refusal → Result Caller Refusal
-caller_by digest outcome = outcome >>= (λ cap. Ok (record { digest = digest; cap = cap }))
+-- who is admitted at this digest, at a moment, on its day
+abbrev caller_by : List ℕ → ℕ → ℕ → Result Cap Refusal → Result Caller Refusal
+caller_by digest moment day outcome = do
+  cap ← outcome
+  Ok (record { digest = digest; capability = cap; moment = moment; day = day })
 
 -- who acts as this kind is told by the rows of its account, whether the capability that was found
 -- serves or not
-as_caller : (w : World) (digest : List ℕ) (kind : Kind) (moment : ℕ)
+as_caller : (w : World) (digest : List ℕ) (kind : Kind) (moment day : ℕ)
     (told : List ℕ → Personal → Answer) (found : Option Cap)
     → as_kind kind (option_map (with_personal w) found) moment told
-    ≡ (caller_by digest (admitted found moment kind)
-    >>= (λ who. told who.cap.account (personal who.cap.account w)))
-as_caller w digest kind moment told None = refl
-as_caller w digest kind moment told (Some cap) = by (admitted (Some cap) moment kind) refl
+    ≡ (caller_by digest moment day (admitted found moment kind)
+    >>= (λ who. told who.capability.account (personal who.capability.account w)))
+as_caller w digest kind moment day told None = refl
+as_caller w digest kind moment day told (Some cap) = by (admitted (Some cap) moment kind) refl
   where
     by : (outcome : Result Cap Refusal) → admitted (Some cap) moment kind ≡ outcome
         → (outcome >>= (λ served. told cap.account (personal cap.account w)))
-        ≡ (caller_by digest outcome
-        >>= (λ who. told who.cap.account (personal who.cap.account w)))
+        ≡ (caller_by digest moment day outcome
+        >>= (λ who. told who.capability.account (personal who.capability.account w)))
     by (Err refusal) is = refl
     by (Ok served) is =
         let ok = admitted-ok (Some cap) moment kind served is in
@@ -106,30 +108,31 @@ own_rows w account (SetAgent agent reads) =
 own_rows w account (PrincipalRows principal) = principal_answered account principal w
 own_rows w account other = refl
 
-pub applicant_answered : (w : World) (caller : Option (List ℕ)) (moment : ℕ)
+pub applicant_answered : (w : World) (caller : Option (List ℕ)) (moment day : ℕ)
     (command : ApplicantCommand) → is_in_clock moment ≡ true
     → answer_to token_digest w caller moment (Applicant command)
-    ≡ (admission w caller moment kind.Applicant
-    >>= (λ who. answer_to_account who.cap.account command w))
-applicant_answered w None moment command open_now = rw open_now refl
-applicant_answered w (Some digest) moment command open_now =
+    ≡ (admission w caller moment day kind.Applicant
+    >>= (λ who. answer_to_account who.capability.account command w))
+applicant_answered w None moment day command open_now = rw open_now refl
+applicant_answered w (Some digest) moment day command open_now =
     rw open_now
-    (as_caller w digest kind.Applicant moment
+    (as_caller w digest kind.Applicant moment day
     (λ account my. own_answer (published w) account my command) (get w.caps digest)
-    ∙ ap (λ told. caller_by digest (admitted (get w.caps digest) moment kind.Applicant) >>= told)
-    (λ i who. own_rows w who.cap.account command i))
+    ∙ ap (λ told. caller_by digest moment day (admitted (get w.caps digest) moment kind.Applicant)
+    >>= told)
+    (λ i who. own_rows w who.capability.account command i))
 
 -- ---- An expert
 
-pub expert_answered : (w : World) (caller : Option (List ℕ)) (moment : ℕ)
+pub expert_answered : (w : World) (caller : Option (List ℕ)) (moment day : ℕ)
     (command : ExpertCommand) → is_in_clock moment ≡ true
     → answer_to token_digest w caller moment (Expert command)
-    ≡ (admission w caller moment kind.Expert
-    >>= (λ who. answer_to_expert who.cap.account command w))
-expert_answered w None moment command open_now = rw open_now refl
-expert_answered w (Some digest) moment command open_now =
+    ≡ (admission w caller moment day kind.Expert
+    >>= (λ who. answer_to_expert who.capability.account command w))
+expert_answered w None moment day command open_now = rw open_now refl
+expert_answered w (Some digest) moment day command open_now =
     rw open_now
-    (as_caller w digest kind.Expert moment (λ account my. expert_answer account my command)
+    (as_caller w digest kind.Expert moment day (λ account my. expert_answer account my command)
     (get w.caps digest))
 
 -- ---- A clerk
@@ -144,13 +147,14 @@ past until moment h = grind (arith, nat_tests)
 -- and nobody else
 abbrev answer_there : World → List ℕ → ℕ → ClerkCommand → Option Cap → Answer
 answer_there w digest moment command found =
-    if is_clerk found moment then answer_to_clerk digest moment (utc_day moment) command w
+    if is_clerk found moment
+    then clerk_answer token_digest w digest moment (utc_day moment) command
     else as_kind kind.Clerk (option_map (with_personal w) found) moment (λ account my. Err no.Kind)
 
 clerk_found : (w : World) (digest : List ℕ) (moment : ℕ) (command : ClerkCommand)
     (found : Option Cap) → answer_there w digest moment command found
-    ≡ (caller_by digest (admitted found moment kind.Clerk)
-    >>= (λ who. answer_to_clerk who.digest moment (utc_day moment) command w))
+    ≡ (caller_by digest moment (utc_day moment) (admitted found moment kind.Clerk)
+    >>= (λ who. answer_to_clerk who command w))
 clerk_found w digest moment command None = refl
 clerk_found w digest moment command (Some cap) =
     from (nat_le cap.until moment) (same_kind cap.kind kind.Clerk) refl refl
@@ -158,8 +162,8 @@ clerk_found w digest moment command (Some cap) =
     from : (late same : Bool) → nat_le cap.until moment ≡ late
         → same_kind cap.kind kind.Clerk ≡ same
         → answer_there w digest moment command (Some cap)
-        ≡ (caller_by digest (admitted (Some cap) moment kind.Clerk)
-        >>= (λ who. answer_to_clerk who.digest moment (utc_day moment) command w))
+        ≡ (caller_by digest moment (utc_day moment) (admitted (Some cap) moment kind.Clerk)
+        >>= (λ who. answer_to_clerk who command w))
     from true true l s = rw (s, past cap.until moment l, l) refl
     from true false l s = rw (s, l) refl
     from false true l s = rw (s, early cap.until moment l, l) refl
@@ -168,8 +172,8 @@ clerk_found w digest moment command (Some cap) =
 pub clerk_answered : (w : World) (caller : Option (List ℕ)) (moment : ℕ)
     (command : ClerkCommand) → is_in_clock moment ≡ true
     → answer_to token_digest w caller moment (Clerk command)
-    ≡ (admission w caller moment kind.Clerk
-    >>= (λ who. answer_to_clerk who.digest moment (utc_day moment) command w))
+    ≡ (admission w caller moment (utc_day moment) kind.Clerk
+    >>= (λ who. answer_to_clerk who command w))
 clerk_answered w None moment command open_now = rw open_now refl
 clerk_answered w (Some digest) moment command open_now =
     rw open_now (clerk_found w digest moment command (get w.caps digest))

@@ -163,16 +163,16 @@ fn answer<K: Keeper>(
     match command {
         Command::Public(command) => public::perform(alloc, keeper, today, command),
         Command::Applicant(command) => {
-            let caller = admit(keeper, token, moment, Kind::Applicant)?;
-            applicant::perform(keeper, &caller.cap.account, command)
+            let caller = admit(keeper, token, moment, today, Kind::Applicant)?;
+            applicant::perform(keeper, &caller, command)
         }
         Command::Expert(command) => {
-            let caller = admit(keeper, token, moment, Kind::Expert)?;
-            expert::perform(keeper, &caller.cap.account, command)
+            let caller = admit(keeper, token, moment, today, Kind::Expert)?;
+            expert::perform(keeper, &caller, command)
         }
         Command::Clerk(command) => {
-            let caller = admit(keeper, token, moment, Kind::Clerk)?;
-            clerk::perform(alloc, keeper, &caller.digest, moment, today, command)
+            let caller = admit(keeper, token, moment, today, Kind::Clerk)?;
+            clerk::perform(alloc, keeper, &caller, command)
         }
     }
 }

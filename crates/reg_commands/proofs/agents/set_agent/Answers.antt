@@ -18,7 +18,7 @@ module _ (g : Over) (c : After-decide_agent g) where
   w = g.K.Keeper.world c.is_agent.new.self
 
   abbrev link : Link
-  link = (c.args.account.now, c.args.agent.now)
+  link = (c.args.caller.now.capability.account, c.args.agent.now)
 
   -- what was looked up is whether the link is there
   found : g.K.Keeper.Holds c.is_agent.new.self

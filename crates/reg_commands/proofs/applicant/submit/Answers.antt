@@ -25,7 +25,7 @@ module _ (g : Over) (c : After-submission g) where
   old = g.K.Keeper.world c.own_one.new.self
 
   abbrev name : RequestName
-  name = (c.args.account.now, c.args.reference.now)
+  name = (c.args.caller.now.capability.account, c.args.reference.now)
 
   abbrev ask : Ask
   ask = c.args.ask.now
@@ -39,12 +39,12 @@ module _ (g : Over) (c : After-submission g) where
   found h = selected_after c.in_ok-existing.ensures h
 
   rules : Rules g.K.Keeper.world g.K.Keeper.Holds c.own_one.new.self
-      (answer_to_account c.args.account.now (Submit c.args.reference.now ask))
+      (answer_to_account c.args.caller.now.capability.account (Submit c.args.reference.now ask))
       (submission old name ask (option_copied c.as_ref.result))
       (λ decision. told_made name ask existing)
   rules = record {
     answered = λ h.
-        submission_answered c.args.account.now c.args.reference.now ask old existing (found h)
+        submission_answered c.args.caller.now.capability.account c.args.reference.now ask old existing (found h)
         ∙ ap (λ o. by_rule (submission old name ask o) (λ decision. told_made name ask existing))
         (sym c.as_ref.ensures.value);
     fits = λ h kept change made.

@@ -19,11 +19,11 @@ module _ (g : Over) (c : After-decide_withdraw g) where
 
   decides : Decides g.K.Keeper.world g.K.Keeper.Holds g.K.Keeper.Sound
       c.args.keeper.now c.own_one.new.self
-      (answer_to_account c.args.account.now (Withdraw c.args.reference.now))
+      (answer_to_account c.args.caller.now.capability.account (Withdraw c.args.reference.now))
       (withdraw_rule (row.account, row.reference) row.state)
       (λ decision. own_row (row.account, row.reference) (case_by decision (case_of row)))
   decides =
-      decides_about (c.args.account.now, c.args.reference.now) row
+      decides_about (c.args.caller.now.capability.account, c.args.reference.now) row
       (λ name case. withdraw_rule name case.state)
       (λ name case decision. own_row name (case_by decision case))
       c.in_ok-own_one.ensures c.in_ok-request.ensures.ok_part

@@ -11,7 +11,7 @@ pub conclude-requires : goal.conclude-requires
 conclude-requires g c = λ h kept.
     let w = g.K.Keeper.world c.cap.new.self in
     let digest = c.digest_of-digest.result in
-    let in_use = c.args.in_use.now in
+    let in_use = c.args.caller.now.digest in
     let existing = option_copied c.as_ref.result in
     let found : get w.caps digest ≡ existing =
     sym (c.as_ref.ensures.value ∙ selected_after c.in_ok-existing.ensures h) in

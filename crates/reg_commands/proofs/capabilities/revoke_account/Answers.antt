@@ -32,15 +32,15 @@ module _ (g : Over) (c : After-decide_revoke_account g) where
 
   decides : Decides g.K.Keeper.world g.K.Keeper.Holds g.K.Keeper.Sound
       c.args.keeper.now c.caps.new.self
-      (answer_to_clerk c.args.in_use.now 0 0 (RevokeAccount c.args.account.now))
-      (revoke_account_rule c.args.in_use.now rows) (λ decision. Capabilities rows)
+      (answer_to_clerk c.args.caller.now (RevokeAccount c.args.account.now))
+      (revoke_account_rule c.args.caller.now.digest rows) (λ decision. Capabilities rows)
   decides = record {
     answered = λ h.
         ap (λ (rows : List CapRow).
-        by_rule (revoke_account_rule c.args.in_use.now rows) (λ decision. Capabilities rows))
+        by_rule (revoke_account_rule c.args.caller.now.digest rows) (λ decision. Capabilities rows))
         (sym (chosen h));
     fits = λ h kept change made.
-        revoke_account_fits w c.args.in_use.now rows change kept made;
+        revoke_account_fits w c.args.caller.now.digest rows change kept made;
     same = c.in_ok-caps.ensures.same;
     premise = c.in_ok-caps.ensures.premise;
   }

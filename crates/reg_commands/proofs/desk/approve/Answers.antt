@@ -63,19 +63,19 @@ module _ (g : Over) (c : After-approval g) where
       (sym c.in_ok-file-2.ensures.ok_part ∙ selected_after c.in_ok-file.ensures h)
 
   rules : Rules g.K.Keeper.world g.K.Keeper.Holds c.file.new.self
-      (answer_to_clerk [] 0 c.args.today (Approve c.args.account.now c.args.reference.now))
-      (approval_of (published old) found c.args.today) (desk_by name (case_of row))
+      (answer_to_clerk c.args.caller.now (Approve c.args.account.now c.args.reference.now))
+      (approval_of (published old) found c.args.caller.now.day) (desk_by name (case_of row))
   rules = record {
     answered = λ h.
         answer_about old asked row
-        (λ name case. by_rule (approval old c.args.today name case) (desk_by name case))
+        (λ name case. by_rule (approval old c.args.caller.now.day name case) (desk_by name case))
         (is_file h).request
         ∙ ap (λ rule. by_rule rule (desk_by name (case_of row)))
-        (sym (approval_is old asked found c.args.today (is_file h)));
+        (sym (approval_is old asked found c.args.caller.now.day (is_file h)));
     fits = λ h kept change made.
-        approve_fits old (was_advised old name) name (case_of row) c.args.today change kept
+        approve_fits old (was_advised old name) name (case_of row) c.args.caller.now.day change kept
         (there old asked row (is_file h).request) c.formed.ensures
-        (sym (approval_is old asked found c.args.today (is_file h)) ∙ made);
+        (sym (approval_is old asked found c.args.caller.now.day (is_file h)) ∙ made);
   }
 
 pub returns-in_err-decision : goal.returns-in_err-decision

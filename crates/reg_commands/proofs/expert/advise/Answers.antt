@@ -42,7 +42,7 @@ module _ (g : Over) (c : After-decide_advise g) where
   name = (row.account, row.reference)
 
   abbrev expert : List ℕ
-  expert = c.args.expert.now
+  expert = c.args.caller.now.capability.account
 
   found : g.K.Keeper.Holds c.queue_one.new.self
       → (get (queue_of expert w) asked ≡ Some (queued_in row)) × (asked ≡ name)

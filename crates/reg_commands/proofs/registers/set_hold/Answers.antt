@@ -42,7 +42,7 @@ module _ (g : Over) (c : After-decide_hold g) where
   place = (row.registry, row.value)
 
   abbrev about : Place → Registration → Answer
-  about = marked c.args.held c.args.today
+  about = marked c.args.held c.args.caller.now.day
 
   its_table : g.K.Keeper.Holds c.entry.new.self
       → get w.registries asked.0 ≡ Some c.in_ok-ok_or.field-0
@@ -58,9 +58,9 @@ module _ (g : Over) (c : After-decide_hold g) where
 
   decides : Decides g.K.Keeper.world g.K.Keeper.Holds g.K.Keeper.Sound
       c.args.keeper.now c.entry.new.self
-      (answer_to_clerk [] 0 c.args.today (SetHold asked.0 asked.1 c.args.held))
-      (hold_rule place c.args.held row.term c.args.today)
-      (λ decision. Marked (shown_on c.args.today (held_row c.args.held row)))
+      (answer_to_clerk c.args.caller.now (SetHold asked.0 asked.1 c.args.held))
+      (hold_rule place c.args.held row.term c.args.caller.now.day)
+      (λ decision. Marked (shown_on c.args.caller.now.day (held_row c.args.held row)))
   decides = record {
     answered = λ h.
         ap (λ t. or_refusal no.Registry t
@@ -68,7 +68,7 @@ module _ (g : Over) (c : After-decide_hold g) where
         ∙ ap (λ o. or_refusal no.Entry o >>= about asked) (found h).0
         ∙ ap (λ (p : Place). about p (registration_in row)) (found h).1;
     fits = λ h kept change made.
-        hold_fits w place (registration_in row) c.args.held c.args.today change kept
+        hold_fits w place (registration_in row) c.args.held c.args.caller.now.day change kept
         (ap (get w.entries) (sym (found h).1) ∙ (found h).0) made;
     same = λ h.
         c.in_ok-entry.ensures.same h
@@ -94,6 +94,6 @@ returns g c =
     let concluded = c.in_ok-conclude.ensures in
     performs_decided c.in_ok-decision.decision (decides g d)
     (follows _ c.in_ok-decision.decision (sym c.in_ok-decision.ensures))
-    (ap Marked (the_value (shown_on c.args.today (held_row c.args.held (row g d))) concluded.told
-    (c.show-shown.ensures ∙ ap (shown_on c.args.today) c.marked.ensures)))
+    (ap Marked (the_value (shown_on c.args.caller.now.day (held_row c.args.held (row g d))) concluded.told
+    (c.show-shown.ensures ∙ ap (shown_on c.args.caller.now.day) c.marked.ensures)))
     concluded.change

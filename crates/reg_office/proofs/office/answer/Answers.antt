@@ -20,10 +20,11 @@ use Rattle.reg_office.proofs.office.answer.Goals as goal
 module _ (g : Over) (c : After-admit g) where
   -- who is admitted as an applicant, and what is answered then
   abbrev applicant : World → Result Caller Refusal
-  applicant w = admission w (caller (option_copied c.args.token)) c.args.moment kind.Applicant
+  applicant w = admission w (caller (option_copied c.args.token)) c.args.moment
+      c.in_ok-today.today kind.Applicant
 
   abbrev applicant_told : Caller → World → Answer
-  applicant_told who = answer_to_account who.cap.account c.in-Applicant.command
+  applicant_told who = answer_to_account who.capability.account c.in-Applicant.command
 
   applicant_is : (w : World)
       → answer_to token_digest w (caller (option_copied c.args.token)) c.args.moment
@@ -36,7 +37,7 @@ module _ (g : Over) (c : After-admit g) where
       is_open_on moment c.in_ok-today.today
       (sym c.day_of.ensures.value ∙ c.in_ok-today.ensures.ok_part) in
       ap (answer_to token_digest w who moment) c.in-Applicant.is
-      ∙ applicant_answered w who moment c.in-Applicant.command opened.0
+      ∙ applicant_answered w who moment c.in_ok-today.today c.in-Applicant.command opened.0
 
 pub returns-in_err-caller-in-Applicant-clause-answer :
     goal.returns-in_err-caller-in-Applicant-clause-answer
@@ -59,10 +60,11 @@ returns-in_ok-caller-in-Applicant-clause-answer g c =
 module _ (g : Over) (c : After-admit-in-Expert g) where
   -- who is admitted as an expert, and what is answered then
   abbrev expert : World → Result Caller Refusal
-  expert w = admission w (caller (option_copied c.args.token)) c.args.moment kind.Expert
+  expert w = admission w (caller (option_copied c.args.token)) c.args.moment
+      c.in_ok-today.today kind.Expert
 
   abbrev expert_told : Caller → World → Answer
-  expert_told who = answer_to_expert who.cap.account c.in-Expert.command
+  expert_told who = answer_to_expert who.capability.account c.in-Expert.command
 
   expert_is : (w : World)
       → answer_to token_digest w (caller (option_copied c.args.token)) c.args.moment
@@ -75,7 +77,7 @@ module _ (g : Over) (c : After-admit-in-Expert g) where
       is_open_on moment c.in_ok-today.today
       (sym c.day_of.ensures.value ∙ c.in_ok-today.ensures.ok_part) in
       ap (answer_to token_digest w who moment) c.in-Expert.is
-      ∙ expert_answered w who moment c.in-Expert.command opened.0
+      ∙ expert_answered w who moment c.in_ok-today.today c.in-Expert.command opened.0
 
 pub returns-in_err-caller-in-Expert-clause-answer :
     goal.returns-in_err-caller-in-Expert-clause-answer
@@ -98,10 +100,11 @@ returns-in_ok-caller-in-Expert-clause-answer g c =
 module _ (g : Over) (c : After-admit-in-Clerk g) where
   -- who is admitted as a clerk, and what is answered then
   abbrev clerk : World → Result Caller Refusal
-  clerk w = admission w (caller (option_copied c.args.token)) c.args.moment kind.Clerk
+  clerk w = admission w (caller (option_copied c.args.token)) c.args.moment
+      c.in_ok-today.today kind.Clerk
 
   abbrev clerk_told : Caller → World → Answer
-  clerk_told who = answer_to_clerk who.digest c.args.moment c.in_ok-today.today c.in-Clerk.command
+  clerk_told who = answer_to_clerk who c.in-Clerk.command
 
   clerk_is : (w : World)
       → answer_to token_digest w (caller (option_copied c.args.token)) c.args.moment
@@ -115,8 +118,8 @@ module _ (g : Over) (c : After-admit-in-Clerk g) where
       (sym c.day_of.ensures.value ∙ c.in_ok-today.ensures.ok_part) in
       ap (answer_to token_digest w who moment) c.in-Clerk.is
       ∙ clerk_answered w who moment c.in-Clerk.command opened.0
-      ∙ ap (λ (day : ℕ). admission w who moment kind.Clerk
-      >>= (λ who. answer_to_clerk who.digest moment day c.in-Clerk.command w)) opened.1
+      ∙ ap (λ (day : ℕ). admission w who moment day kind.Clerk
+      >>= (λ who. answer_to_clerk who c.in-Clerk.command w)) opened.1
 
 pub returns-in_err-caller-in-Clerk-clause-answer :
     goal.returns-in_err-caller-in-Clerk-clause-answer
