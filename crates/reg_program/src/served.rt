@@ -208,7 +208,7 @@ pub fn print_answer<W: Write>(
         return Err(Undone::Fault(JobFailure::Read));
     };
     if is_accepting(answered.status) {
-        let text = text_of(alloc, answered, form)?;
+        let text = text_of(alloc, &answered, form)?;
         print(output, text.as_slice())
     } else {
         Err(Undone::Refused(line_by(alloc, answered.status.as_u16(), answered.body)?))
@@ -238,18 +238,18 @@ fn is_accepting(status: StatusCode) -> bool
 }
 
 // What is printed of an answer.
-fn text_of(alloc: Global, answered: Answered<'_>, form: Form) -> Result<Vec<u8>, AllocError>
-    ensures { IfOk result (λ text. text.items ≡ told form answered.entry.status
-        answered.entry.format answered.entry.body.now) }
+fn text_of(alloc: Global, answered: &Answered<'_>, form: Form) -> Result<Vec<u8>, AllocError>
+    ensures { IfOk result (λ text. text.items ≡ told form answered.now.status
+        answered.now.format answered.now.body.now) }
 {
     let text = line_in(alloc, answered, form)?;
     with_end(text, answered.format)
 }
 
 // The body of an answer, or its line.
-fn line_in(alloc: Global, answered: Answered<'_>, form: Form) -> Result<Vec<u8>, AllocError>
-    ensures { IfOk result (λ text. text.items ≡ told_line form answered.entry.status
-        answered.entry.body.now) }
+fn line_in(alloc: Global, answered: &Answered<'_>, form: Form) -> Result<Vec<u8>, AllocError>
+    ensures { IfOk result (λ text. text.items ≡ told_line form answered.now.status
+        answered.now.body.now) }
 {
     match form {
         Form::Body => answered.body.to_vec(alloc),

@@ -76,7 +76,9 @@ pub fn answer_in(answer: &[u8]) -> Option<Answered<'_>>
     ensures whole { IfSome result (λ a. answer.now ≡ answer_text a.status a.format a.body.now) }
     ensures given { IfSome result (λ a. 0 < length (reason a.status)) }
 {
-    let (status, rest) = status_in(answer)?;
+    let Some((status, rest)) = status_in(answer) else {
+        return None;
+    };
     let (format, rest) = format_in(rest)?;
     let body = body_in(rest)?;
     Some(Answered {
@@ -90,7 +92,9 @@ pub fn answer_in(answer: &[u8]) -> Option<Answered<'_>>
 pub fn body_of(format: Format, answer: &[u8]) -> Option<&[u8]>
     ensures { IfSome result (λ body. answer.now ≡ answer_text 200 format body.now) }
 {
-    let answered = answer_in(answer)?;
+    let Some(answered) = answer_in(answer) else {
+        return None;
+    };
     if answered.status == StatusCode::OK && answered.format == format {
         Some(answered.body)
     } else {

@@ -3,6 +3,7 @@ pub mod Keeping
 pub mod Listed
 pub mod Looking
 pub mod Opening
+pub mod Paths
 pub mod Snapshots
 pub mod Steady
 pub mod Troubles

@@ -1,8 +1,11 @@
 //! Stores that an office is opened from.
 ghost use Rattle.std.specs.Prelude.{◌≡◌, ◌≢◌, ◌⊎◌, true, false, IfErr, IfOk, IsTrue, Some};
 ghost use Rattle.std.specs.Bool.{Decides};
+ghost use Rattle.sqlite.specs.Files.{file_state};
 ghost use Rattle.sqlite.specs.Held.{state};
 ghost use Rattle.sqlite.specs.State.{HasCleanDisk};
+ghost use Rattle.sqlite.specs.Steps.{IsEmpty, over_memory};
+ghost use Rattle.sqlite_wal.specs.Files.{image_at};
 ghost use Rattle.reg_core.specs.World.{empty_world};
 ghost use Rattle.reg_keeper.specs.declared.keeper.Fault.{Fault as KeeperFault};
 ghost use Rattle.reg_tables.specs.Connection.{Holds, IsIdle, Tells, Works};
@@ -18,11 +21,12 @@ ghost use Rattle.reg_sql.specs.Failing.{IsFailed, IsFailedBy};
 ghost use Rattle.reg_sql.specs.Keeping.{IsHonest, KeepsOffice};
 ghost use Rattle.reg_sql.specs.Opening.{Brings, HasNoTables, IsAsItWas, IsOpened, IsOpenedBy, IsRefused};
 ghost use Rattle.reg_sql.specs.Opening.{RefusesOpening, IsTakenOver, StandsAlone, TakesOver};
-ghost use Rattle.reg_sql.specs.Opening.{refusal_of};
+ghost use Rattle.reg_sql.specs.Opening.{OpensFiles, refusal_of};
+ghost use Rattle.reg_sql.specs.Paths.{RefusesPath, refusal_at_path};
 ghost use Rattle.reg_sql.specs.declared.open.OpenFault.TheVariants as refusals;
 
 use crate::keeper::SqlKeeper;
-use crate::opener::Opener;
+use crate::opener::{Opener, SystemFiles};
 use reg_keeper::keeper::Fault;
 use reg_migration::migrate::migrate;
 use reg_opening::kind::{Found, find};
@@ -31,7 +35,7 @@ use reg_statements::write::fault;
 use reg_tables::make::make_office;
 use reg_tables::version::Version;
 use reg_vacancies::vacancies::Vacancies;
-use sqlite::{Connection, Error, ErrorCode};
+use sqlite::{Connection, Error, ErrorCode, FileFrom, FileStore, MemStore, Start};
 use std::alloc::Global;
 
 /// Why no office is opened. The store is as it was.
@@ -201,6 +205,28 @@ fn found<S: Opens>(alloc: Global, conn: &mut Connection<S>) -> Result<Vacancies,
     }
 }
 
+/// A store in memory, without tables.
+fn empty_memory(alloc: Global) -> Result<Connection<MemStore>, Fault>
+    ensures { IfOk result (λ conn. IsEmpty (state over_memory conn)) }
+{
+    let conn = Connection::open_in_memory(alloc)?;
+    Ok(conn)
+}
+
+impl SqlKeeper<MemStore> {
+    /// A new office in memory, without rows. The error is always a fault.
+    pub fn in_memory(alloc: Global) -> Result<SqlKeeper<MemStore>, OpenFault>
+        ensures empty { IfOk result (λ keeper. Holds (state over_memory keeper.tables)
+            × (world_in (state over_memory keeper.tables) ≡ empty_world)) }
+        ensures fault { IfErr result (λ refusal. (given : KeeperFault)
+            × (refusal ≡ refusals.Fault given)) }
+    {
+        let mut conn = empty_memory(alloc)?;
+        let vacancies = found(alloc, &mut conn)?;
+        Ok(SqlKeeper::new(alloc, conn, vacancies))
+    }
+}
+
 /// What was opened where no office is: the store, as it was found; or none, with the error and what
 /// is left of what was opened.
 pub type Opened<S, L> = Result<Connection<S>, (Error, L)>;
@@ -229,6 +255,39 @@ pub fn open_by<O: Opener>(
     match SqlKeeper::adopt(rt.alloc(), conn, fresh) {
         Ok(keeper) => Ok(keeper),
         Err((fault, conn)) => Err((fault, Ok(conn))),
+    }
+}
+
+impl<T: Start> SqlKeeper<FileStore<FileFrom<T>>> {
+    /// The office in the files at a path, as by `open_by`, where `start` says what they hold. What was
+    /// opened where there is none is dropped. A file that another has open is `NotOurs` too.
+    pub fn from_path(
+        rt: &HostRuntime,
+        path: &str,
+        fresh: bool,
+        start: T,
+    ) -> Result<SqlKeeper<FileStore<FileFrom<T>>>, OpenFault>
+        ensures office { IfOk result (λ keeper.
+            IsOpenedBy file_state (OpensFiles (image_at T.Start)) fresh keeper.tables) }
+        ensures refused { RefusesPath (λ keeper. keeper.tables) (image_at T.Start) fresh result }
+    {
+        match open_by(rt, SystemFiles { start }, path, fresh) {
+            Ok(keeper) => Ok(keeper),
+            Err((fault, left)) => {
+                drop(left);
+                Err(refusal_at(fault))
+            }
+        }
+    }
+}
+
+/// What a refusal of `open_by` is to who opens by a path.
+fn refusal_at(refusal: OpenFault) -> OpenFault
+    ensures { result ≡ refusal_at_path refusal }
+{
+    match refusal {
+        OpenFault::Busy => OpenFault::NotOurs,
+        _ => refusal,
     }
 }
 

@@ -135,17 +135,24 @@ fn head(alloc: Global, status: StatusCode, media: &str, count: usize) -> Result<
     Ok(text)
 }
 
-#[tactic(auto, using(crate::proofs::StatusDigits::decimal_code))]
 fn push_status(text: &mut String, status: StatusCode) -> Result<(), AllocError>
     ensures { OnOk result
         (string_bytes text.new ≡ string_bytes text.old ++ status_line status) }
 {
     text.push_str("HTTP/1.1 ")?;
-    text.push_str(status.as_str())?;
+    text.push_str(digits(status))?;
     text.push_str(" ")?;
     text.push_str(reason(status))?;
     text.push_str("\r\n")?;
     Ok(())
+}
+
+// The number of a status in decimal.
+#[tactic(auto, using(crate::proofs::StatusDigits::decimal_code))]
+fn digits(status: StatusCode) -> &'static str
+    ensures { result.now ≡ decimal status }
+{
+    status.as_str()
 }
 
 fn push_field(text: &mut String, name: &str, value: &str) -> Result<(), AllocError>

@@ -1,4 +1,4 @@
-use Rattle.std.proofs.Common.{◌≡◌, ℕ, [], Result, sym, ap, ◌∙◌}
+use Rattle.std.proofs.Common.{◌≡◌, ℕ, Result, sym, ap, ◌∙◌}
 use Rattle.reg_core.specs.Advice.{is_advised}
 use Rattle.reg_core.specs.Allowance.{ground_of}
 use Rattle.reg_core.specs.Answer.{by_rule}
