@@ -7,7 +7,7 @@ import signal
 import subprocess
 import time
 
-from sites.running import Tally
+from lib.office import Tally
 
 TOP = pathlib.Path(__file__).resolve().parent.parent.parent
 PAGE = TOP / 'docs/use/OPERATING.md'

@@ -16,7 +16,8 @@ import threading
 import time
 
 from sites import history, pages
-from sites.running import CLERK, SECONDS, contents, marks, others
+from lib.office import CLERK
+from sites.running import SECONDS, contents, marks, others
 from sites.year import ALWAYS
 
 MANY = 50_000

@@ -3,21 +3,11 @@ import contextlib
 import datetime
 import os
 import pathlib
-import socket
 import subprocess
 
-CLERK, SECONDS = 'clerk-token-00001', 600
+from lib.office import served
 
-
-class Tally:
-    def __init__(self):
-        self.passed = self.failed = 0
-
-    def judge(self, good, complaint):
-        self.passed += bool(good)
-        self.failed += not good
-        if not good:
-            print(complaint, flush=True)
+SECONDS = 600
 
 
 def text_of(moment):
@@ -79,16 +69,9 @@ class Program:
 
     @contextlib.contextmanager
     def serving(self, file, moment=None):
-        """The address of an office that is served meanwhile, and killed afterwards."""
-        with socket.create_server(('127.0.0.1', 0)) as free:
-            port = free.getsockname()[1]
-        process = self.begun(['serve', file, '--port', port], moment)
-        try:
-            process.stdout.readline()
+        """The address of an office that is served meanwhile."""
+        with served(self.path, file, stdin=subprocess.DEVNULL, stderr=subprocess.DEVNULL, env=self.clock(moment)) as port:
             yield f'http://127.0.0.1:{port}'
-        finally:
-            process.kill()
-            process.communicate()
 
 
 # ---- Files

@@ -3,7 +3,7 @@ import json
 from typing import NamedTuple
 
 from sites.history import line_of, run_text
-from sites.running import CLERK
+from lib.office import CLERK
 
 # 2025-11-28T08:00:00Z, when the year begins.
 BEGAN, DAY = 1_764_316_800, 86_400

@@ -2,8 +2,9 @@
 import re
 import shutil
 
+from lib.office import CLERK
 from sites import history
-from sites.running import CLERK, contents, marks, others
+from sites.running import contents, marks, others
 from sites.steps import BEGAN, DAY, YEAR, asked, granted, moment_of
 
 LATER = BEGAN + 372 * DAY

@@ -1,5 +1,4 @@
 """An office over a year, published after each step, and each time checked by all who can check it."""
-import http.client
 import json
 import pathlib
 import random
@@ -8,8 +7,9 @@ import shutil
 import subprocess
 import sys
 
+from lib.office import CLERK, ask
 from sites import history, pages
-from sites.running import CLERK, contents, marks, others, text_of
+from sites.running import contents, marks, others, text_of
 from sites.steps import YEAR, moment_of
 
 TOP = pathlib.Path(__file__).resolve().parent.parent.parent
@@ -59,11 +59,8 @@ class Year:
     def ask(self, address, lines):
         """Sends lines over HTTP."""
         for token, method, path, body in lines:
-            client = http.client.HTTPConnection(address.removeprefix('http://'), timeout=60)
-            client.request(method, path, body, {'Authorization': f'Bearer {token}'})
-            answer = client.getresponse()
-            self.tally.judge(answer.status in (200, 201), f'{method} {path} was answered {answer.status} {answer.read()}')
-            client.close()
+            status, text = ask(int(address.rpartition(':')[2]), method, path, token, body)
+            self.tally.judge(status in (200, 201), f'{method} {path} was answered {status} {text}')
 
     # ---- A step
 
