@@ -1,6 +1,6 @@
 // What applicants do: their requests, new ones, who may read them, and their blocks.
 import { ask } from './office.js';
-import { Told, attempt, badge, button, choice, control, details, form, h, say, sure, table } from './dom.js';
+import { Told, attempt, badge, button, choice, control, details, element, form, say, sure, table } from './dom.js';
 import {
   KINDS, POLICIES, STATES, askOf, easiest, evidenceFor, faultsOf, freeUnder, hexOf, inWords, noteOn, openPolicies, optionsFor, outcome, policyOf,
   rowsOf, waitingTwin,
@@ -10,7 +10,7 @@ import {
 
 /** The caller's own requests. */
 export async function requests(app) {
-  const rows = await ask('GET', '/requests'), place = h('div');
+  const rows = await ask('GET', '/requests'), place = element('div');
   const withdraw = async row => {
     if (!await sure(`Withdraw the request ${row.reference}? It cannot be made to wait again.`, 'Withdraw')) return;
     await attempt(place, async () => {
@@ -20,8 +20,8 @@ export async function requests(app) {
   };
   const actions = row => [detailsButton(app, row, `Request ${row.reference}`),
     row.state === 'pending' ? button('Withdraw', () => withdraw(row), { 'aria-label': `Withdraw ${row.reference}`, class: 'plain' }) : null];
-  const add = h('p', {}, h('a', { class: 'button', href: '#new' }, 'New request'));
-  return h('div', {}, place, add, requestTable(rows, actions, 'My requests', 'You have no requests yet. Make one by "New request".'));
+  const add = element('p', {}, element('a', { class: 'button', href: '#new' }, 'New request'));
+  return element('div', {}, place, add, requestTable(rows, actions, 'My requests', 'You have no requests yet. Make one by "New request".'));
 }
 
 function detailsButton(app, row, title) {
@@ -30,7 +30,7 @@ function detailsButton(app, row, title) {
 
 function requestTable(rows, actions, caption, empty) {
   const state = row => badge(row.state, STATES[row.state] ?? row.state);
-  const cells = row => [row.reference, inWords(row.ask), state(row), outcome(row), h('div', { class: 'row' }, actions(row))];
+  const cells = row => [row.reference, inWords(row.ask), state(row), outcome(row), element('div', { class: 'row' }, actions(row))];
   const columns = ['Reference', 'Request', 'State', 'Result', 'Actions'];
   return table({ caption, columns, rows, cells, empty, states: STATES, quiet: true });
 }
@@ -63,8 +63,8 @@ class Draft {
     Object.assign(this, { names, own, kind: 'code', page: null, pages: new Map(), parts: {}, shape: '' });
     this.values = { wish: 'least', reference: `r${hexOf(crypto.getRandomValues(new Uint8Array(4)))}` };
     this.kinds = choice('What do you need?', 'kind', KINDS, 'code', kind => this.choose(kind));
-    for (const name of ['top', 'wishes', 'naming', 'evidence', 'last']) this[name] = h('div');
-    this.note = h('p', { class: 'note', role: 'status' });
+    for (const name of ['top', 'wishes', 'naming', 'evidence', 'last']) this[name] = element('div');
+    this.note = element('p', { class: 'note', role: 'status' });
     this.put('last', [control('reference', { value: this.values.reference })]);
   }
 
@@ -110,7 +110,7 @@ class Draft {
   async offerRegistries() {
     const known = this.names.includes(this.values.registry) ? this.values.registry : this.names.length === 1 ? this.names[0] : undefined;
     const options = Object.fromEntries(this.names.map(name => [name, name]));
-    if (!this.names.length) this.put('top', [], h('p', { class: 'note' }, 'The authority has not opened any registry yet.'));
+    if (!this.names.length) this.put('top', [], element('p', { class: 'note' }, 'The authority has not opened any registry yet.'));
     else this.put('top', [control('registry', { options, value: known, onchange: () => this.offerWishes() })]);
     if (known) await this.offerWishes();
   }
@@ -128,7 +128,7 @@ class Draft {
     }
     const known = options[this.values.allocation] && this.values.allocation, change = { onchange: () => this.refresh() };
     if (Object.keys(options).length) this.put('top', [control('allocation', { options, label: 'Early allocation', value: known, ...change })]);
-    else if (!this.top.hasChildNodes()) this.put('top', [], h('p', { class: 'note' }, 'You have no early allocation.'));
+    else if (!this.top.hasChildNodes()) this.put('top', [], element('p', { class: 'note' }, 'You have no early allocation.'));
   }
 
   async load(registry) {
@@ -150,7 +150,7 @@ class Draft {
   wish(wish) {
     const policies = openPolicies(this.page, this.kind);
     if (!policies.length) {
-      this.put('wishes', [], h('p', { class: 'note' }, 'Nobody can ask for such a value of this registry: no policy of it allows that.'));
+      this.put('wishes', [], element('p', { class: 'note' }, 'Nobody can ask for such a value of this registry: no policy of it allows that.'));
       return;
     }
     const options = { least: { title: 'The lowest free value' }, value: { title: 'A value that I choose' } };
@@ -192,8 +192,8 @@ class Draft {
     const must = needed.map(name => of(name, false)), may = optional.map(name => of(name, true));
     this.put('evidence', [...must, ...may]);
     const nodes = controls => controls.map(one => one.node);
-    this.evidence.replaceChildren(...must.length ? [h('fieldset', {}, h('legend', {}, 'What the request needs'), nodes(must))] : [],
-      ...may.length ? [h('details', {}, h('summary', {}, 'Add more (optional)'), nodes(may))] : []);
+    this.evidence.replaceChildren(...must.length ? [element('fieldset', {}, element('legend', {}, 'What the request needs'), nodes(must))] : [],
+      ...may.length ? [element('details', {}, element('summary', {}, 'Add more (optional)'), nodes(may))] : []);
   }
 
   async send(own, app) {
@@ -209,7 +209,7 @@ class Draft {
 
 /** Who may read the caller's requests, and whose the caller may read. */
 export async function agents(app) {
-  const names = await ask('GET', '/agents'), principals = await ask('GET', '/principals'), place = h('div');
+  const names = await ask('GET', '/agents'), principals = await ask('GET', '/principals'), place = element('div');
   const set = (agent, reads) => ask('PUT', `/agents/${agent}`, { reads });
   const stop = agent => attempt(place, async () => {
     await set(agent, false);
@@ -236,16 +236,16 @@ export async function agents(app) {
     empty: 'No account has named you as its agent.',
     cells: name => [name, button('Read', () => open(name), { 'aria-label': `Read the requests of ${name}` })],
   });
-  return h('div', {}, place, h('p', {}, 'An agent sees your requests as you do. It cannot change anything.'), mine, add,
-    h('h3', {}, 'Accounts whose requests I may read'), others);
+  return element('div', {}, place, element('p', {}, 'An agent sees your requests as you do. It cannot change anything.'), mine, add,
+    element('h3', {}, 'Accounts whose requests I may read'), others);
 }
 
 // ---- Blocks
 
 /** The blocks that the caller's account holds, each with a switch that hides whose it is. */
 export async function blocks() {
-  const rows = await ask('GET', '/holdings'), place = h('div');
-  const toggle = row => h('input', {
+  const rows = await ask('GET', '/holdings'), place = element('div');
+  const toggle = row => element('input', {
     type: 'checkbox', role: 'switch', checked: row.private, 'aria-label': `Keep the holder of ${row.block} private`,
     onchange: event => change(row, event.target),
   });
@@ -257,7 +257,7 @@ export async function blocks() {
     say(`The public ${row.private ? 'no longer sees' : 'now sees'} who holds ${row.block}.`);
   });
   const about = 'The public always sees that a block is assigned. If you keep it private, the public sees neither your organization nor its address.';
-  return h('div', {}, place, h('p', {}, about), table({
+  return element('div', {}, place, element('p', {}, about), table({
     quiet: true, caption: 'My blocks', columns: ['Block', 'Size', 'Organization', 'Address', 'Private'], rows,
     cells: row => [row.block, row.size, row.organization, row.address, toggle(row)], empty: 'You have no blocks. Ask for one by "New request".',
   }));

@@ -1,6 +1,6 @@
 // What clerks do: decide requests, define registries, add prefixes, hold allocations, and hand out tokens.
 import { Refusal, ask } from './office.js';
-import { attempt, badge, button, control, details, focusOn, form, h, say, sure, table } from './dom.js';
+import { attempt, badge, button, control, details, element, focusOn, form, say, sure, table } from './dom.js';
 import {
   CAPABILITIES, COUNTS, POLICIES, STATES, dayOf, endOf, faultOf, grantOf, hexOf, inWords, opinionsOf, outcome, policyOf, rangesOf, rowsOf,
 } from './forms.js';
@@ -29,7 +29,7 @@ function requestTable(app, rows, { last: [title, told], ...texts }) {
 async function openCase(app, { account, reference }, message) {
   const title = `Request ${reference} of ${account}`, path = `${account}/${reference}`;
   await app.open(title, async () => {
-    const row = await ask('GET', `/desk/requests/${path}`), place = h('div'), note = h('p', { class: 'note', role: 'status', hidden: true });
+    const row = await ask('GET', `/desk/requests/${path}`), place = element('div'), note = element('p', { class: 'note', role: 'status', hidden: true });
     const again = text => openCase(app, row, text);
     const result = outcome(row) ? [['Result', outcome(row)]] : [];
     const told = [['Applicant', account], ['Reference', reference], ['State', STATES[row.state] ?? row.state], ...result, ...rowsOf(row.ask)];
@@ -37,9 +37,9 @@ async function openCase(app, { account, reference }, message) {
     if (row.state === 'pending') {
       explain(row, note);
       const approve = button('Approve', () => decide(row, place, again));
-      parts.push(note, place, h('p', { class: 'actions' }, approve), h('div', { class: 'columns' }, assignment(path, again), refusal(path, row, again)));
+      parts.push(note, place, element('p', { class: 'actions' }, approve), element('div', { class: 'columns' }, assignment(path, again), refusal(path, row, again)));
     }
-    return h('div', {}, parts);
+    return element('div', {}, parts);
   }, message);
 }
 
@@ -97,7 +97,7 @@ export async function registries(app) {
   const names = await ask('GET', '/registries');
   const open = name => button('Open', () => openRegistry(app, name), { 'aria-label': `Open ${name}` });
   const list = table({ quiet: true, caption: 'Registries', columns: ['Name', 'Actions'], rows: names, empty: 'There are no registries yet.', cells: name => [name, open(name)] });
-  return h('div', {}, list, definition(app));
+  return element('div', {}, list, definition(app));
 }
 
 const words = treatment => (treatment === 'reserved' ? 'Reserved' : POLICIES[treatment]?.title ?? treatment);
@@ -109,7 +109,7 @@ function rangeTable(caption, ranges) {
 
 function openRegistry(app, name, message) {
   return app.open(`Registry ${name}`, async () => {
-    const page = await ask('GET', `/registries/${name}`), place = h('div');
+    const page = await ask('GET', `/registries/${name}`), place = element('div');
     const early = page.entries.filter(({ expires }) => expires);
     const hold = (value, held) => attempt(place, async () => {
       await ask('PUT', `/desk/holds/${name}/${value}`, { held });
@@ -121,15 +121,15 @@ function openRegistry(app, name, message) {
     };
     const cells = entry => [String(entry.value), entry.label, entry.assignee, entry.held ? 'Held' : entry.status, entry.expires, action(entry)];
     const columns = ['Value', 'Name', 'Account', 'Status', 'Expires', 'Actions'];
-    return h('div', {}, place, details([['Largest value', String(page.max)], ['Entries', String(page.entries.length)]]), rangeTable('Ranges', page.ranges),
-      h('p', {}, 'An early allocation that is held does not expire until it is released.'),
+    return element('div', {}, place, details([['Largest value', String(page.max)], ['Entries', String(page.entries.length)]]), rangeTable('Ranges', page.ranges),
+      element('p', {}, 'An early allocation that is held does not expire until it is released.'),
       table({ caption: 'Early allocations', columns, rows: early, cells, empty: 'There are no early allocations.' }));
   }, message);
 }
 
 // A new registry from a CSV file, after a look at its ranges.
 function definition(app) {
-  const preview = h('div', { role: 'status' });
+  const preview = element('div', { role: 'status' });
   let file = null;
   const most = control('max');
   const choose = async event => {
@@ -137,7 +137,7 @@ function definition(app) {
     file = bytes ? { bytes, ...rangesOf(new TextDecoder().decode(bytes)) } : null;
     if (file && !file.fault) most.input.value = file.ranges.at(-1).hi;
     preview.replaceChildren();
-    if (file?.fault) preview.append(h('p', { class: 'problem' }, faultInWords(file.fault)));
+    if (file?.fault) preview.append(element('p', { class: 'problem' }, faultInWords(file.fault)));
     if (file) preview.append(rangeTable('Ranges in this file', file.ranges));
   };
   const hint = 'The first line is lo,hi,treatment,note. Each other line is a range: its first and last value, its policy or "reserved", and a note or nothing.';
@@ -176,17 +176,17 @@ export async function pool(app) {
     },
   });
   const empty = 'There are no prefixes yet, so no block can be given.';
-  return h('div', {}, table({ caption: 'Prefixes that blocks are cut from', columns: ['Prefix'], rows, cells: prefix => [prefix], empty }), add);
+  return element('div', {}, table({ caption: 'Prefixes that blocks are cut from', columns: ['Prefix'], rows, cells: prefix => [prefix], empty }), add);
 }
 
 // ---- Tokens
 
 /** A form that grants a token, the list of all tokens, and a form that takes away one that the clerk has. */
 export async function tokens(app) {
-  const shown = h('div'), list = h('div');
+  const shown = element('div'), list = element('div');
   const fill = async () => list.replaceChildren(tokenTable(app, await ask('GET', '/desk/tokens')));
   await fill();
-  return h('div', {}, grant(app, shown, () => attempt(list, fill)), shown, list, revocation(app));
+  return element('div', {}, grant(app, shown, () => attempt(list, fill)), shown, list, revocation(app));
 }
 
 function grant(app, shown, fill) {
@@ -214,16 +214,16 @@ function grant(app, shown, fill) {
 
 // Shows a token once.
 function show(app, place, token, { account, kind, until }) {
-  const title = h('h3', {}, `The token of ${account}`);
+  const title = element('h3', {}, `The token of ${account}`);
   const hide = () => { place.replaceChildren(); app.go('tokens', 'The token is hidden.'); };
   const copy = async event => {
     const text = event.target.closest('section').querySelector('output').textContent;
     const done = await navigator.clipboard.writeText(text).then(() => true, () => false);
     say(done ? 'The token is copied.' : 'The browser does not allow that. Select the token and copy it by hand.');
   };
-  place.replaceChildren(h('section', { class: 'card' }, title, h('output', { class: 'token' }, token),
-    h('p', {}, `${CAPABILITIES[kind]}, valid through ${until}. Hand it to ${account} so that nobody else sees it. This page shows it only now. If it is lost, take it away below and make another.`),
-    h('p', { class: 'actions' }, button('Copy', copy), button('Done, hide it', hide, { class: 'plain' }))));
+  place.replaceChildren(element('section', { class: 'card' }, title, element('output', { class: 'token' }, token),
+    element('p', {}, `${CAPABILITIES[kind]}, valid through ${until}. Hand it to ${account} so that nobody else sees it. This page shows it only now. If it is lost, take it away below and make another.`),
+    element('p', { class: 'actions' }, button('Copy', copy), button('Done, hide it', hide, { class: 'plain' }))));
   focusOn(title);
 }
 
@@ -241,7 +241,7 @@ function revocation(app) {
 
 // All tokens, each with a button that takes it away, and one that takes away all of its account.
 function tokenTable(app, rows) {
-  const place = h('div'), now = Date.now() / 1000;
+  const place = element('div'), now = Date.now() / 1000;
   const take = (account, question, path) => async () => {
     if (!await sure(`${question} This cannot be undone.`, 'Take away')) return;
     await attempt(place, async () => {
@@ -250,12 +250,12 @@ function tokenTable(app, rows) {
       await app.go('tokens', said[length] ?? `${length} tokens of ${account} work no longer.`);
     });
   };
-  const actions = ({ account, digest }) => h('div', { class: 'row' },
+  const actions = ({ account, digest }) => element('div', { class: 'row' },
     button('Take away', take(account, `Take away the token ${digest} of ${account}?`, `/desk/tokens/${digest}`), { 'aria-label': `Take away ${digest} of ${account}` }),
     button('Take away all', take(account, `Take away all tokens of ${account}?`, `/desk/accounts/${account}`), { 'aria-label': `Take away all tokens of ${account}`, class: 'plain' }));
   const cells = row => [row.account, CAPABILITIES[row.kind] ?? row.kind, endOf(row, now), row.digest, actions(row)];
   const columns = ['Account', 'Kind', 'Valid through', 'Digest', 'Actions'], about = 'The office keeps no tokens. It knows each by a digest, which begins as shown here.';
-  return h('div', {}, h('h3', {}, 'All tokens'), h('p', {}, about), place, table({ caption: 'All tokens', columns, rows, cells, empty: 'There are no tokens.', quiet: true }));
+  return element('div', {}, element('h3', {}, 'All tokens'), element('p', {}, about), place, table({ caption: 'All tokens', columns, rows, cells, empty: 'There are no tokens.', quiet: true }));
 }
 
 // ---- Counts

@@ -2,7 +2,7 @@
 import * as applicant from './applicant.js';
 import * as clerk from './clerk.js';
 import * as expert from './expert.js';
-import { LOADING, button, control, focusOn, form, h, say, trouble } from './dom.js';
+import { LOADING, button, control, element, focusOn, form, say, trouble } from './dom.js';
 import { Gone, Refusal, ask, carries, carry, endBy, tellBy } from './office.js';
 
 const SECTIONS = {
@@ -24,7 +24,7 @@ let kind = null, own = {}, used = 0, shown = 0;
 
 // Shows a view. Of two that are on their way the later one stays.
 async function view(title, make, { message = '', back } = {}) {
-  const turn = shown += 1, heading = h('h2', {}, title);
+  const turn = shown += 1, heading = element('h2', {}, title);
   say(LOADING);
   main.inert = true;
   let node;
@@ -32,7 +32,7 @@ async function view(title, make, { message = '', back } = {}) {
     node = typeof make === 'function' ? await make() : make;
   } catch (error) {
     if (error instanceof Gone || turn !== shown) return;
-    node = h('div', {}, trouble(error), h('p', { class: 'actions' }, button('Try again', () => view(title, make, { back }))));
+    node = element('div', {}, trouble(error), element('p', { class: 'actions' }, button('Try again', () => view(title, make, { back }))));
   }
   if (turn !== shown) return;
   main.inert = false;
@@ -47,14 +47,14 @@ const app = {
     if (location.hash !== `#${name}`) history.pushState(null, '', `#${name}`);
     return draw(message);
   },
-  open: (title, make, message) => view(title, make, { message, back: () => h('p', {}, button('Back to the list', () => draw(), { class: 'plain' })) }),
+  open: (title, make, message) => view(title, make, { message, back: () => element('p', {}, button('Back to the list', () => draw(), { class: 'plain' })) }),
 };
 
 function draw(message) {
   const name = Object.hasOwn(own, location.hash.slice(1)) ? location.hash.slice(1) : Object.keys(own)[0];
   const [title, make] = own[name];
-  const link = key => h('a', { href: `#${key}`, 'aria-current': key === name ? 'page' : undefined, onclick: () => again(key) }, own[key][0]);
-  sections.replaceChildren(h('ul', {}, Object.keys(own).map(key => h('li', {}, link(key)))));
+  const link = key => element('a', { href: `#${key}`, 'aria-current': key === name ? 'page' : undefined, onclick: () => again(key) }, own[key][0]);
+  sections.replaceChildren(element('ul', {}, Object.keys(own).map(key => element('li', {}, link(key)))));
   return view(title, () => make(app), { message });
 }
 
@@ -96,7 +96,7 @@ function signIn(message = '') {
     },
   });
   main.inert = false;
-  main.replaceChildren(h('h2', {}, 'Sign in'), h('div', { class: 'card' }, node), h('p', {}, 'No token yet? Ask the authority for one.'));
+  main.replaceChildren(element('h2', {}, 'Sign in'), element('div', { class: 'card' }, node), element('p', {}, 'No token yet? Ask the authority for one.'));
   document.title = 'Sign in - Registry desk';
   say(message);
   if (message) focusOn(main.firstChild);
@@ -106,7 +106,7 @@ function signIn(message = '') {
 function enter() {
   used = Date.now();
   const named = { applicant: 'an applicant', expert: 'an expert', clerk: 'a clerk' }[kind];
-  who.replaceChildren(h('span', {}, `Signed in as ${named}`), button('Sign out', () => signOut('You are signed out.'), { class: 'plain' }));
+  who.replaceChildren(element('span', {}, `Signed in as ${named}`), button('Sign out', () => signOut('You are signed out.'), { class: 'plain' }));
   sections.hidden = false;
   draw();
 }

@@ -13,7 +13,7 @@ const SHOWN = 100;
 let count = 0;
 
 /** An element with its attributes, listeners (`onclick`) and children. */
-export function h(name, attributes = {}, ...children) {
+export function element(name, attributes = {}, ...children) {
   const node = document.createElement(name);
   for (const [key, value] of Object.entries(attributes)) {
     if (key.startsWith('on')) node.addEventListener(key.slice(2), value);
@@ -25,7 +25,7 @@ export function h(name, attributes = {}, ...children) {
 }
 
 /** A button that does one thing. */
-export const button = (text, act, attributes = {}) => h('button', { type: 'button', onclick: act, ...attributes }, text);
+export const button = (text, act, attributes = {}) => element('button', { type: 'button', onclick: act, ...attributes }, text);
 
 /** Says something to people who look and to those who listen. */
 export function say(text) {
@@ -46,12 +46,12 @@ export function troubleOf(error) {
   if (error instanceof Told) return [error.message];
   if (!(error instanceof Refusal)) return ['Something went wrong on this page. Reload it and sign in again.'];
   const about = { href: `errors.html#${error.error}`, target: '_blank', rel: 'noopener' };
-  const link = /^[a-z]+$/.test(error.error) ? [' ', h('a', about, `About this error (${error.error})`)] : [];
+  const link = /^[a-z]+$/.test(error.error) ? [' ', element('a', about, `About this error (${error.error})`)] : [];
   return [inWords(error.error, error.item), ...link];
 }
 
 /** A notice of trouble. It is announced when it comes. */
-export const trouble = error => h('div', { class: 'problem', role: 'alert' }, troubleOf(error));
+export const trouble = error => element('div', { class: 'problem', role: 'alert' }, troubleOf(error));
 
 /** Does something that asks the office, and shows in `place` what went wrong. */
 export async function attempt(place, act) {
@@ -76,13 +76,13 @@ export function control(name, { options, value, onchange, type, optional = false
     value: ['checkbox', 'file'].includes(type) ? undefined : value, checked: type === 'checkbox' && value === true,
     inputmode: ['number', 'rfc'].includes(field.form) ? 'numeric' : undefined,
   };
-  const input = options ?? field.options ? select(common, options ?? field.options, value) : h('input', typed);
+  const input = options ?? field.options ? select(common, options ?? field.options, value) : element('input', typed);
   if (onchange && input.localName === 'input' && input.type === 'text') input.addEventListener('input', onchange);
-  const fault = h('p', { id: `${id}-fault`, class: 'fault', hidden: true });
-  const title = h('label', { for: id }, label, optional ? h('span', { class: 'optional' }, ' (optional)') : null);
-  const about = hint ? h('p', { id: `${id}-hint`, class: 'hint' }, hint) : null;
-  const node = type === 'checkbox' ? h('div', { class: 'field check' }, input, title, about, fault)
-    : h('div', { class: 'field' }, title, about, input, fault);
+  const fault = element('p', { id: `${id}-fault`, class: 'fault', hidden: true });
+  const title = element('label', { for: id }, label, optional ? element('span', { class: 'optional' }, ' (optional)') : null);
+  const about = hint ? element('p', { id: `${id}-hint`, class: 'hint' }, hint) : null;
+  const node = type === 'checkbox' ? element('div', { class: 'field check' }, input, title, about, fault)
+    : element('div', { class: 'field' }, title, about, input, fault);
   return {
     name, node, input, label,
     get: () => (type === 'checkbox' ? input.checked : type === 'file' ? input.files[0] : input.value.trim()),
@@ -97,21 +97,21 @@ export function control(name, { options, value, onchange, type, optional = false
 
 function select(attributes, options, value) {
   const keys = Object.keys(options), known = Object.hasOwn(options, value ?? '') ? value ?? '' : undefined;
-  const first = keys.length === 1 || known !== undefined ? null : h('option', { value: '' }, 'Choose');
-  const node = h('select', attributes, first, keys.map(key => h('option', { value: key }, options[key])));
+  const first = keys.length === 1 || known !== undefined ? null : element('option', { value: '' }, 'Choose');
+  const node = element('select', attributes, first, keys.map(key => element('option', { value: key }, options[key])));
   node.value = known ?? (first ? '' : keys[0]);
   return node;
 }
 
 /** One of several, as buttons of a group; `options` are pairs of a title and what it says. */
 export function choice(legend, name, options, value, onchange) {
-  const group = h('fieldset', { class: 'choice' }, h('legend', {}, legend));
+  const group = element('fieldset', { class: 'choice' }, element('legend', {}, legend));
   for (const [key, { title, says }] of Object.entries(options)) {
     const id = `field-${count += 1}`;
     const described = { 'aria-describedby': says && `${id}-hint` };
-    const input = h('input', { type: 'radio', id, name, value: key, checked: key === value, onchange: () => onchange(key), ...described });
-    const hint = says ? h('p', { id: `${id}-hint`, class: 'hint' }, says) : null;
-    group.append(h('div', { class: 'field check' }, input, h('label', { for: id }, title), hint));
+    const input = element('input', { type: 'radio', id, name, value: key, checked: key === value, onchange: () => onchange(key), ...described });
+    const hint = says ? element('p', { id: `${id}-hint`, class: 'hint' }, says) : null;
+    group.append(element('div', { class: 'field check' }, input, element('label', { for: id }, title), hint));
   }
   return group;
 }
@@ -121,8 +121,8 @@ export function choice(legend, name, options, value, onchange) {
  * shown beside the field to which it belongs, or above the form. `calm` hides what is shown above.
  */
 export function form({ title, controls, parts, verb, check, send, autocomplete = 'off' }) {
-  const problem = h('div', { class: 'problem', role: 'alert', hidden: true });
-  const submit = h('button', { type: 'submit' }, verb);
+  const problem = element('div', { class: 'problem', role: 'alert', hidden: true });
+  const submit = element('button', { type: 'submit' }, verb);
   let busy = false;
   const now = () => (typeof controls === 'function' ? controls() : controls);
   const values = () => Object.fromEntries(now().map(one => [one.name, one.get()]));
@@ -137,15 +137,8 @@ export function form({ title, controls, parts, verb, check, send, autocomplete =
     if (busy) return;
     const faults = check ? check(values()) : faultsIn(now());
     const bad = now().filter(one => faults[one.name]);
-    if (bad.length) {
-      const names = bad.map(one => one.label.replace(/[.:].*$/, '')).join(', ');
-      show([`${bad.length === 1 ? 'One field needs' : `${bad.length} fields need`} your attention: ${names}.`], faults);
-      return;
-    }
-    if (Object.values(faults).some(Boolean)) {
-      show(['This cannot be sent yet. Read the notes in the form.']);
-      return;
-    }
+    if (bad.length) return show([attention(bad)], faults);
+    if (Object.values(faults).some(Boolean)) return show(['This cannot be sent yet. Read the notes in the form.']);
     show([]);
     busy = true;
     submit.setAttribute('aria-disabled', 'true');
@@ -158,10 +151,15 @@ export function form({ title, controls, parts, verb, check, send, autocomplete =
     submit.removeAttribute('aria-disabled');
   };
   problem.setAttribute('tabindex', '-1');
-  const node = h('form', { novalidate: true, method: 'post', autocomplete, onsubmit: act },
-    title ? h('h3', {}, title) : null, problem, parts ?? now().map(one => one.node), h('p', { class: 'actions' }, submit));
+  const node = element('form', { novalidate: true, method: 'post', autocomplete, onsubmit: act },
+    title ? element('h3', {}, title) : null, problem, parts ?? now().map(one => one.node), element('p', { class: 'actions' }, submit));
   node.calm = () => { problem.hidden = true; };
   return node;
+}
+
+function attention(bad) {
+  const names = bad.map(one => one.label.replace(/[.:].*$/, '')).join(', ');
+  return `${bad.length === 1 ? 'One field needs' : `${bad.length} fields need`} your attention: ${names}.`;
 }
 
 function faultsIn(controls) {
@@ -178,14 +176,14 @@ function faultNamed(error, controls) {
 
 /** A table of rows, 100 at a time, with a search and, where `states` has words, a choice among them. A `quiet` caption is only heard. */
 export function table({ caption, columns, rows, cells, empty, states, quiet = false }) {
-  const body = h('tbody'), info = h('p', { class: 'hint', role: 'status' }), place = h('div', { class: 'scroll' });
+  const body = element('tbody'), info = element('p', { class: 'hint', role: 'status' }), place = element('div', { class: 'scroll' });
   let page = 0, found = rows;
   const move = step => () => { page += step; draw(); body.closest('table')?.scrollIntoView({ block: 'start' }); };
   const before = button('Previous page', move(-1)), after = button('Next page', move(1));
-  const search = h('input', { type: 'search', autocomplete: 'off', 'aria-label': `Search: ${caption}`, placeholder: 'Search', oninput: () => pick() });
-  const filter = states ? h('select', { 'aria-label': `State: ${caption}`, onchange: () => pick() },
-    h('option', { value: '' }, 'All states'), Object.keys(states).map(key => h('option', { value: key }, states[key]))) : null;
-  const head = h('thead', {}, h('tr', {}, columns.map(name => h('th', { scope: 'col' }, name))));
+  const search = element('input', { type: 'search', autocomplete: 'off', 'aria-label': `Search: ${caption}`, placeholder: 'Search', oninput: () => pick() });
+  const filter = states ? element('select', { 'aria-label': `State: ${caption}`, onchange: () => pick() },
+    element('option', { value: '' }, 'All states'), Object.keys(states).map(key => element('option', { value: key }, states[key]))) : null;
+  const head = element('thead', {}, element('tr', {}, columns.map(name => element('th', { scope: 'col' }, name))));
   function pick() {
     const text = search.value.toLowerCase();
     const has = row => JSON.stringify(row).toLowerCase().includes(text);
@@ -195,8 +193,8 @@ export function table({ caption, columns, rows, cells, empty, states, quiet = fa
   }
   function draw() {
     const from = page * SHOWN, shown = found.slice(from, from + SHOWN);
-    const cellOf = (cell, place) => (place ? h('td', { 'data-label': columns[place] }, cell) : h('th', { scope: 'row' }, cell));
-    body.replaceChildren(...shown.map(row => h('tr', {}, cells(row).map(cellOf))));
+    const cellOf = (cell, place) => (place ? element('td', { 'data-label': columns[place] }, cell) : element('th', { scope: 'row' }, cell));
+    body.replaceChildren(...shown.map(row => element('tr', {}, cells(row).map(cellOf))));
     info.textContent = told(from, shown.length);
     before.disabled = page === 0;
     after.disabled = from + SHOWN >= found.length;
@@ -209,25 +207,25 @@ export function table({ caption, columns, rows, cells, empty, states, quiet = fa
     if (found.length > SHOWN) return `${from + 1} to ${from + length} of ${found.length}`;
     return found.length === rows.length ? '' : `${found.length} of ${rows.length}`;
   }
-  const tools = rows.length > 5 ? h('div', { class: 'tools', role: 'search' }, filter, search) : null;
-  const pages = h('p', { class: 'actions' }, before, after);
-  place.append(h('table', {}, h('caption', { class: quiet ? 'heard' : undefined }, caption), head, body));
+  const tools = rows.length > 5 ? element('div', { class: 'tools', role: 'search' }, filter, search) : null;
+  const pages = element('p', { class: 'actions' }, before, after);
+  place.append(element('table', {}, element('caption', { class: quiet ? 'heard' : undefined }, caption), head, body));
   pick();
-  return h('div', {}, tools, info, place, pages);
+  return element('div', {}, tools, info, place, pages);
 }
 
 /** Rows of a name and a text. */
-export const details = rows => h('dl', {}, rows.map(([name, text]) => h('div', {}, h('dt', {}, name), h('dd', {}, text))));
+export const details = rows => element('dl', {}, rows.map(([name, text]) => element('div', {}, element('dt', {}, name), element('dd', {}, text))));
 
 /** A state as a word with a mark of its own. */
-export const badge = (state, text) => h('span', { class: `badge ${state}` }, text);
+export const badge = (state, text) => element('span', { class: `badge ${state}` }, text);
 
 /** Asks before something that cannot be undone. */
 export function sure(question, verb) {
   return new Promise(done => {
-    const dialog = h('dialog', { 'aria-labelledby': 'question', onclose: () => { dialog.remove(); done(dialog.returnValue === 'yes'); } },
-      h('p', { id: 'question' }, question),
-      h('p', { class: 'actions' }, button(verb, () => dialog.close('yes')),
+    const dialog = element('dialog', { 'aria-labelledby': 'question', onclose: () => { dialog.remove(); done(dialog.returnValue === 'yes'); } },
+      element('p', { id: 'question' }, question),
+      element('p', { class: 'actions' }, button(verb, () => dialog.close('yes')),
         button('Cancel', () => dialog.close('no'), { class: 'plain', autofocus: true })));
     document.body.append(dialog);
     dialog.showModal();

@@ -1,6 +1,6 @@
 // What experts do: the requests that are assigned to them, and their advice.
 import { ask } from './office.js';
-import { badge, button, control, details, form, h, table } from './dom.js';
+import { badge, button, control, details, element, form, table } from './dom.js';
 import { STATES, VERDICTS, faultOf, inWords, rowsOf } from './forms.js';
 
 /** The requests that are assigned to the caller. */
@@ -29,5 +29,5 @@ function review(app, row) {
       await app.go('queue', `Your advice on ${row.reference} of ${row.account} is recorded. You can change it while the request waits.`);
     },
   });
-  return h('div', {}, about, advise);
+  return element('div', {}, about, advise);
 }

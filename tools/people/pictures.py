@@ -1,0 +1,72 @@
+"""Pictures of the pages, in light and dark, 1280 and 390 pixels wide."""
+import base64
+
+from people.office import CLERK
+from people.person import judge, narrow
+
+
+def pictures(person, folder, name):
+    for width in (1280, 390):
+        for look in ('light', 'dark'):
+            person.driver.execute_cdp_cmd('Emulation.setEmulatedMedia', {'features': [{'name': 'prefers-color-scheme', 'value': look}]})
+            person.driver.execute_cdp_cmd('Emulation.setDeviceMetricsOverride', {'width': width, 'height': 900, 'deviceScaleFactor': 1, 'mobile': False})
+            picture = person.driver.execute_cdp_cmd('Page.captureScreenshot', {'format': 'png', 'captureBeyondViewport': True})['data']
+            (folder / f'{name}-{width}-{look}.png').write_bytes(base64.b64decode(picture))
+            wide = person.script('return document.documentElement.scrollWidth')
+            judge(wide <= width, f'{name} is {wide} pixels wide at {width}')
+    person.driver.execute_cdp_cmd('Emulation.setEmulatedMedia', {'features': []})
+    narrow(person, False)
+
+
+def take_pictures(office, people, tokens, folder):
+    folder.mkdir(parents=True, exist_ok=True)
+    alice, xan, clerk = people
+    pictures(alice, folder, 'sign-in')
+    alice.sign_in(tokens['alice'])
+    alice.sees('Details')
+    pictures(alice, folder, 'requests')
+    alice.go('New request')
+    alice.sees('values are free')
+    pictures(alice, folder, 'new')
+    alice.tick('A value that I choose')
+    alice.fill('Value', '210')
+    alice.click('Send the request')
+    alice.sees('need your attention')
+    pictures(alice, folder, 'faults')
+    alice.tick('An early allocation')
+    alice.sees('Internet-Draft')
+    pictures(alice, folder, 'early')
+    alice.go('My blocks')
+    pictures(alice, folder, 'blocks')
+    alice.go('Agents')
+    pictures(alice, folder, 'agents')
+    alice.sign_out()
+    alice.driver.get(alice.address + 'errors.html#taken')
+    pictures(alice, folder, 'errors')
+    alice.driver.get(alice.address)
+    pictures(xan, folder, 'queue')
+    pictures_of_clerk(office, clerk, folder)
+
+
+def pictures_of_clerk(office, clerk, folder):
+    for section in ('Waiting', 'All requests', 'Registries', 'Prefixes', 'Tokens', 'Counts'):
+        clerk.go(section)
+        pictures(clerk, folder, f'clerk-{section.lower().replace(" ", "-")}')
+    clerk.go('Tokens')
+    clerk.fill('Account', 'zoe')
+    clerk.choose('Kind', 'Expert')
+    clerk.click('Make a token')
+    clerk.sees('The token of zoe')
+    pictures(clerk, folder, 'clerk-token')
+    clerk.go('Registries')
+    clerk.click('Open codes')
+    clerk.sees('Early allocations')
+    pictures(clerk, folder, 'clerk-registry')
+    clerk.go('All requests')
+    row = next(one for one in office.ask('GET', '/desk/requests', CLERK) if one['state'] == 'pending')
+    clerk.click(f'Open {row["reference"]} of {row["account"]}')
+    clerk.sees('Ask an expert')
+    pictures(clerk, folder, 'clerk-case')
+    clerk.click('Approve')
+    pictures(clerk, folder, 'clerk-question')
+    clerk.click('Cancel')
