@@ -1,0 +1,143 @@
+"""Steps in which an office is served, or a peer answers."""
+import contextlib
+import datetime
+import re
+import socket
+import subprocess
+import time
+from concurrent.futures import ThreadPoolExecutor
+
+from lib import office
+from lib.office import CLERK, Served
+from steps.case import Differs, wants
+from steps.jobs import is_done, is_undone
+
+
+def listener():
+    """Listens at any port of loopback."""
+    return socket.create_server(('127.0.0.1', 0))
+
+
+def serving(case, file, *words, connections=1):
+    """The program that serves the office in the file to so many clients, at a port that nobody has taken meanwhile."""
+    while True:
+        server = Served(case.program, file, '--connections', connections, *words, cwd=case.folder, stderr=subprocess.PIPE)
+        if server.listens():
+            return server
+        _, errors = server.communicate(timeout=60)
+        wants(errors, b'fault: port\n', f'serve {file}')
+
+
+def exchange(case, file, given, *words):
+    """What one client hears who sends this to the office in a file that is served, and what stands in the log."""
+    with serving(case, file, *words) as server:
+        answer = office.exchange(server.port, given, ends=True, seconds=60)
+        output, errors = server.communicate(timeout=60)
+    wants((server.returncode, output), (0, b''), f'serve {file}')
+    return answer, errors
+
+
+def is_served(case, file, given, wanted):
+    wants(exchange(case, file, given), (wanted, b''), f'{given!r}')
+
+
+def over_served(case, file_and_words, given, wanted, is_so):
+    """It is so with these words, in which PORT is the port at which the office in the file is served."""
+    file, _, words = file_and_words.partition(' ')
+    with serving(case, file, connections=1000) as server:
+        is_so(case, words.replace('PORT', str(server.port)), given, wanted)
+
+
+def is_asked(case, file_and_words, given, wanted):
+    over_served(case, file_and_words, given, wanted, is_done)
+
+
+def is_denied(case, file_and_words, given, wanted):
+    over_served(case, file_and_words, given, wanted, is_undone)
+
+
+def request_of(client):
+    """The bytes of the request that a client sends, to the end of its body."""
+    heard = b''
+    while piece := client.recv(65536):
+        heard += piece
+        head, end, body = heard.partition(b'\r\n\r\n')
+        if end and len(body) >= int(*re.findall(rb'\r\nContent-Length: (\d+)', head)):
+            break
+    return heard
+
+
+def met(case, words, answer):
+    """What the program sends to a peer that gives this answer, at PORT of its words, and what the program gives."""
+    def meet(held):
+        held.settimeout(60)
+        with held.accept()[0] as client:
+            client.settimeout(60)
+            heard = request_of(client)
+            client.sendall(answer)
+        return heard
+
+    with listener() as held, ThreadPoolExecutor(1) as peers:
+        meeting = peers.submit(meet, held)
+        return case.run(words.replace('PORT', str(held.getsockname()[1]))), meeting.result()
+
+
+def is_misled(case, words, given, wanted):
+    wants(met(case, words, given)[0], (1, b'', wanted), words)
+
+
+def sends(case, words, given, wanted):
+    wants(met(case, words, b''), ((1, b'', b'fault: read\n'), wanted), words)
+
+
+def is_logged(case, file_and_line, given, wanted):
+    file, _, line = file_and_line.partition(' ')
+    answer, errors = exchange(case, file, given, '--log')
+    moment, _, rest = errors.decode().partition(' ')
+    wants((answer, rest), (wanted, f'{line}\n'), f'{given!r}')
+    told = datetime.datetime.strptime(moment + '+0000', '%Y-%m-%dT%H:%M:%SZ%z').timestamp()
+    wants(abs(told - time.time()) < 60, True, f'{moment}, which is the moment of the log')
+
+
+def is_taken(case, file, given, wanted):
+    with listener() as held:
+        port = held.getsockname()[1]
+        wants(case.run(f'serve {file} --port {port}'), (1, b'', b'fault: port\n'), 'a port that is taken')
+
+
+def is_silent(case, file, given, wanted):
+    with serving(case, file) as server:
+        begun = time.monotonic()
+        with socket.create_connection(('127.0.0.1', server.port), timeout=60) as client:
+            client.sendall(given)
+            heard = client.recv(1)
+            lasted = time.monotonic() - begun
+        output, errors = server.communicate(timeout=60)
+    wants((heard, server.returncode, output, errors), (b'', 0, b'', b''), 'what a silent client hears')
+    wants(9.5 < lasted < 15, True, f'{lasted} seconds after which it is closed')
+
+
+def is_of_loopback(case, file, given, wanted):
+    with serving(case, file) as server, contextlib.suppress(ConnectionRefusedError):
+        socket.create_connection(('127.0.0.2', server.port), timeout=60).close()
+        raise Differs('it is reached at 127.0.0.2')
+
+
+def is_of_now(case, file, given, wanted):
+    now = int(time.time())
+    lines = [f'{now - 7200} {CLERK} PUT /desk/tokens {{"account":"{name}","kind":"applicant","token":"{name}-token-000001","until":{until}}}\n'
+             for name, until in (('past', now - 1800), ('next', now + 1800))]
+    status, output, errors = case.run(f'script --file {file} --clerk {CLERK}', ''.join(lines).encode())
+    wants((status, output.count(b'200 '), errors), (0, 2, b''), 'two tokens')
+    is_undone(case, f'request {file} GET /requests --token past-token-000001', b'', b'401 {"error":"token"}\n')
+    is_done(case, f'request {file} GET /requests --token next-token-000001', b'', b'[]\n')
+    for name, status in (('past', b'401'), ('next', b'200')):
+        answer, errors = exchange(case, file, f'GET /requests HTTP/1.1\r\nAuthorization: Bearer {name}-token-000001\r\n\r\n'.encode())
+        wants((answer[9:12], errors), (status, b''), f'{name}, over HTTP')
+
+
+def is_warned(case, file, given, wanted):
+    line = f'warning: others may read {file}: chmod 600 it, and its -wal\n'.encode()
+    for mode, errors in (0o640, line), (0o604, line), (0o600, b''):
+        case.path(file).chmod(mode)
+        wants(exchange(case, file, b'')[1], errors, f'what is said of a file of mode {mode:o}')
