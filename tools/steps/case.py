@@ -15,8 +15,10 @@ NEVER, MAYBE, ALWAYS = range(3)
 def said(kind, text):
     """The bytes that a line of a text stands for, by what follows its `>` or `<`."""
     if kind.startswith('='):
-        count, _, line = text.partition(' ')
-        return b''.join(said(kind[1:], line.replace('#', str(number))) for number in range(int(count)))
+        numbers, _, line = text.partition(' ')
+        first, _, last = numbers.rpartition('..')
+        numbers = range(int(first), int(last) + 1) if first else range(int(last))
+        return b''.join(said(kind[1:], line.replace('#', str(number))) for number in numbers)
     if kind == '*':
         count, _, repeated = text.partition(' ')
         return ast.literal_eval(f"b'{repeated or 'x'}'") * int(count)

@@ -145,5 +145,8 @@ fn has_name(buf: &[u8], header: HeaderSpan, name: &HeaderName) -> bool
     requires { IsWithin (length buf.now) header.name }
     ensures { result ≡ str_eq_ignore_ascii_case (span_bytes buf.now header.name) name.now }
 {
-    header.name.of(buf).eq_ignore_ascii_case(name.as_str().as_bytes())
+    header
+        .name
+        .of(buf)
+        .eq_ignore_ascii_case(name.as_str().as_bytes())
 }

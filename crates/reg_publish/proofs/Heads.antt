@@ -2,7 +2,7 @@
 use Rattle.std.proofs.Common.{◌≡◌, ◌++◌, ◌∙◌, ℕ, List, codes, length, ap, append_assoc}
 use Rattle.std.specs.Prelude.{Some}
 use Rattle.std.specs.Fmt.{decimal}
-use Rattle.reg_wire.specs.Response.{field_line, head_text, line_end, media_type, reason, status_line}
+use Rattle.reg_wire.specs.Response.{field_line, head_text, line_end, media_type, status_line}
 use Rattle.reg_print.specs.declared.answer.Format.{Format}
 use Rattle.reg_ranges.specs.Numbers.{read_number}
 use Rattle.reg_ranges.proofs.Numerals.{reads_decimals}
@@ -19,18 +19,6 @@ regroup_all a b c d e f = simp append_assoc
 pub digits_are : (digits : List ℕ) (number : ℕ) → read_number digits ≡ Some number
     → digits ≡ decimal number
 digits_are digits number is = ((reads_decimals number digits).0 is).1
-
--- the first line
-pub status_joined : (status : ℕ) (answer digits first second third fourth rest : List ℕ)
-    → answer ≡ codes "HTTP/1.1 " ++ first → first ≡ digits ++ second → digits ≡ decimal status
-    → second ≡ codes " " ++ third → third ≡ reason status ++ fourth → fourth ≡ line_end ++ rest
-    → answer ≡ status_line status ++ rest
-status_joined status answer digits first second third fourth rest a b c d e f =
-    a
-    ∙ ap (λ t. codes "HTTP/1.1 " ++ t)
-    (b
-    ∙ (λ i. c i ++ (d ∙ ap (λ t. codes " " ++ t) (e ∙ ap (λ t. reason status ++ t) f)) i))
-    ∙ simp append_assoc
 
 -- the line of the format
 pub format_joined : (format : Format) (text media first second rest : List ℕ)

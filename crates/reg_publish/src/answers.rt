@@ -10,7 +10,7 @@ use crate::unpublished::{Unpublished, unread};
 use http::StatusCode;
 use reg_print::answer::Format;
 use reg_ranges::number::read_number;
-use reg_wire::response::reason;
+use reg_wire::response::{digits, reason};
 use std::alloc::Global;
 use std::io::Read;
 
@@ -76,9 +76,8 @@ pub fn answer_in(answer: &[u8]) -> Option<Answered<'_>>
     ensures whole { IfSome result (λ a. answer.now ≡ answer_text a.status a.format a.body.now) }
     ensures given { IfSome result (λ a. 0 < length (reason a.status)) }
 {
-    let Some((status, rest)) = status_in(answer) else {
-        return None;
-    };
+    let status = status_in(answer)?;
+    let rest = behind_status(status, answer)?;
     let (format, rest) = format_in(rest)?;
     let body = body_in(rest)?;
     Some(Answered {
@@ -102,37 +101,26 @@ pub fn body_of(format: Format, answer: &[u8]) -> Option<&[u8]>
     }
 }
 
-// The status that the first line says, and what stands behind that line.
-fn status_in(answer: &[u8]) -> Option<(StatusCode, &[u8])>
-    ensures whole { IfSome result (λ r. answer.now ≡ status_line r.0 ++ r.1.now) }
-    ensures given { IfSome result (λ r. 0 < length (reason r.0)) }
+// The status that the first line says, if an office gives it.
+fn status_in(answer: &[u8]) -> Option<StatusCode>
+    ensures { IfSome result (λ status. 0 < length (reason status)) }
 {
-    let rest = behind(b"HTTP/1.1 ", answer)?;
-    let (digits, rest) = until(b' ', rest)?;
-    let status = status_of(digits)?;
-    let rest = behind(b" ", rest)?;
-    let rest = behind(phrase_of(status)?, rest)?;
-    let rest = behind(b"\r\n", rest)?;
-    Some((status, rest))
-}
-
-#[tactic(auto, using(reg_wire::proofs::StatusDigits::decimal_code))]
-fn status_of(digits: &[u8]) -> Option<StatusCode>
-    ensures { IfSome result (λ status. digits.now ≡ decimal status) }
-{
-    StatusCode::from_bytes(digits).ok()
-}
-
-// The phrase of a status that an office gives.
-fn phrase_of(status: StatusCode) -> Option<&'static [u8]>
-    ensures is { IfSome result (λ phrase. phrase.now ≡ reason status) }
-    ensures given { IfSome result (λ phrase. 0 < length (reason status)) }
-{
-    let phrase = reason(status).as_bytes();
-    if phrase.is_empty() {
+    let status = StatusCode::from_bytes(answer.get(9..12)?).ok()?;
+    if reason(status).is_empty() {
         return None;
     }
-    Some(phrase)
+    Some(status)
+}
+
+// What stands behind a first line with this status.
+fn behind_status<'a>(status: StatusCode, answer: &'a [u8]) -> Option<&'a [u8]>
+    ensures { IfSome result (λ rest. answer.now ≡ status_line status ++ rest.now) }
+{
+    let rest = behind(b"HTTP/1.1 ", answer)?;
+    let rest = behind(digits(status).as_bytes(), rest)?;
+    let rest = behind(b" ", rest)?;
+    let rest = behind(reason(status).as_bytes(), rest)?;
+    behind(b"\r\n", rest)
 }
 
 // The format that a line says, and what stands behind that line.

@@ -1,5 +1,5 @@
 -- Why there is no office in the files at a path, where what was opened is dropped.
-use Rattle.std.specs.Prelude.{◌≡◌, ◌×◌, Bool, Result, IfErr, Option}
+use Rattle.std.specs.Prelude.{◌≡◌, Bool, Result, IfErr, Option}
 use Rattle.sqlite.specs.Files.{file_state}
 use Rattle.sqlite.specs.Held.{Held}
 use Rattle.sqlite.specs.declared.error.Error.{Error}
@@ -18,15 +18,11 @@ refusal_at_path (refusals.Version n) = refusals.Version n
 refusal_at_path refusals.NotOurs = refusals.NotOurs
 refusal_at_path (refusals.Fault fault) = refusals.Fault fault
 
-module _ {D : Type 0} {g : disk.Ghosts D} where
-  -- of files that held this a store was opened, or none, and refused as by `open_by`
-  pub record IsRefusedAtPath (image : Image) (fresh : Bool) (refusal : OpenFault) : Type 0 where
-    pub opened : Result (Held (FileStore D g)) (Error × Option (Leftover D g))
-    pub told : OpenFault
-    pub refused : RefusesOpening file_state (OpensFiles image) fresh told opened
-    pub same : refusal ≡ refusal_at_path told
-
-  -- so it is of a call that gives a keeper over such files, or the refusal alone
-  abbrev pub RefusesPath : {K : Type 0} → (K → Held (FileStore D g)) → Image → Bool
-      → Result K OpenFault → Type 0
-  RefusesPath tables image fresh result = IfErr result (IsRefusedAtPath image fresh)
+-- A call that gives a keeper over files that held this, or the refusal alone: a store was opened, or
+-- none, and it was refused as by `open_by`.
+abbrev pub RefusesPath : {K D : Type 0} {g : disk.Ghosts D} → (K → Held (FileStore D g)) → Image → Bool
+    → Result K OpenFault → Type 0
+RefusesPath {D = D} {g = g} tables image fresh result = IfErr result (λ refusal.
+    (opened : Result (Held (FileStore D g)) (Error × Option (Leftover D g))) × (told : OpenFault)
+    × RefusesOpening file_state (OpensFiles image) fresh told opened
+    × (refusal ≡ refusal_at_path told))

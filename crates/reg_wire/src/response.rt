@@ -147,9 +147,9 @@ fn push_status(text: &mut String, status: StatusCode) -> Result<(), AllocError>
     Ok(())
 }
 
-// The number of a status in decimal.
+/// The number of a status in decimal.
 #[tactic(auto, using(crate::proofs::StatusDigits::decimal_code))]
-fn digits(status: StatusCode) -> &'static str
+pub fn digits(status: StatusCode) -> &'static str
     ensures { result.now ≡ decimal status }
 {
     status.as_str()

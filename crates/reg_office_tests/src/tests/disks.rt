@@ -9,5 +9,6 @@ mod left;
 mod lines;
 mod making;
 mod migrating;
+mod resumed;
 mod rows;
 mod sessions;

@@ -39,9 +39,9 @@ impl Row {
     }
 }
 
-/// The rows of the transcript.
-pub fn rows(alloc: Global) -> Result<Vec<Row>, AllocError> {
-    let (lines, answers) = (all_lines(alloc)?, answered(alloc, &[ROWS])?);
+/// The rows of these transcripts, in their order.
+pub fn rows(alloc: Global, transcripts: &[&str]) -> Result<Vec<Row>, AllocError> {
+    let (lines, answers) = (sent(alloc, transcripts)?, answered(alloc, transcripts)?);
     let mut rows = Vec::new(alloc);
     for (line, answer) in lines.lines().zip(answers.lines()) {
         rows.push(Row::new(alloc, line, answer)?)?;

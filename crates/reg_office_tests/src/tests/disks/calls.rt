@@ -8,7 +8,6 @@ use reg_office::Office;
 use reg_opening::kind::{StoreKind, check};
 use reg_sql::keeper::SqlKeeper;
 use reg_sql::open::OpenFault;
-use reg_tables::make::make_office;
 use reg_wire::script::run;
 use sqlite::{Alter, Connection, Error, FileStore, Files, Options};
 use sqlite_disk::Disk;
@@ -60,11 +59,6 @@ fn changed_by<S: Alter>(conn: &mut Connection<S>, statement: Statement<'_>) -> O
     match statement {
         Statement::Nothing => Some(0),
         Statement::Sql(statements) => executed(conn, statements),
-        Statement::MakeTables => if make_tables(conn).is_ok() {
-            Some(0)
-        } else {
-            None
-        },
     }
 }
 
@@ -75,13 +69,6 @@ fn executed<S: Alter>(conn: &mut Connection<S>, statements: &str) -> Option<usiz
         changed = conn.execute(sql, &[]).ok()?;
     }
     Some(changed)
-}
-
-fn make_tables<S: Alter>(conn: &mut Connection<S>) -> Result<(), Error> {
-    if conn.is_autocommit() {
-        make_office(conn)?;
-    }
-    Ok(())
 }
 
 fn judge<S: Alter>(alloc: Global, conn: &mut Connection<S>) -> Result<Option<StoreKind>, Fault> {

@@ -1,15 +1,16 @@
-//! Disks that stop at each call of the making of the tables: all are there then, or none.
+//! Disks that stop at each call of the founding of an office: all its tables are there then, or none, and
+//! a fresh office is opened there.
 use crate::tests::disks::image::Image;
-use crate::tests::disks::left::{Left, NEVER, Stop};
-use crate::tests::disks::making::blank;
-use crate::tests::disks::sessions::{Outcome, Statement, carry_out};
+use crate::tests::disks::left::{NEVER, Stop};
+use crate::tests::disks::making::{asking, blank, seen};
+use crate::tests::disks::sessions::{Statement, ask, carry_out};
 use reg_opening::kind::StoreKind;
 use reg_tables::version::NEWEST;
 use reg_testing::facts::ensure;
 use std::alloc::Global;
 use std::test::Fail;
 
-// More calls than the making of the tables takes.
+// More calls than a founding takes.
 const MOST: u64 = 1_000;
 
 // What is found in the files of a store.
@@ -30,36 +31,35 @@ fn found_in(alloc: Global, image: &Image) -> Result<Found, Fail> {
     })
 }
 
-// Makes the tables on disks that stop, and tells whether that was answered.
-fn stopped(alloc: Global, stop: Stop) -> Result<(bool, Left), Fail> {
-    let image = Image::empty(alloc);
-    let (outcome, left) = carry_out(alloc, &image, stop, Statement::MakeTables, false)?;
-    Ok((is_done(outcome), left))
-}
-
-fn is_done(outcome: Option<Outcome>) -> bool {
-    match outcome {
-        Some(outcome) => outcome.changed.is_some(),
-        None => false,
-    }
-}
-
-fn assert_found(alloc: Global, image: &Image, made: bool, stop: Stop) -> Result<(), Fail> {
+// In these files are all tables or none, and all where the office was founded; and a fresh office that is
+// opened there shows this.
+fn assert_found(
+    alloc: Global,
+    image: &Image,
+    is_founded: bool,
+    wanted: &[u8],
+    stop: Stop,
+) -> Result<(), Fail> {
     let there = found_in(alloc, image)?;
-    let is_whole = there == Found::Office || !made && there == Found::Nothing;
+    let is_whole = there == Found::Office || !is_founded && there == Found::Nothing;
     stop.ensure(
         is_whole,
         "all tables or none, and all where that was answered",
-    )
+    )?;
+    let seen = seen(alloc, image)?;
+    stop.ensure(seen.as_slice() == wanted, "an office without rows")
 }
 
-fn assert_stop(alloc: Global, stop: Stop) -> Result<bool, Fail> {
-    let (made, left) = stopped(alloc, stop)?;
-    assert_found(alloc, &left.written, made, stop)?;
+// Founds an office in empty files on disks that stop, and tells whether that was answered.
+fn assert_stop(alloc: Global, wanted: &[u8], stop: Stop) -> Result<bool, Fail> {
+    let asked = ask(alloc, &Image::empty(alloc), stop, asking(b""))?;
+    let is_founded = asked.answers.is_some();
+    let left = asked.left;
+    assert_found(alloc, &left.written, is_founded, wanted, stop)?;
     if left.synced != left.written {
-        assert_found(alloc, &left.synced, made, stop)?;
+        assert_found(alloc, &left.synced, is_founded, wanted, stop)?;
     }
-    Ok(made)
+    Ok(is_founded)
 }
 
 #[test]
@@ -73,24 +73,27 @@ fn an_office_is_found(rt: HostRuntime) -> Result<(), Fail> {
 
 #[test]
 fn stops_of_the_log(rt: HostRuntime) -> Result<(), Fail> {
+    let wanted = seen(rt.alloc(), &blank(rt.alloc())?)?;
     for calls in 0..MOST {
         let stop = Stop {
             log: calls,
             ..NEVER
         };
-        if assert_stop(rt.alloc(), stop)? {
+        if assert_stop(rt.alloc(), wanted.as_slice(), stop)? {
             return Ok(());
         }
     }
-    Err("tables that are made".into())
+    Err("an office that is founded".into())
 }
 
 #[test]
 fn stops_of_the_database(rt: HostRuntime) -> Result<(), Fail> {
+    let wanted = seen(rt.alloc(), &blank(rt.alloc())?)?;
     for calls in 0..MOST {
-        if assert_stop(rt.alloc(), Stop { db: calls, ..NEVER })? {
+        let stop = Stop { db: calls, ..NEVER };
+        if assert_stop(rt.alloc(), wanted.as_slice(), stop)? {
             return Ok(());
         }
     }
-    Err("tables that are made".into())
+    Err("an office that is founded".into())
 }

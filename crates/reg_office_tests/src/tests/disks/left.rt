@@ -18,6 +18,19 @@ pub struct Stop {
 }
 
 impl Stop {
+    /// The stop after so many calls more than those of another.
+    pub fn behind(self, first: Stop) -> Stop {
+        Stop {
+            log: first.log.saturating_add(self.log),
+            db: first.db.saturating_add(self.db),
+        }
+    }
+
+    /// Whether disks with so many calls do not meet the stop.
+    pub fn is_within(self, stop: Stop) -> bool {
+        self.log <= stop.log && self.db <= stop.db
+    }
+
     /// The test fails at this, and says where the disks stopped, unless the fact holds.
     pub fn ensure(self, holds: bool, what: &str) -> Result<(), Fail> {
         if holds {

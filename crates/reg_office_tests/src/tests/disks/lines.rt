@@ -1,10 +1,11 @@
 //! Disks that stop at each call of a line of a script. What is found then is the office before the
 //! line or after it, and after it wherever the line was answered; and the line is sent again.
-use crate::tests::disks::asking::{CLERK, LOOKS, Row, STORAGE, rows};
+use crate::tests::disks::asking::{Row, STORAGE, rows};
 use crate::tests::disks::image::Image;
 use crate::tests::disks::left::{AT_ONCE, Left, NEVER, Stop, stops};
-use crate::tests::disks::making::{answered, asking, blank, calls_of_opening, prepared, seen};
-use crate::tests::disks::sessions::{Asking, ask};
+use crate::tests::disks::making::{answered, asking, calls_of_opening, founded, prepared, seen};
+use crate::tests::disks::rows::ROWS;
+use crate::tests::disks::sessions::ask;
 use reg_testing::facts::ensure;
 use std::alloc::Global;
 use std::test::Fail;
@@ -24,24 +25,14 @@ struct Case<'a> {
     after: &'a Standing,
 }
 
-// The office that is founded.
-fn founded(alloc: Global) -> Result<Standing, Fail> {
-    let founding = Asking {
-        token: Some(CLERK.as_bytes()),
-        ..asking(LOOKS.as_bytes())
-    };
-    let (seen, left) = answered(alloc, &blank(alloc)?, founding)?;
-    Ok(Standing {
-        image: left.written,
-        seen,
-    })
-}
-
 // The office after a row, which is answered by its own answer.
 fn after(alloc: Global, before: &Image, row: &Row) -> Result<Standing, Fail> {
     let (answer, left) = answered(alloc, before, asking(row.line.as_slice()))?;
     ensure(answer == row.answer, "the row's own answer")?;
-    let image = left.written;
+    standing(alloc, left.written)
+}
+
+fn standing(alloc: Global, image: Image) -> Result<Standing, Fail> {
     let seen = seen(alloc, &image)?;
     Ok(Standing { image, seen })
 }
@@ -123,9 +114,9 @@ fn assert_case(alloc: Global, case: &Case<'_>) -> Result<(), Fail> {
 
 // The rows from one place up to another are sent on disks that stop, after those before them.
 fn assert_rows(alloc: Global, from: usize, to: usize) -> Result<(), Fail> {
-    let rows = rows(alloc)?;
+    let rows = rows(alloc, &[ROWS])?;
     ensure(rows.len() == 42, "the rows of the transcript")?;
-    let mut before = founded(alloc)?;
+    let mut before = standing(alloc, founded(alloc)?)?;
     for (place, row) in rows.iter().enumerate() {
         let after = after(alloc, &before.image, row)?;
         if from <= place && place < to {

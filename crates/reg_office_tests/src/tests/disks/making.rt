@@ -7,10 +7,11 @@ use reg_sql::open::OpenFault;
 use std::alloc::Global;
 use std::test::Fail;
 
-/// These lines are asked, of an office that is there, and it ends without being closed.
+/// These lines are asked of an office, which is founded where there is none, and it ends without being
+/// closed.
 pub fn asking(lines: &[u8]) -> Asking<'_> {
     Asking {
-        fresh: false,
+        fresh: true,
         token: None,
         lines,
         closes: false,
@@ -33,6 +34,16 @@ pub fn calls_of_opening(alloc: Global, image: &Image) -> Result<Stop, Fail> {
 pub fn seen(alloc: Global, image: &Image) -> Result<Vec<u8>, Fail> {
     let (seen, _) = answered(alloc, image, asking(LOOKS.as_bytes()))?;
     Ok(seen)
+}
+
+/// The files of an office that is founded, with a first clerk, and ends without being closed.
+pub fn founded(alloc: Global) -> Result<Image, Fail> {
+    let founding = Asking {
+        token: Some(CLERK.as_bytes()),
+        ..asking(b"")
+    };
+    let (_, left) = answered(alloc, &Image::empty(alloc), founding)?;
+    Ok(left.written)
 }
 
 /// The files of an office without rows.

@@ -37,8 +37,6 @@ pub enum Done {
 #[derive(Clone, Copy)]
 pub enum Statement<'a> {
     Nothing,
-    /// The tables of an office are made.
-    MakeTables,
     /// Statements, each on a line of its own, in their order, up to the first that is refused.
     Sql(&'a str),
 }

@@ -1,0 +1,107 @@
+//! Requests that are put into an office beneath its commands, and what commands make of them.
+ghost use Rattle.std.specs.Prelude.{◌≡◌, true};
+ghost use Rattle.reg_core.specs.WellKept.{has_request_form};
+ghost use Rattle.reg_core.specs.World.{pending};
+
+use crate::tests::worked::exercise::{CLERK, Exercise, over_both};
+use crate::tests::worked::rows::ROWS;
+use crate::tests::worked::scripts::{answers_of, assert_answers, part_of};
+use reg_core::ask::Ask;
+use reg_core::change::Change;
+use reg_core::command::{ApplicantCommand, Command};
+use reg_core::text::{Account, Ref};
+use reg_keeper::keeper::{Fault, Keeper};
+use reg_office::Office;
+use reg_ranges::formed::Formed;
+use reg_testing::transcript::{answered, sent};
+use reg_wire::command::read_command;
+use std::alloc::Global;
+use std::test::Fail;
+
+// What alice is answered of her request `a-1`, where there is also one of bob's, `r-9`, and there is no
+// registry.
+const STORED: &str = r#"
+> 1700000000 alice-token-00001 GET /requests
+< 200 [{"ask":{"contact":"c","kind":"code","label":"L","registry":"flag","value":5},"reference":"a-1","state":"pending"}]
+> 1700000000 alice-token-00001 PUT /requests/a-1 {"contact":"c","kind":"code","label":"L","registry":"flag","value":5}
+< 200 {"ask":{"contact":"c","kind":"code","label":"L","registry":"flag","value":5},"reference":"a-1","state":"pending"}
+> 1700000000 alice-token-00001 PUT /requests/a-1 {"contact":"c","kind":"code","label":"L","registry":"flag","value":6}
+< 409 {"error":"ref"}
+> 1700000000 alice-token-00001 PUT /requests/a-2 {"contact":"c","kind":"code","label":"L","registry":"flag","value":5}
+< 404 {"error":"registry"}
+> 1700000000 alice-token-00001 GET /requests/r-9
+< 404 {"error":"request"}
+> 1700000000 alice-token-00001 GET /requests/r-8
+< 404 {"error":"request"}
+"#;
+
+const ASK: &[u8] =
+    b"{\"contact\":\"c\",\"kind\":\"code\",\"label\":\"L\",\"registry\":\"flag\",\"value\":5}";
+
+/// Lines of an office, two requests that are put into it, and lines then.
+#[derive(Drop)]
+struct Stored<'a> {
+    first: &'a str,
+    last: &'a str,
+}
+
+impl Exercise for Stored<'_> {
+    fn answers<K: Keeper + Drop>(&self, alloc: Global, keeper: K) -> Result<String, Fail> {
+        let mut office = Office::new(alloc, keeper);
+        office.found(CLERK)?;
+        answers_of(alloc, &mut office, self.first)?;
+        let mut keeper = office.into_keeper();
+        put(alloc, &mut keeper, b"alice", b"/requests/a-1")?;
+        put(alloc, &mut keeper, b"bob", b"/requests/r-9")?;
+        let mut office = Office::new(alloc, keeper);
+        answers_of(alloc, &mut office, self.last)
+    }
+}
+
+// Puts the request that an account makes at this path.
+fn put<K: Keeper>(alloc: Global, keeper: &mut K, account: &[u8], path: &[u8]) -> Result<(), Fail> {
+    let account = Account::read(account).ok_or("an account")?;
+    match read_command(alloc, b"PUT", path, ASK) {
+        Ok(Command::Applicant(ApplicantCommand::Submit(reference, ask))) => {
+            Ok(submit(keeper, account, reference, ask)?)
+        }
+        _ => Err("a submission".into()),
+    }
+}
+
+// Adds a pending request, if there is none under its reference.
+fn submit<K: Keeper>(
+    keeper: &mut K,
+    account: Account,
+    reference: Ref,
+    ask: Ask,
+) -> Result<(), Fault> {
+    request_formed(&account, &reference, &ask);
+    match keeper.own_one(&account, &reference)? {
+        None => keeper.apply(Change::Submit(account, reference, ask)),
+        Some(_) => Err(Fault::Store),
+    }
+}
+
+// Does nothing: what it ensures is known by the types.
+fn request_formed(account: &Account, reference: &Ref, ask: &Ask)
+    ensures { has_request_form (account.now, reference.now) (pending ask.now) ≡ true }
+{
+    account.formed();
+    reference.formed();
+    ask.formed();
+}
+
+#[test]
+fn requests_beneath_commands(rt: HostRuntime) -> Result<(), Fail> {
+    let first = sent(rt.alloc(), &[part_of(ROWS, "grants")?])?;
+    let lines = sent(rt.alloc(), &[STORED])?;
+    let wanted = answered(rt.alloc(), &[STORED])?;
+    let stored = Stored {
+        first: first.as_str(),
+        last: lines.as_str(),
+    };
+    let (lists, tables) = over_both(rt.alloc(), &stored)?;
+    assert_answers(lines.as_str(), lists.as_str(), wanted.as_str())?;
+    assert_answers(lines.as_str(), tables.as_str(), wanted.as_str())
+}
