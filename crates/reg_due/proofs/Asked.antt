@@ -6,7 +6,7 @@ use Rattle.reg_core.specs.declared.told.Told.{Told}
 use Rattle.reg_core.specs.declared.told.Told.TheVariants as tells
 use Rattle.reg_core.specs.declared.reply.Reply.TheVariants.{Accepted}
 use Rattle.reg_site.specs.Site.{names_in, page_in, told_to_all}
-use Rattle.reg_publish.specs.Publishing.{Asks}
+use Rattle.reg_source.specs.Source.{Asks}
 use Rattle.reg_due.specs.Allocation.{due_on}
 use Rattle.reg_due.specs.Asking.{AppendsTold, due_by, due_named, due_of, due_told}
 use Rattle.reg_due.specs.declared.allocation.DueAllocation.{DueAllocation}

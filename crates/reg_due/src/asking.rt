@@ -1,17 +1,16 @@
 //! What is due of what an office tells anybody.
 ghost use Rattle.std.specs.Prelude.{◌≡◌, IfOk, OnOk};
-ghost use Rattle.reg_core.specs.declared.told.Told.TheVariants as tells;
 ghost use Rattle.reg_due.specs.Asking.{AppendsTold, due_by, due_of};
-ghost use Rattle.reg_publish.specs.Publishing.{Asks};
+ghost use Rattle.reg_source.specs.Source.{Asks};
 
 use crate::allocation::{DueAllocation, push_due};
 use reg_core::command::PublicCommand;
-use reg_core::page::Page;
 use reg_core::text::Name;
 use reg_core::told::Told;
 use reg_early::day::Day;
-use reg_publish::source::Source;
-use reg_publish::unpublished::Unpublished;
+use reg_source::source::Source;
+use reg_source::told::{names_in, page_in};
+use reg_source::unpublished::Unpublished;
 use std::alloc::Global;
 
 /// The allocations that are due within so many days from today, of all registries that a source
@@ -61,22 +60,4 @@ fn push_told(
 {
     push_due(due, page_in(told)?, today, days)?;
     Ok(())
-}
-
-fn names_in(told: &Told) -> Result<&[Name], Unpublished>
-    ensures { IfOk result (λ names. told.now ≡ tells.Names names.now) }
-{
-    match told {
-        Told::Names(names) => Ok(names.as_slice()),
-        _ => Err(Unpublished::Read),
-    }
-}
-
-fn page_in(told: &Told) -> Result<&Page, Unpublished>
-    ensures { IfOk result (λ page. told.now ≡ tells.Page page.now) }
-{
-    match told {
-        Told::Page(page) => Ok(page),
-        _ => Err(Unpublished::Read),
-    }
 }

@@ -2,17 +2,17 @@
 ghost use Rattle.std.specs.Prelude.{◌≡◌, ◌++◌, IfErr, OnOk};
 ghost use Rattle.sqlite.specs.Files.{file_state};
 ghost use Rattle.sqlite.specs.Held.{state};
-ghost use Rattle.reg_publish.specs.Disk.{replaces};
-ghost use Rattle.reg_publish.specs.Names.{names_by};
+ghost use Rattle.reg_disk.specs.Disk.{replaces};
+ghost use Rattle.reg_disk.specs.Names.{names_by};
 ghost use Rattle.reg_program.specs.Copying.{IsUncopied, PrintsCopied};
 ghost use Rattle.reg_files.specs.Copies.{CopyIsTold, IsNotCopied, CopyIsPut, IsSeenAlone, IsToldOfSome, IsUnput, TellsCount};
 
 use crate::originals::{Originals, SystemOriginals};
 use crate::targets::{Places, SystemPlaces};
+use reg_disk::disk::Disk;
+use reg_disk::replacement::Names;
 use reg_program::copying::{Copies, copy_in};
 use reg_program::faults::Undone;
-use reg_publish::disk::Disk;
-use reg_publish::replacement::Names;
 use reg_sql::look::Look;
 use reg_sql::snapshot::Snapshot;
 use sqlite::Alter;

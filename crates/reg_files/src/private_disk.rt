@@ -1,7 +1,7 @@
 //! The file system, where new files are their owner's alone.
 use crate::access::create_private;
-use reg_publish::disk::{Disk, SystemDisk};
-use reg_publish::unpublished::{Unpublished, unwritten};
+use reg_disk::disk::{Disk, SystemDisk};
+use reg_source::unpublished::{Unpublished, unwritten};
 use std::fs;
 
 /// The file system. Nothing is known of it.

@@ -8,7 +8,7 @@ use Rattle.reg_core.specs.declared.told.Told.TheVariants as tells
 use Rattle.reg_jobs.specs.declared.jobs.Which.{Which}
 use Rattle.reg_jobs.specs.declared.jobs.Which.TheVariants.{Digest, Account}
 use Rattle.reg_print.specs.declared.answer.Format.TheVariants.{Json}
-use Rattle.reg_publish.specs.Answers.{answer_text}
+use Rattle.reg_client.specs.Answers.{answer_text}
 use Rattle.reg_site.specs.Site.{told_text}
 use Rattle.reg_program.specs.Printing.{Prints}
 use Rattle.reg_program.specs.Revoking.{no_token}

@@ -5,7 +5,7 @@ use Rattle.reg_due.specs.Asking.{due_by}
 use Rattle.reg_due.specs.Table.{IsDueTable}
 use Rattle.reg_due.specs.declared.allocation.DueAllocation.{DueAllocation}
 use Rattle.reg_early.specs.Moment.{day_of_moment}
-use Rattle.reg_publish.specs.Publishing.{Asks}
+use Rattle.reg_source.specs.Source.{Asks}
 use Rattle.reg_program.specs.Printing.{Prints}
 
 -- the table of some allocations is printed

@@ -2,7 +2,7 @@
 use Rattle.std.specs.Prelude.{◌≡◌, ℕ, Bool, List, [], ◌∷◌, Option, Some, None, IfSome, ◌==◌, take, position, codes, if◌then◌else◌}
 use Rattle.std.specs.Io.BufRead.{strip_last}
 use Rattle.std.specs.Str.{bytes_eq}
-use Rattle.reg_publish.specs.Answers.{AreMore}
+use Rattle.reg_source.specs.Bounded.{AreMore}
 
 -- the bytes are those that are known, where they are
 abbrev pub AreKnown : Option (List ℕ) → List ℕ → Type 0

@@ -3,7 +3,7 @@ use Rattle.std.specs.Prelude.{◌≡◌, ◌==◌, ◌||◌, ◌++◌, ⊤, ℕ,
 use Rattle.std.specs.Fmt.{decimal}
 use Rattle.std.specs.Io.KnownBytes.{Appends}
 use Rattle.reg_print.specs.declared.answer.Format.{Format}
-use Rattle.reg_publish.specs.Answers.{answer_text}
+use Rattle.reg_client.specs.Answers.{answer_text}
 use Rattle.reg_program.specs.Asking.{after_body}
 use Rattle.reg_program.specs.Undone.{line_by}
 use Rattle.reg_program.specs.declared.asking.Form.{Form}

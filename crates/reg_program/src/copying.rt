@@ -1,17 +1,17 @@
 //! The job that copies an office.
 ghost use Rattle.std.specs.Prelude.{◌≡◌, ◌++◌, ℕ, IfErr, IfOk, OnErr, OnOk};
 ghost use Rattle.std.specs.String.{string_bytes};
-ghost use Rattle.reg_publish.specs.Disk.{IsLeft, replaces};
-ghost use Rattle.reg_publish.specs.Names.{names_by};
+ghost use Rattle.reg_disk.specs.Disk.{IsLeft, replaces};
+ghost use Rattle.reg_disk.specs.Names.{names_by};
 ghost use Rattle.reg_program.specs.Copying.{IsUncopied, PrintsCopied, copied_line, requests_in};
 
 use crate::asking::print;
 use crate::faults::Undone;
 use crate::publishing::undone;
+use reg_disk::disk::Disk;
+use reg_disk::replacement::{Names, replace};
 use reg_keeper::keeper::Keeper;
 use reg_pages::portions::Whole;
-use reg_publish::disk::Disk;
-use reg_publish::replacement::{Names, replace};
 use std::alloc::Global;
 use std::io::Write;
 

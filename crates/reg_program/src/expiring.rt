@@ -9,12 +9,12 @@ use crate::asking::print;
 use crate::faults::Undone;
 use crate::publishing::undone;
 use crate::tokens::refused_as;
+use reg_client::peer::Peer;
 use reg_core::refusal::Refusal;
 use reg_due::asking::due_in;
 use reg_due::table::due_table;
 use reg_early::day::day_of;
-use reg_publish::peer::Peer;
-use reg_publish::source::Source;
+use reg_source::source::Source;
 use std::alloc::Global;
 use std::io::Write;
 

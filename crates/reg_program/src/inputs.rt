@@ -2,7 +2,7 @@
 ghost use Rattle.std.specs.Prelude.{◌≡◌, ◌<◌, ◌≤◌, ◌^◌, ◌⊎◌, length, position, IfOk, IfSome, option_map};
 ghost use Rattle.std.specs.Io.BufRead.{strip_last};
 ghost use Rattle.std.specs.String.{string_bytes};
-ghost use Rattle.reg_publish.specs.Answers.{AreMore};
+ghost use Rattle.reg_source.specs.Bounded.{AreMore};
 ghost use Rattle.reg_program.specs.Inputs.{AreKnown, HasBytes, HasMore, IsTokenOf, body_in, is_line_feed, line_in, token_in};
 
 use crate::faults::JobFailure;

@@ -16,10 +16,10 @@ use crate::faults::{JobFailure, Undone};
 use crate::inputs::{body_of, bytes_of, optional_token, token_of};
 use crate::publishing::undone;
 use http::{Method, StatusCode};
+use reg_client::answers::{Answered, answer_in};
+use reg_client::peer::exchange;
 use reg_core::text::Token;
 use reg_jobs::jobs::{Definition, Request};
-use reg_publish::answers::{Answered, answer_in};
-use reg_publish::peer::exchange;
 use std::alloc::{AllocError, Global};
 use std::io::{Read, Write};
 

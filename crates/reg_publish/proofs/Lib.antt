@@ -1,11 +1,5 @@
-pub mod Asked
 pub mod Causes
-pub mod Copying
-pub mod Found
-pub mod Heads
 pub mod Marks
 pub mod Placed
-pub mod ReadPages
-pub mod Steps
 pub mod TellsAll
 pub mod ToldTexts

@@ -5,7 +5,8 @@ use Rattle.reg_core.specs.View.{Published}
 use Rattle.reg_site.specs.Sums.{SumLines, Files, entries_of, with_sums}
 use Rattle.reg_site.specs.declared.sums.Sums.{Sums}
 use Rattle.reg_publish.specs.Folder.{Places, PlacesSummed, PutsSummed}
-use Rattle.reg_publish.specs.Publishing.{Asks, Publishes}
+use Rattle.reg_publish.specs.Publishing.{Publishes}
+use Rattle.reg_source.specs.Source.{Asks}
 
 module _ {F : Type 0} (Puts : F → F → List ℕ → List ℕ → Type 0) where
   -- one file was published

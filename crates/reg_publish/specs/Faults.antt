@@ -14,7 +14,7 @@ use Rattle.reg_publish.specs.declared.faults.HistoryFault.{HistoryFault}
 use Rattle.reg_publish.specs.declared.faults.HistoryFault.TheVariants as fault
 use Rattle.reg_publish.specs.declared.faults.PublishFault.{PublishFault}
 use Rattle.reg_publish.specs.declared.faults.PublishFault.TheVariants.{Unpublished, History}
-use Rattle.reg_publish.specs.declared.unpublished.Unpublished.TheVariants as un
+use Rattle.reg_source.specs.declared.unpublished.Unpublished.TheVariants as un
 
 -- the history is at fault
 abbrev pub IsOfHistory : PublishFault → Type 0

@@ -1,10 +1,5 @@
-pub mod Answers
-pub mod Copied
-pub mod Disk
 pub mod Earlier
 pub mod Faults
 pub mod Folder
-pub mod Names
 pub mod Publishing
-pub mod Reading
 pub mod Told

@@ -12,13 +12,6 @@ use Rattle.reg_publish.specs.Earlier.{IsEarlier}
 use Rattle.reg_publish.specs.Folder.{Places}
 use Rattle.reg_publish.specs.Told.{facts_at}
 
--- A question to a source. Under its premise after it, this was told; what is published stays.
-pub record Asks {S : Type 0} (published : S → Published) (Holds : S → Type 0) (source source' : S)
-    (Told : Published → Type 0) : Type 0 where
-  pub told : Holds source' → Told (published source)
-  pub same : Holds source' → published source' ≡ published source
-  pub before : Holds source' → Holds source
-
 -- A step over a source and a folder. Under the source's premise after it, these files are published,
 -- which are a function of what is published there; that stays as it was.
 pub record Publishes {S F : Type 0} (published : S → Published) (Holds : S → Type 0)

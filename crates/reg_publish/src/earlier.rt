@@ -9,7 +9,7 @@ ghost use Rattle.reg_site.specs.Files.{path_of};
 ghost use Rattle.reg_site.specs.declared.files.File.TheVariants as file;
 
 use crate::faults::{HistoryFault, PublishFault};
-use crate::folder::Folder;
+use reg_disk::folder::Folder;
 use reg_history::chain::Chain;
 use reg_history::history::{HEADER, History, read};
 use reg_ranges::number::read_number;

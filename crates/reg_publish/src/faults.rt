@@ -1,8 +1,8 @@
 //! Why a site was not published.
-use crate::unpublished::Unpublished;
 use reg_changes::change::Subject;
 use reg_changes::said::Unrecorded;
 use reg_history::history::Unreadable;
+use reg_source::unpublished::Unpublished;
 use std::alloc::{AllocError, AllocFailed};
 
 /// Why a site was not published, or no more of it. Each file that was published before is whole.
@@ -55,7 +55,7 @@ impl From<HistoryFault> for PublishFault {
 impl From<AllocError> for PublishFault {
     ghost use Rattle.std.specs.Prelude.{◌≡◌};
     ghost use Rattle.reg_publish.specs.declared.faults.PublishFault.TheVariants as fault;
-    ghost use Rattle.reg_publish.specs.declared.unpublished.Unpublished.TheVariants.{Memory};
+    ghost use Rattle.reg_source.specs.declared.unpublished.Unpublished.TheVariants.{Memory};
 
     ghost from_gives = { λ _ given. given ≡ fault.Unpublished Memory };
 
@@ -67,7 +67,7 @@ impl From<AllocError> for PublishFault {
 impl<T: Drop> From<AllocFailed<T>> for PublishFault {
     ghost use Rattle.std.specs.Prelude.{◌≡◌};
     ghost use Rattle.reg_publish.specs.declared.faults.PublishFault.TheVariants as fault;
-    ghost use Rattle.reg_publish.specs.declared.unpublished.Unpublished.TheVariants.{Memory};
+    ghost use Rattle.reg_source.specs.declared.unpublished.Unpublished.TheVariants.{Memory};
 
     ghost from_gives = { λ _ given. given ≡ fault.Unpublished Memory };
 

@@ -9,14 +9,12 @@ ghost use Rattle.reg_site.specs.IndexTree.{row_of};
 ghost use Rattle.reg_site.specs.Site.{change_files, site_title as title_by};
 ghost use Rattle.reg_site.specs.Summary.{summary};
 
-use crate::folder::Folder;
 use crate::placing::put;
-use crate::told::page_in;
-use crate::unpublished::Unpublished;
 use reg_blocks::pool::Pool;
 use reg_changes::change::Record;
 use reg_core::holding::Listed;
 use reg_core::told::Told;
+use reg_disk::folder::Folder;
 use reg_history::moment::moment_text;
 use reg_history::overview::Overview;
 use reg_notes::note::Note;
@@ -28,6 +26,8 @@ use reg_site::recent::{feed_id, last_changes, text_of};
 use reg_site::records::title_of;
 use reg_site::summary::Summary;
 use reg_site::sums::Sums;
+use reg_source::told::page_in;
+use reg_source::unpublished::Unpublished;
 use std::alloc::{AllocError, Global};
 
 /// Publishes the page of the last changes, and their feed.

@@ -1,8 +1,8 @@
 //! Notes that no page shows.
-use crate::told::page_in;
-use crate::unpublished::Unpublished;
 use reg_core::told::Told;
 use reg_notes::notes::Notes;
+use reg_source::told::page_in;
+use reg_source::unpublished::Unpublished;
 use std::alloc::Global;
 
 /// The notes that no page shows, since they are on a registry or an entry that is not there.

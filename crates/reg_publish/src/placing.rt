@@ -5,12 +5,12 @@ ghost use Rattle.reg_site.specs.Site.{one_file};
 ghost use Rattle.reg_site.specs.Sums.{digest as digest_by, entries_of, lines_of};
 ghost use Rattle.reg_site.specs.declared.files.File.TheVariants as file;
 
-use crate::folder::Folder;
-use crate::unpublished::Unpublished;
 use reg_changes::field::Field;
+use reg_disk::folder::Folder;
 use reg_pages::portions::{Portions, Whole};
 use reg_site::files::File;
 use reg_site::sums::{Sums, digest_of};
+use reg_source::unpublished::Unpublished;
 use std::alloc::Global;
 
 /// Puts a file with these bytes into a folder, and adds its sum.

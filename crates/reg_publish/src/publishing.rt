@@ -15,15 +15,13 @@ ghost use Rattle.reg_site.specs.declared.files.File.TheVariants as file;
 
 use crate::earlier::{Earlier, read_earlier};
 use crate::faults::PublishFault;
-use crate::folder::Folder;
 use crate::indexes::{publish_changes, publish_indexes, registers, summaries};
 use crate::left_out::{LeftOut, left_out};
 use crate::placing::{put, put_sums};
 use crate::registries::{publish_blocks, publish_pool, publish_registries};
-use crate::source::Source;
-use crate::told::{AllTold, ask_all, blocks_in, page_in, pool_in};
-use crate::unpublished::Unpublished;
+use crate::told::{AllTold, ask_all};
 use reg_changes::change::Record;
+use reg_disk::folder::Folder;
 use reg_history::history::History;
 use reg_history::overview::Overview;
 use reg_history::recorder::Recorded;
@@ -31,6 +29,9 @@ use reg_notes::notes::Notes;
 use reg_pages::noted::of_authority;
 use reg_site::files::File;
 use reg_site::sums::Sums;
+use reg_source::source::Source;
+use reg_source::told::{blocks_in, page_in, pool_in};
+use reg_source::unpublished::Unpublished;
 use std::alloc::Global;
 
 /// How many bytes are set aside for each new record, so that a long history grows where it is. What is not

@@ -12,10 +12,7 @@ ghost use Rattle.reg_site.specs.Registry.{registry_page};
 ghost use Rattle.reg_site.specs.Site.{block_files, one_file, page_files, pool_files, told_text};
 ghost use Rattle.reg_site.specs.declared.files.File.TheVariants as file;
 
-use crate::folder::Folder;
 use crate::placing::{put, put_portions};
-use crate::told::page_in;
-use crate::unpublished::Unpublished;
 use reg_blocks::pool::Pool;
 use reg_blocks::size::Size;
 use reg_changes::change::Record;
@@ -23,6 +20,7 @@ use reg_core::holding::Listed;
 use reg_core::page::Page;
 use reg_core::reply::Reply;
 use reg_core::told::Told;
+use reg_disk::folder::Folder;
 use reg_history::overview::Overview;
 use reg_notes::note::Note;
 use reg_notes::notes::Notes;
@@ -37,6 +35,8 @@ use reg_site::registry::RegistryPage;
 use reg_site::style::style;
 use reg_site::sums::{Sums, digest_of};
 use reg_site::tree::RegistryTree;
+use reg_source::told::page_in;
+use reg_source::unpublished::Unpublished;
 use std::alloc::{AllocError, Global};
 
 /// Publishes the files of each registry that was told, in turn.

@@ -1,22 +1,19 @@
 //! All that anybody is told by an office.
-ghost use Rattle.std.specs.Prelude.{◌≡◌, IfOk, OnOk};
+ghost use Rattle.std.specs.Prelude.{IfOk, OnOk};
 ghost use Rattle.std.specs.List.{flat_map};
-ghost use Rattle.reg_core.specs.declared.told.Told.TheVariants as tells;
 ghost use Rattle.reg_history.specs.Published.{page_facts};
 ghost use Rattle.reg_history.specs.Recording.{Took};
-ghost use Rattle.reg_publish.specs.Publishing.{Asks};
+ghost use Rattle.reg_source.specs.Source.{Asks};
 ghost use Rattle.reg_publish.specs.Told.{AreTold, IsTold, facts_told, pages_of};
 
-use crate::source::Source;
-use crate::unpublished::Unpublished;
-use reg_blocks::pool::Pool;
 use reg_core::command::PublicCommand;
-use reg_core::holding::Listed;
-use reg_core::page::Page;
 use reg_core::text::Name;
 use reg_core::told::Told;
 use reg_history::published::{take_blocks, take_page, take_prefixes};
 use reg_history::recorder::Takes;
+use reg_source::source::Source;
+use reg_source::told::{blocks_in, names_in, page_in, pool_in};
+use reg_source::unpublished::Unpublished;
 use std::alloc::Global;
 
 /// All that anybody is told by an office: each registry by name, the pool and the blocks.
@@ -95,45 +92,4 @@ fn tell_pages<T: Takes>(alloc: Global, taker: &mut T, pages: &[Told]) -> Result<
         take_page(alloc, taker, page_in(told)?)?;
     }
     Ok(())
-}
-
-// ---- What was told
-
-fn names_in(told: &Told) -> Result<&[Name], Unpublished>
-    ensures { IfOk result (λ names. told.now ≡ tells.Names names.now) }
-{
-    match told {
-        Told::Names(names) => Ok(names.as_slice()),
-        _ => Err(Unpublished::Read),
-    }
-}
-
-/// The registry that was told; `Read` where none was.
-pub(crate) fn page_in(told: &Told) -> Result<&Page, Unpublished>
-    ensures { IfOk result (λ page. told.now ≡ tells.Page page.now) }
-{
-    match told {
-        Told::Page(page) => Ok(page),
-        _ => Err(Unpublished::Read),
-    }
-}
-
-/// The blocks that were told; `Read` where none were.
-pub(crate) fn blocks_in(told: &Told) -> Result<&[Listed], Unpublished>
-    ensures { IfOk result (λ rows. told.now ≡ tells.Blocks rows.now) }
-{
-    match told {
-        Told::Blocks(rows) => Ok(rows.as_slice()),
-        _ => Err(Unpublished::Read),
-    }
-}
-
-/// The pool that was told; `Read` where none was.
-pub(crate) fn pool_in(told: &Told) -> Result<&Pool, Unpublished>
-    ensures { IfOk result (λ pool. told.now ≡ tells.Pool pool.now) }
-{
-    match told {
-        Told::Pool(pool) => Ok(pool),
-        _ => Err(Unpublished::Read),
-    }
 }

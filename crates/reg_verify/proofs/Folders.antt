@@ -11,7 +11,7 @@ use Rattle.reg_history.specs.Published.{block_fact, page_facts, prefix_fact}
 use Rattle.reg_changes.specs.declared.change.Fact.{Fact}
 use Rattle.reg_print.specs.Listing.{listing_text}
 use Rattle.reg_site.specs.Site.{told_text}
-use Rattle.reg_publish.specs.Reading.{IsToldBy}
+use Rattle.reg_client.specs.Reading.{IsToldBy}
 use Rattle.reg_changes.specs.declared.change.Record.{Record}
 use Rattle.reg_history.specs.Chain.{says as says_of}
 use Rattle.reg_history.specs.History.{IsHistory, SaysJust}

@@ -2,7 +2,7 @@
 ghost use Rattle.std.specs.Prelude.{◌≡◌, Some, None, IfOk, IfErr};
 ghost use Rattle.reg_core.specs.declared.told.Told.TheVariants as tells;
 ghost use Rattle.reg_site.specs.Site.{told_text};
-ghost use Rattle.reg_publish.specs.Reading.{IsToldBy};
+ghost use Rattle.reg_client.specs.Reading.{IsToldBy};
 ghost use Rattle.reg_verify.specs.declared.flaw.Unverified.TheVariants as un;
 ghost use Rattle.reg_verify.specs.Strays.{Lists};
 ghost use Rattle.reg_verify.specs.Verifying.{Finds, TellsWhy};
@@ -11,12 +11,12 @@ use crate::flaw::{Flaw, Unverified};
 use crate::folder::Reads;
 use crate::part::Part;
 use reg_blocks::pool::Pool;
+use reg_client::reading::told_of;
 use reg_core::command::PublicCommand;
 use reg_core::holding::Listed;
 use reg_core::page::Page;
 use reg_core::told::Told;
-use reg_publish::reading::told_of;
-use reg_publish::unpublished::Unpublished;
+use reg_source::unpublished::Unpublished;
 use std::alloc::Global;
 
 /// The bytes of a file, which has to be there.

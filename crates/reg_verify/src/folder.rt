@@ -1,8 +1,8 @@
 //! Published folders that are read.
 ghost use Rattle.std.specs.Prelude.{◌≡◌, IfOk, map, option_map, string_bytes};
 
-use reg_publish::answers::read_up_to;
-use reg_publish::unpublished::Unpublished;
+use reg_source::bounded::read_up_to;
+use reg_source::unpublished::Unpublished;
 use std::alloc::{AllocError, Global};
 use std::fs::{Files, open, read_dir};
 use std::io::{Error, ErrorKind};

@@ -70,6 +70,8 @@ fn values_ascend(values: &[u32]) -> bool
 /// stands `Entry`, `Permanent` or, of a renewal, `Renewed`; for a block only `Exhausted`. Other
 /// requests are not looked at, and no memory is taken.
 ///
+/// The rows ascend, which `Ground::ascends` tests; those of published registers do.
+///
 /// Rows of the other kind have nothing of what the ask names: they give `Registry` to an ask about a
 /// value, and `Exhausted` to one for a block.
 pub fn check_ask(account: &Account, ask: &Ask, rows: &Ground<'_>) -> Result<Given, Refusal>

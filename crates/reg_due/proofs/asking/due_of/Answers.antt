@@ -1,6 +1,6 @@
 use Rattle.std.proofs.Common.{◌≡◌, ℕ, ◌<◌, ◌≤◌, List, length, subst, arith}
 use Rattle.std.proofs.lemmas.List.{take_all}
-use Rattle.reg_publish.specs.Publishing.{Asks}
+use Rattle.reg_source.specs.Source.{Asks}
 use Rattle.reg_due.specs.Asking.{due_of}
 use Rattle.reg_due.proofs.Asked.{asks_more, asks_none}
 use Rattle.reg_due.proofs.asking.due_of.Goals as goal

@@ -1,5 +1,5 @@
 use Rattle.std.proofs.Common.{◌≡◌, take}
-use Rattle.reg_publish.specs.Publishing.{Asks}
+use Rattle.reg_source.specs.Source.{Asks}
 use Rattle.reg_due.specs.Asking.{due_of}
 use Rattle.reg_due.proofs.asking.due_of.Given as goal
 

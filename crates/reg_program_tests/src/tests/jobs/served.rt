@@ -1,9 +1,9 @@
 //! What is sent to an office that is served, and what is made of its answers: known bytes.
+use reg_client::answers::answer_in;
 use reg_print::answer::Format;
 use reg_program::asking::Form;
 use reg_program::faults::{JobFailure, Undone};
 use reg_program::served::{Sent, print_answer, request_bytes};
-use reg_publish::answers::answer_in;
 use reg_testing::facts::ensure;
 use std::alloc::{AllocError, Global};
 use std::test::Fail;

@@ -10,7 +10,7 @@ use reg_office::Office;
 use reg_print::answer::{Answer, body_of};
 use reg_publish::faults::PublishFault;
 use reg_publish::publishing::publish;
-use reg_publish::unpublished::Unpublished;
+use reg_source::unpublished::Unpublished;
 use reg_testing::facts::ensure;
 use std::str;
 use std::test::Fail;

@@ -1,10 +1,10 @@
 //! Files that take the places of others in a folder of a file system.
 use reg_core::text::Name;
+use reg_disk::directory::Directory;
+use reg_disk::folder::Folder;
 use reg_pages::portions::Whole;
-use reg_publish::directory::Directory;
-use reg_publish::folder::Folder;
-use reg_publish::unpublished::Unpublished;
 use reg_site::files::File;
+use reg_source::unpublished::Unpublished;
 use reg_testing::facts::ensure;
 use reg_testing::folders::folder_for;
 use std::fs;

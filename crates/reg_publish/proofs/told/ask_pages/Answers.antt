@@ -5,7 +5,7 @@ use Rattle.reg_core.specs.declared.command.PublicCommand.TheVariants.{Registry}
 use Rattle.reg_core.specs.declared.reply.Reply.TheVariants.{Accepted}
 use Rattle.reg_core.specs.declared.told.Told.{Told}
 use Rattle.reg_site.specs.Site.{told_to_all}
-use Rattle.reg_publish.specs.Publishing.{Asks}
+use Rattle.reg_source.specs.Source.{Asks}
 use Rattle.reg_publish.specs.Told.{AreTold}
 use Rattle.reg_publish.proofs.Placed.{asks_as, asks_both, asks_none}
 use Rattle.reg_publish.proofs.TellsAll.{told_more}

@@ -1,5 +1,5 @@
 use Rattle.std.proofs.Common.{take}
-use Rattle.reg_publish.specs.Publishing.{Asks}
+use Rattle.reg_source.specs.Source.{Asks}
 use Rattle.reg_publish.specs.Told.{AreTold}
 use Rattle.reg_publish.proofs.told.ask_pages.Given as goal
 

@@ -1,0 +1,7 @@
+//! Where the files of a site are read and published.
+#![tactic(auto)]
+
+pub mod directory;
+pub mod disk;
+pub mod folder;
+pub mod replacement;
