@@ -7,6 +7,7 @@ import sqlite3
 import subprocess
 import sys
 
+from lib import transcripts
 from lib.office import CLERK
 from steps.case import Differs, Step, wants
 
@@ -112,7 +113,7 @@ def is_found(case, file_and_statement, given, wanted):
 def transcript(name):
     """What a transcript sends, and what is answered to it."""
     name, _, part = name.partition('/')
-    text = (CRATE / f'transcripts/{name}.txt').read_text(encoding='utf-8')
+    text = transcripts.path_of(name).read_text(encoding='utf-8')
     if part:
         text = text.split(f'\n== {part}\n')[1].split('\n== ')[0]
     step = Step(name)
