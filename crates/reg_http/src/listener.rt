@@ -110,7 +110,20 @@ fn exchange<K: Keeper, P: Peers, L: Log>(
     let told = respond(alloc, office, routes, moment, &mut reader, &mut watch, log);
     let mut writer = peers.turned(reader);
     let sent = send_told(alloc, &mut writer, told).ok();
-    log.ended(moment, sent);
-    peers.end(writer, sent);
+    log.ended(moment, same(&sent));
+    peers.end(writer, same(&sent));
     sent
+}
+
+// The same again. A status is of a library's type, and is not copied by being passed twice.
+fn same(sent: &Option<Sent>) -> Option<Sent>
+    ensures { result ≡ sent.now }
+{
+    match sent {
+        Some(sent) => Some(Sent {
+            status: sent.status,
+            body: sent.body,
+        }),
+        None => None,
+    }
 }

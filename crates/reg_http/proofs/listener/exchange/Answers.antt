@@ -23,14 +23,14 @@ returns-clause-exchanges g c =
       outcome = c.send_told.result;
       wrote = wrote;
       meets =
-          subst MeetsFrom c.turned.ensures.is_new
+          subst MeetsFrom c.turned-writer.ensures.is_new
           (met Over c.args.moment c.args.office.now c.respond-told.new.office
           (g.P.Reader.Read.remaining c.args.reader)
           (g.P.Reader.Read.remaining c.respond-told.new.reader)
-          (g.P.Writer.Write.contents c.turned.result) wrote c.respond-told.result
+          (g.P.Writer.Write.contents c.turned-writer.result) wrote c.respond-told.result
           c.send_told.result c.respond-told.ensures.ok c.respond-told.ensures.err
           c.send_told.ensures);
       counted =
           ap count_of c.ok-sent.ensures.value ∙ count_is c.send_told.result;
-      ends = subst EndsOf c.turned.ensures.ended c.end.ensures.ends;
+      ends = subst EndsOf c.turned-writer.ensures.ended c.end.ensures.ends;
     }

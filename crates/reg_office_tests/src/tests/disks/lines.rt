@@ -29,10 +29,10 @@ struct Case<'a> {
 fn after(alloc: Global, before: &Image, row: &Row) -> Result<Standing, Fail> {
     let (answer, left) = answered(alloc, before, asking(row.line.as_slice()))?;
     ensure(answer == row.answer, "the row's own answer")?;
-    standing(alloc, left.written)
+    standing_of(alloc, left.written)
 }
 
-fn standing(alloc: Global, image: Image) -> Result<Standing, Fail> {
+fn standing_of(alloc: Global, image: Image) -> Result<Standing, Fail> {
     let seen = seen(alloc, &image)?;
     Ok(Standing { image, seen })
 }
@@ -116,7 +116,7 @@ fn assert_case(alloc: Global, case: &Case<'_>) -> Result<(), Fail> {
 fn assert_rows(alloc: Global, from: usize, to: usize) -> Result<(), Fail> {
     let rows = rows(alloc, &[ROWS])?;
     ensure(rows.len() == 42, "the rows of the transcript")?;
-    let mut before = standing(alloc, founded(alloc)?)?;
+    let mut before = standing_of(alloc, founded(alloc)?)?;
     for (place, row) in rows.iter().enumerate() {
         let after = after(alloc, &before.image, row)?;
         if from <= place && place < to {
