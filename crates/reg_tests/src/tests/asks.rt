@@ -104,9 +104,18 @@ fn expect_least(
 }
 
 fn rows_of<'a>(table: &'a RangeTable, taken: &'a [u32]) -> Ground<'a> {
+    rows_beside(table, None, taken)
+}
+
+// The rows where an entry may stand at the value asked for.
+fn rows_beside<'a>(
+    table: &'a RangeTable,
+    entry: Option<&'a Entry>,
+    taken: &'a [u32],
+) -> Ground<'a> {
     Ground::Code {
         table: Some(table),
-        entry: None,
+        entry,
         taken,
     }
 }
@@ -144,24 +153,16 @@ fn served(alloc: Global) -> Result<Vec<u32>, Fail> {
 fn least_values(rt: HostRuntime) -> Result<(), Fail> {
     let table = RangeTable::make(255, read_ranges(rt.alloc(), RANGES)?)?;
     let served = served(rt.alloc())?;
-    let most = rows_of(&table, &[3, 64, 65, 67, 192]);
-    for (rows, policy, answer) in [
-        (
-            &rows_of(&table, &[]),
-            Policy::FirstComeFirstServed,
-            Ok(Given::Value(64)),
-        ),
-        (&most, Policy::FirstComeFirstServed, Ok(Given::Value(66))),
-        (&most, Policy::ExpertReview, Ok(Given::Value(193))),
-        (&most, Policy::PrivateUse, Err(Refusal::Policy)),
-        (&most, Policy::RfcRequired, Err(Refusal::Policy)),
-        (
-            &rows_of(&table, served.as_slice()),
-            Policy::FirstComeFirstServed,
-            Err(Refusal::Exhausted),
-        ),
-    ] {
-        expect_least(&rt, rows, policy, answer)?;
+    let none = rows_of(&table, &[]);
+    let some = rows_of(&table, &[3, 64, 65, 67, 192]);
+    let full = rows_of(&table, served.as_slice());
+    let first = Policy::FirstComeFirstServed;
+    expect_least(&rt, &none, first, Ok(Given::Value(64)))?;
+    expect_least(&rt, &some, first, Ok(Given::Value(66)))?;
+    expect_least(&rt, &full, first, Err(Refusal::Exhausted))?;
+    expect_least(&rt, &some, Policy::ExpertReview, Ok(Given::Value(193)))?;
+    for policy in [Policy::PrivateUse, Policy::RfcRequired] {
+        expect_least(&rt, &some, policy, Err(Refusal::Policy))?;
     }
     Ok(())
 }
@@ -186,30 +187,17 @@ fn permanence_ask(rt: &(impl Abort + AllocGlobal)) -> Result<Ask, Fail> {
     }))
 }
 
-// What is given of an entry that stands, to another account and to its own.
-fn expect_standing(
-    rt: &impl Abort,
-    ask: &Ask,
-    rows: &Ground<'_>,
-    [ana, bob]: [Result<Given, Refusal>; 2],
-) {
-    expect_answer(rt, "ana", ask, rows, ana);
-    expect_answer(rt, "bob", ask, rows, bob);
-}
-
 #[test]
 fn entry_that_stands(rt: HostRuntime) -> Result<(), Fail> {
     let table = RangeTable::make(255, read_ranges(rt.alloc(), RANGES)?)?;
     let entry = early_entry(&rt)?;
-    let rows = Ground::Code {
-        table: Some(&table),
-        entry: Some(&entry),
-        taken: &[64],
-    };
-    let taken = [Err(Refusal::Taken), Err(Refusal::Taken)];
-    expect_standing(&rt, &code_ask(&rt, Want::Value(64))?, &rows, taken);
-    let kept = [Err(Refusal::Entry), Ok(Given::Value(64))];
-    expect_standing(&rt, &permanence_ask(&rt)?, &rows, kept);
+    let rows = rows_beside(&table, Some(&entry), &[64]);
+    let value = code_ask(&rt, Want::Value(64))?;
+    expect_answer(&rt, "ana", &value, &rows, Err(Refusal::Taken));
+    expect_answer(&rt, "bob", &value, &rows, Err(Refusal::Taken));
+    let permanence = permanence_ask(&rt)?;
+    expect_answer(&rt, "ana", &permanence, &rows, Err(Refusal::Entry));
+    expect_answer(&rt, "bob", &permanence, &rows, Ok(Given::Value(64)));
     Ok(())
 }
 
