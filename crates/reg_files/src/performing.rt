@@ -20,13 +20,22 @@ pub fn perform<R: Read, W: Write, E: Write>(
 ) -> u8
     ensures status { (result ≡ 0) ⊎ (result ≡ 1) }
 {
-    let mut console = Console {
+    let mut console = unwatched(input, output, errors);
+    perform_at(rt, job, &mut console)
+}
+
+// A console by which nobody sits.
+fn unwatched<'a, R: Read, W: Write, E: Write>(
+    input: &'a mut R,
+    output: &'a mut W,
+    errors: &'a mut E,
+) -> Console<'a, R, W, E> {
+    Console {
         input,
         output,
         errors,
         is_watched: false,
-    };
-    perform_at(rt, job, &mut console)
+    }
 }
 
 /// Does a job at a console, and gives the exit status as `perform` does.

@@ -6,7 +6,7 @@ use reg_sql::open::OpenFault;
 use reg_testing::facts::ensure;
 use reg_testing::folders::folder_for;
 use reg_wire::script::run;
-use sqlite::{FileFrom, FileStore, Unknown};
+use sqlite::{Alter, FileFrom, FileStore, Unknown};
 use std::alloc::Global;
 use std::fs;
 use std::test::Fail;
@@ -56,10 +56,16 @@ fn ask<K: Keeper + Drop>(alloc: Global, keeper: K, line: &[u8], wanted: &[u8]) -
     Ok(keeper)
 }
 
-// A pool without prefixes gets one.
-fn ask_in_turn<K: Keeper + Drop>(alloc: Global, keeper: K) -> Result<K, Fail> {
+// A pool without prefixes gets one. This and `look_again` are over any store, since what is over a
+// known one unfolds all that it holds.
+fn ask_in_turn<S: Alter + Drop>(alloc: Global, keeper: SqlKeeper<S>) -> Result<SqlKeeper<S>, Fail> {
     let keeper = ask(alloc, keeper, LOOK, SEEN_BEFORE)?;
     let keeper = ask(alloc, keeper, CHANGE, CHANGED)?;
+    look_again(alloc, keeper)
+}
+
+// The pool has the prefix.
+fn look_again<S: Alter + Drop>(alloc: Global, keeper: SqlKeeper<S>) -> Result<SqlKeeper<S>, Fail> {
     ask(alloc, keeper, LOOK, SEEN)
 }
 
@@ -103,6 +109,6 @@ fn office_at_a_path(rt: HostRuntime) -> Result<(), Fail> {
     assert_not_ours(&rt, path.as_str())?;
     drop(keeper);
     let keeper = opened(&rt, path.as_str(), false)?;
-    drop(ask(rt.alloc(), keeper, LOOK, SEEN)?);
+    drop(look_again(rt.alloc(), keeper)?);
     Ok(fs::remove_dir_all(&rt, folder.as_str())?)
 }

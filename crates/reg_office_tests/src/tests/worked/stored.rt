@@ -6,15 +6,14 @@ ghost use Rattle.reg_core.specs.World.{pending};
 use crate::tests::worked::exercise::{CLERK, Exercise, over_both};
 use crate::tests::worked::rows::ROWS;
 use crate::tests::worked::scripts::{answers_of, assert_answers, part_of};
-use reg_core::ask::Ask;
+use reg_core::ask::{Ask, CodeAsk, Want};
 use reg_core::change::Change;
-use reg_core::command::{ApplicantCommand, Command};
-use reg_core::text::{Account, Ref};
+use reg_core::text::{Account, Name, Ref, Text};
 use reg_keeper::keeper::{Fault, Keeper};
 use reg_office::Office;
+use reg_ranges::evidence::Evidence;
 use reg_ranges::formed::Formed;
 use reg_testing::transcript::{answered, sent};
-use reg_wire::command::read_command;
 use std::alloc::Global;
 use std::test::Fail;
 
@@ -35,9 +34,6 @@ const STORED: &str = r#"
 < 404 {"error":"request"}
 "#;
 
-const ASK: &[u8] =
-    b"{\"contact\":\"c\",\"kind\":\"code\",\"label\":\"L\",\"registry\":\"flag\",\"value\":5}";
-
 /// Lines of an office, two requests that are put into it, and lines then.
 #[derive(Drop)]
 struct Stored<'a> {
@@ -51,22 +47,41 @@ impl Exercise for Stored<'_> {
         office.found(CLERK)?;
         answers_of(alloc, &mut office, self.first)?;
         let mut keeper = office.into_keeper();
-        put(alloc, &mut keeper, b"alice", b"/requests/a-1")?;
-        put(alloc, &mut keeper, b"bob", b"/requests/r-9")?;
+        put(alloc, &mut keeper, b"alice", b"a-1")?;
+        put(alloc, &mut keeper, b"bob", b"r-9")?;
         let mut office = Office::new(alloc, keeper);
         answers_of(alloc, &mut office, self.last)
     }
 }
 
-// Puts the request that an account makes at this path.
-fn put<K: Keeper>(alloc: Global, keeper: &mut K, account: &[u8], path: &[u8]) -> Result<(), Fail> {
+// Puts a request of an account for the value 5 of `flag`.
+fn put<K: Keeper>(
+    alloc: Global,
+    keeper: &mut K,
+    account: &[u8],
+    reference: &[u8],
+) -> Result<(), Fail> {
     let account = Account::read(account).ok_or("an account")?;
-    match read_command(alloc, b"PUT", path, ASK) {
-        Ok(Command::Applicant(ApplicantCommand::Submit(reference, ask))) => {
-            Ok(submit(keeper, account, reference, ask)?)
-        }
-        _ => Err("a submission".into()),
-    }
+    let reference = Ref::read(reference).ok_or("a reference")?;
+    Ok(submit(keeper, account, reference, ask(alloc)?)?)
+}
+
+fn ask(alloc: Global) -> Result<Ask, Fail> {
+    Ok(Ask::Code(CodeAsk {
+        registry: Name::read(b"flag").ok_or("a name")?,
+        want: Want::Value(5),
+        label: text(alloc, b"L")?,
+        evidence: Evidence {
+            contact: Some(text(alloc, b"c")?),
+            spec: None,
+            rfc: None,
+            minute: None,
+        },
+    }))
+}
+
+fn text(alloc: Global, letters: &[u8]) -> Result<Text, Fail> {
+    Ok(Text::read(alloc, letters)?.ok_or("a text")?)
 }
 
 // Adds a pending request, if there is none under its reference.
