@@ -7,7 +7,7 @@ use std::{env, fs, process};
 pub fn folder_for(rt: &HostRuntime, name: &str) -> Result<String, Fail> {
     let mut path: PathBuf = env::temp_dir(rt)?;
     let id = process::id(rt.process());
-    let file = format!(in rt.alloc(); "reg_publish_{id}_{name}")?;
+    let file = format!(in rt.alloc(); "reg_{id}_{name}")?;
     path.push(file.as_str())?;
     let text = path.as_path().to_str().ok_or("no text")?;
     let folder = String::from_str(rt.alloc(), text)?;

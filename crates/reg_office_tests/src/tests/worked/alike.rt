@@ -1,10 +1,10 @@
 //! Requests that a fixed sequence of numbers draws, and asks in a wide registry, are answered alike by
 //! scripts and over HTTP, over lists and over tables in memory.
-use crate::tests::worked::exercise::over_both;
+use crate::tests::worked::exercise::{assert_answers, assert_over_both, over_both};
 use crate::tests::worked::generated::requests;
 use crate::tests::worked::http::Requests;
 use crate::tests::worked::rows::ROWS;
-use crate::tests::worked::scripts::{Scripts, assert_answers, part_of};
+use crate::tests::worked::scripts::{Scripts, part_of};
 use crate::tests::worked::wide::wide;
 use reg_testing::facts::ensure;
 use reg_testing::transcript::sent;
@@ -29,7 +29,5 @@ fn by_scripts_and_over_http(rt: HostRuntime) -> Result<(), Fail> {
     ensure(!wanted.contains("{\"error\":\"storage\"}"), "no storage")?;
     ensure(wanted.lines().count() == lines.lines().count(), "answers")?;
     assert_answers(lines, tables.as_str(), wanted)?;
-    let (lists, tables) = over_both(rt.alloc(), &Requests { lines })?;
-    assert_answers(lines, lists.as_str(), wanted)?;
-    assert_answers(lines, tables.as_str(), wanted)
+    assert_over_both(rt.alloc(), &Requests { lines }, lines, wanted)
 }

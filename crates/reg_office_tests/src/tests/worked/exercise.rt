@@ -2,6 +2,7 @@
 use reg_keeper::keeper::Keeper;
 use reg_sql::keeper::SqlKeeper;
 use reg_store::lists::ListKeeper;
+use reg_testing::facts::ensure;
 use std::alloc::Global;
 use std::test::Fail;
 
@@ -23,4 +24,26 @@ pub fn over_both<E: Exercise>(alloc: Global, exercise: &E) -> Result<(String, St
     let tables = exercise.answers(alloc, keeper)?;
     let lists = exercise.answers(alloc, ListKeeper::new(alloc))?;
     Ok((lists, tables))
+}
+
+/// These lines are answered so, over lists and over tables in memory.
+pub fn assert_over_both<E: Exercise>(
+    alloc: Global,
+    exercise: &E,
+    lines: &str,
+    wanted: &str,
+) -> Result<(), Fail> {
+    let (lists, tables) = over_both(alloc, exercise)?;
+    assert_answers(lines, lists.as_str(), wanted)?;
+    assert_answers(lines, tables.as_str(), wanted)
+}
+
+/// Each of these lines is answered so.
+pub fn assert_answers(lines: &str, answers: &str, wanted: &str) -> Result<(), Fail> {
+    let mut wanted = wanted.lines();
+    let mut answers = answers.lines();
+    for line in lines.lines() {
+        ensure(answers.next() == wanted.next(), line)?;
+    }
+    ensure(answers.next().is_none(), "no answer more")
 }

@@ -1,9 +1,8 @@
 //! The lines as requests over HTTP, at their moments.
 use crate::tests::worked::after::AFTER;
-use crate::tests::worked::exercise::{CLERK, Exercise, over_both};
+use crate::tests::worked::exercise::{CLERK, Exercise, assert_over_both};
 use crate::tests::worked::messages::{Line, line_of};
 use crate::tests::worked::rows::ROWS;
-use crate::tests::worked::scripts::assert_answers;
 use reg_keeper::keeper::Keeper;
 use reg_office::Office;
 use reg_testing::facts::ensure;
@@ -69,9 +68,7 @@ fn assert_texts(alloc: Global, texts: &[&str]) -> Result<(), Fail> {
     let wanted = answered(alloc, texts)?;
     let wanted = wanted.as_str().replace(alloc, NO_LINE_ANSWER, "")?;
     let lines = lines.as_str();
-    let (lists, tables) = over_both(alloc, &Requests { lines })?;
-    assert_answers(lines, lists.as_str(), wanted.as_str())?;
-    assert_answers(lines, tables.as_str(), wanted.as_str())
+    assert_over_both(alloc, &Requests { lines }, lines, wanted.as_str())
 }
 
 #[test]

@@ -1,6 +1,6 @@
 //! The lines as scripts.
 use crate::tests::worked::after::AFTER;
-use crate::tests::worked::exercise::{CLERK, Exercise, over_both};
+use crate::tests::worked::exercise::{CLERK, Exercise, assert_over_both};
 use crate::tests::worked::floods::FLOODS;
 use crate::tests::worked::rows::ROWS;
 use reg_keeper::keeper::Keeper;
@@ -41,24 +41,12 @@ pub fn answers_of<K: Keeper>(
     Ok(String::from_str(alloc, str::from_utf8(answers.as_slice())?)?)
 }
 
-/// Each of these lines is answered so.
-pub fn assert_answers(lines: &str, answers: &str, wanted: &str) -> Result<(), Fail> {
-    let mut wanted = wanted.lines();
-    let mut answers = answers.lines();
-    for line in lines.lines() {
-        ensure(answers.next() == wanted.next(), line)?;
-    }
-    ensure(answers.next().is_none(), "no answer more")
-}
-
 // The lines of these texts are answered as the texts say.
 fn assert_texts(alloc: Global, texts: &[&str]) -> Result<(), Fail> {
     let lines = sent(alloc, texts)?;
     let wanted = answered(alloc, texts)?;
     let lines = lines.as_str();
-    let (lists, tables) = over_both(alloc, &Scripts { lines })?;
-    assert_answers(lines, lists.as_str(), wanted.as_str())?;
-    assert_answers(lines, tables.as_str(), wanted.as_str())
+    assert_over_both(alloc, &Scripts { lines }, lines, wanted.as_str())
 }
 
 #[test]

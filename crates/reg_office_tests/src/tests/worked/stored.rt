@@ -3,9 +3,9 @@ ghost use Rattle.std.specs.Prelude.{◌≡◌, true};
 ghost use Rattle.reg_core.specs.WellKept.{has_request_form};
 ghost use Rattle.reg_core.specs.World.{pending};
 
-use crate::tests::worked::exercise::{CLERK, Exercise, over_both};
+use crate::tests::worked::exercise::{CLERK, Exercise, assert_over_both};
 use crate::tests::worked::rows::ROWS;
-use crate::tests::worked::scripts::{answers_of, assert_answers, part_of};
+use crate::tests::worked::scripts::{answers_of, part_of};
 use reg_core::ask::{Ask, CodeAsk, Want};
 use reg_core::change::Change;
 use reg_core::text::{Account, Name, Ref, Text};
@@ -116,7 +116,5 @@ fn requests_beneath_commands(rt: HostRuntime) -> Result<(), Fail> {
         first: first.as_str(),
         last: lines.as_str(),
     };
-    let (lists, tables) = over_both(rt.alloc(), &stored)?;
-    assert_answers(lines.as_str(), lists.as_str(), wanted.as_str())?;
-    assert_answers(lines.as_str(), tables.as_str(), wanted.as_str())
+    assert_over_both(rt.alloc(), &stored, lines.as_str(), wanted.as_str())
 }
