@@ -137,7 +137,11 @@ def is_of_now(case, file, given, wanted):
 
 
 def is_warned(case, file, given, wanted):
-    line = f'warning: others may read {file}: chmod 600 it, and its -wal\n'.encode()
-    for mode, errors in (0o640, line), (0o604, line), (0o600, b''):
+    office = f'warning: others may read {file}: chmod 600 it, and its -wal\n'.encode()
+    log = f'warning: others may read {file}-wal: chmod 600 it\n'.encode()
+    for mode, of_log, errors in ((0o640, 0o600, office), (0o604, 0o600, office), (0o600, 0o640, log), (0o600, 0o604, log), (0o644, 0o644, office + log),
+                                 (0o600, 0o600, b'')):
         case.path(file).chmod(mode)
-        wants(exchange(case, file, b'')[1], errors, f'what is said of a file of mode {mode:o}')
+        case.path(f'{file}-wal').touch()
+        case.path(f'{file}-wal').chmod(of_log)
+        wants(exchange(case, file, b'')[1], errors, f'what is said of a file of mode {mode:o} whose log has mode {of_log:o}')

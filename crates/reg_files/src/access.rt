@@ -2,8 +2,9 @@
 ghost use Rattle.std.specs.Prelude.{◌≢◌, ◌↔◌, IsTrue, OnOk, bit_and};
 ghost use Rattle.std.specs.Fs.{metadata_mode};
 ghost use Rattle.std.specs.Io.KnownBytes.{Appends};
-ghost use Rattle.reg_files.specs.Access.{reader_warning};
+ghost use Rattle.reg_files.specs.Access.{log_reader_warning, reader_warning};
 
+use std::alloc::Global;
 use std::fs::{Metadata, OpenOptions, Permissions};
 use std::io::Write;
 use std::os::unix::fs::{OpenOptionsExt, PermissionsExt};
@@ -42,14 +43,22 @@ pub fn make_private<H: Files>(rt: &H, path: &str) -> io::Result<()> {
     }
 }
 
-/// Warns in one line of a file at a path that others than its owner may read.
-pub fn warn_of_readers<H: Files, E: Write>(rt: &H, path: &str, errors: &mut E) {
-    let Ok(found) = fs::metadata(rt, path) else {
-        return;
-    };
-    if is_read_by_others(&found) {
+/// Warns in one line of a file at a path that others than its owner may read, and in one of its log.
+pub fn warn_of_readers<H: Files, E: Write>(alloc: Global, rt: &H, path: &str, errors: &mut E) {
+    if have_readers(rt, path) {
         let _ = warn(path, errors);
     }
+    let Ok(log) = format!(in alloc; "{path}-wal") else {
+        return;
+    };
+    if have_readers(rt, log.as_str()) {
+        let _ = warn_of_log(path, errors);
+    }
+}
+
+// Whether there is a file at a path that others than its owner may read.
+fn have_readers<H: Files>(rt: &H, path: &str) -> bool {
+    fs::metadata(rt, path).is_ok_and(|found| is_read_by_others(&found))
 }
 
 // Whether others than the owner of a file may read it.
@@ -68,4 +77,12 @@ fn warn<E: Write>(path: &str, errors: &mut E) -> io::Result<()>
         errors,
         "warning: others may read {path}: chmod 600 it, and its -wal"
     )
+}
+
+// Warns of the log of a file at a path.
+fn warn_of_log<E: Write>(path: &str, errors: &mut E) -> io::Result<()>
+    ensures { OnOk result
+        (Appends (E.contents errors.old) (E.contents errors.new) (log_reader_warning path.now)) }
+{
+    writeln!(errors, "warning: others may read {path}-wal: chmod 600 it")
 }

@@ -132,7 +132,7 @@ impl<S: Alter + Drop> Stores for OneOffice<S> {
     }
 
     fn warn_of_readers<E: Write>(&self, rt: &HostRuntime, path: &str, errors: &mut E) {
-        warn_of_readers(rt, path, errors);
+        warn_of_readers(rt.alloc(), rt, path, errors);
     }
 
     fn close(&mut self, keeper: SqlKeeper<S>) {
