@@ -1,6 +1,7 @@
 """Steps in which an office is served, or a peer answers."""
 import contextlib
 import datetime
+import json
 import re
 import socket
 import subprocess
@@ -8,7 +9,7 @@ import time
 from concurrent.futures import ThreadPoolExecutor
 
 from lib import office
-from lib.office import CLERK, Served
+from lib.office import ALICE, CLERK, Served
 from steps.case import Differs, wants
 from steps.jobs import is_done, is_undone
 
@@ -134,6 +135,29 @@ def is_of_now(case, file, given, wanted):
     for name, status in (('past', b'401'), ('next', b'200')):
         answer, errors = exchange(case, file, f'GET /requests HTTP/1.1\r\nAuthorization: Bearer {name}-token-000001\r\n\r\n'.encode())
         wants((answer[9:12], errors), (status, b''), f'{name}, over HTTP')
+
+
+def is_ending(case, file, given, wanted):
+    with serving(case, file, connections=3) as server:
+        end = int(time.time()) + 5
+        grant = json.dumps({'account': 'brief', 'kind': 'applicant', 'token': 'brief-token-00001', 'until': end})
+        wants(office.ask(server.port, 'PUT', '/desk/tokens', CLERK, grant)[0], 200, 'a token')
+        wants(office.ask(server.port, 'GET', '/requests', 'brief-token-00001')[0], 200, 'its use before its end')
+        time.sleep(max(0, end - time.time()) + 0.1)
+        wants(office.ask(server.port, 'GET', '/requests', 'brief-token-00001')[0], 401, 'its use after its end')
+
+
+def is_copied_with_log(case, file_and_folder, given, wanted):
+    file, _, folder = file_and_folder.partition(' ')
+    with serving(case, file, connections=1000) as server:
+        for number in range(250):
+            answer = office.ask(server.port, 'PUT', '/agents/zoe', ALICE, json.dumps({'reads': number % 2 == 0}))
+            wants(answer[0], 200, 'an agent')
+        bytes_of_log = case.path(f'{file}-wal').stat().st_size
+        wants(bytes_of_log > 2_000_000, True, f'a log of {bytes_of_log} bytes')
+        wants(office.ask(server.port, 'PUT', '/agents/yan', ALICE, '{"reads":true}')[0], 200, 'the last change')
+        is_done(case, f'copy {file} {folder}', b'', wanted)
+    is_done(case, f'request {folder}/{file} GET /agents --token {ALICE}', b'', b'["yan"]\n')
 
 
 def is_warned(case, file, given, wanted):
