@@ -1,20 +1,22 @@
 -- What a caller who is admitted is answered over the content.
-use Rattle.std.specs.Prelude.{ℕ, List, [], Option, Some, None}
-use Rattle.std.specs.FinMap.{contains_key}
+use Rattle.std.specs.Prelude.{ℕ, List, Option, Some, None}
+use Rattle.std.specs.FinMap.{contains_key, get}
 use Rattle.reg_maps.specs.Maps.{only_if}
 use Rattle.reg_core.specs.Allowance.{◌>>=◌, or_refusal}
-use Rattle.reg_core.specs.Answer.{Answer, own_answer, expert_answer, unchanged}
+use Rattle.reg_core.specs.Answer.{Answer, by_rule, own_answer, expert_answer, unchanged}
 use Rattle.reg_core.specs.Request.{request_row, request_rows}
+use Rattle.reg_core.specs.Rules.{grant_rule}
 use Rattle.reg_core.specs.Step.{clerk_answer}
 use Rattle.reg_core.specs.View.{Personal, published, personal, requests_of}
 use Rattle.reg_core.specs.World.{World, RequestName, pending}
 use Rattle.reg_core.specs.declared.ask.Ask.{Ask}
+use Rattle.reg_core.specs.declared.capability.Cap.{Cap}
 use Rattle.reg_core.specs.declared.command.ApplicantCommand.{ApplicantCommand}
 use Rattle.reg_core.specs.declared.command.ApplicantCommand.TheVariants.{Own, OwnOne, Submit, Withdraw, Holdings, SetListing, SetAgent, Agents, Principals, PrincipalRows}
 use Rattle.reg_core.specs.declared.command.ClerkCommand.{ClerkCommand}
 use Rattle.reg_core.specs.declared.command.ExpertCommand.{ExpertCommand}
 use Rattle.reg_core.specs.declared.told.Told.{Told}
-use Rattle.reg_core.specs.declared.told.Told.TheVariants.{Made, Row, Rows}
+use Rattle.reg_core.specs.declared.told.Told.TheVariants.{Granted, Made, Row, Rows}
 use Rattle.reg_core.specs.declared.refusal.Refusal.TheVariants as no
 use Rattle.reg_core.specs.declared.request.Request.{Request}
 use Rattle.reg_commands.specs.Caller.{token_digest}
@@ -70,6 +72,8 @@ abbrev pub answer_to_clerk : Caller → ClerkCommand → World → Answer
 answer_to_clerk clerk command w =
     clerk_answer token_digest w clerk.digest clerk.moment clerk.day command
 
--- where neither the token in use nor the time makes a difference
-abbrev pub answer_at_desk : ClerkCommand → World → Answer
-answer_at_desk command w = clerk_answer token_digest w [] 0 0 command
+-- a token is given a capability, by whomever
+abbrev pub answer_to_grant : List ℕ → Cap → World → Answer
+answer_to_grant token cap w =
+    let digest = token_digest token in
+    by_rule (grant_rule (get w.caps digest) digest cap) (λ decision. Granted cap)

@@ -29,7 +29,7 @@ pub fn set_agent<K: Keeper>(
     account.formed();
     agent.formed();
     let decision = decide_agent(account, agent, reads, there)?;
-    Ok(conclude(keeper, Ok(Told::Agent(*agent, reads)), decision)?)
+    Ok(conclude(keeper, caller, Ok(Told::Agent(*agent, reads)), decision)?)
 }
 
 /// The applicant's agents.

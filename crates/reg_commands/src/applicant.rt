@@ -89,7 +89,7 @@ fn submit<K: Keeper>(
     request_formed(account, reference, ask);
     let decision = submission(keeper, existing.as_ref(), account, reference, ask)?;
     let told = told_of(existing, account, reference, ask);
-    Ok(conclude(keeper, told, decision)?)
+    Ok(conclude(keeper, caller, told, decision)?)
 }
 
 // What is decided of a request that is asked for, where this one is there already, or none. No
@@ -134,7 +134,7 @@ fn withdraw<K: Keeper>(keeper: &mut K, caller: &Caller, reference: &Ref) -> Resu
     let account = &caller.capability.account;
     let request = keeper.own_one(account, reference)?.ok_or(Refusal::Request)?;
     let decision = decide_withdraw(&request)?;
-    Ok(Told::Row(conclude_on(keeper, request, decision)?))
+    Ok(Told::Row(conclude_on(keeper, caller, request, decision)?))
 }
 
 fn pending(account: &Account, reference: &Ref, ask: &Ask) -> Result<Request, AllocError>

@@ -4,11 +4,11 @@ ghost use Rattle.std.specs.Result.{result_map_both};
 ghost use Rattle.reg_core.specs.CapRows.{begins_with, is_of};
 ghost use Rattle.reg_core.specs.declared.command.ClerkCommand.TheVariants as command;
 ghost use Rattle.reg_core.specs.declared.told.Told.TheVariants.{Granted};
-ghost use Rattle.reg_commands.specs.Answers.{answer_to_clerk, answer_at_desk};
+ghost use Rattle.reg_commands.specs.Answers.{answer_to_clerk, answer_to_grant};
 ghost use Rattle.reg_commands.specs.Performs.{Performs};
 
 use crate::admission::Caller;
-use crate::carrying::conclude;
+use crate::carrying::{carry_out, conclude};
 use crate::decisions::{decide_grant, decide_revoke, decide_revoke_account, decide_revoke_digits};
 use crate::digest::digest_of;
 use crate::stop::Stop;
@@ -22,8 +22,8 @@ use std::alloc::Global;
 
 /// All capabilities.
 pub fn list_all<K: Keeper>(keeper: &mut K) -> Result<Told, Stop>
-    ensures { Performs K.world K.Holds K.Sound K.FAILS keeper.old keeper.new result
-        (answer_at_desk command.AllCapabilities) }
+    ensures { (clerk : Caller) → Performs K.world K.Holds K.Sound K.FAILS
+        keeper.old keeper.new result (answer_to_clerk clerk command.AllCapabilities) }
 {
     let mut rows = keeper.caps()?.into_vec();
     rows.sort_by_key(|row| (row.cap.account, row.digest))?;
@@ -31,24 +31,35 @@ pub fn list_all<K: Keeper>(keeper: &mut K) -> Result<Told, Stop>
 }
 
 /// Gives a token a capability.
-pub fn tell_grant<K: Keeper>(keeper: &mut K, token: &Token, cap: &Cap) -> Result<Told, Stop>
+pub fn tell_grant<K: Keeper>(
+    keeper: &mut K,
+    caller: &Caller,
+    token: &Token,
+    cap: &Cap,
+) -> Result<Told, Stop>
     ensures { Performs K.world K.Holds K.Sound K.FAILS keeper.old keeper.new result
-        (answer_at_desk (command.Grant token.now cap.now)) }
+        (answer_to_clerk caller.now (command.Grant token.now cap.now)) }
 {
-    Ok(Told::Granted(grant(keeper, token, cap)?))
+    Ok(Told::Granted(grant(keeper, Some(caller), token, cap)?))
 }
 
-/// Gives a token a capability, and gives what is told of it.
-pub fn grant<K: Keeper>(keeper: &mut K, token: &Token, cap: &Cap) -> Result<Cap, Stop>
+/// Gives a token a capability, and gives what is told of it. Founding an office has no caller.
+pub fn grant<K: Keeper>(
+    keeper: &mut K,
+    caller: Option<&Caller>,
+    token: &Token,
+    cap: &Cap,
+) -> Result<Cap, Stop>
     ensures { Performs K.world K.Holds K.Sound K.FAILS keeper.old keeper.new
         (result_map_both Granted (λ stop. stop) result)
-        (answer_at_desk (command.Grant token.now cap.now)) }
+        (answer_to_grant token.now cap.now) }
 {
     let digest = digest_of(token.as_str().as_bytes());
     let existing = keeper.cap(&digest)?;
     let decision = decide_grant(existing.as_ref(), &digest, cap)?;
     cap.formed();
-    Ok(conclude(keeper, Ok(*cap), decision)?)
+    carry_out(keeper, caller, decision)?;
+    Ok(*cap)
 }
 
 /// Takes a token's capability away, unless it is the caller's own token.
@@ -59,7 +70,7 @@ pub fn revoke<K: Keeper>(keeper: &mut K, caller: &Caller, token: &Token) -> Resu
     let digest = digest_of(token.as_str().as_bytes());
     let existing = keeper.cap(&digest)?;
     let decision = decide_revoke(&caller.digest, existing.as_ref(), &digest)?;
-    Ok(conclude(keeper, Ok(Told::Revoked), decision)?)
+    Ok(conclude(keeper, caller, Ok(Told::Revoked), decision)?)
 }
 
 /// Takes the capability away of the one token whose digest begins with these digits.
@@ -74,7 +85,7 @@ pub fn revoke_digits<K: Keeper>(
     let rows = beginning_with(keeper.caps()?.into_vec(), digits);
     let decision = decide_revoke_digits(&caller.digest, rows.as_slice())?;
     let told = Told::Capabilities(Rows::from_vec(rows));
-    Ok(conclude(keeper, Ok(told), decision)?)
+    Ok(conclude(keeper, caller, Ok(told), decision)?)
 }
 
 /// Takes all capabilities of an account away.
@@ -90,7 +101,7 @@ pub fn revoke_account<K: Keeper>(
     let rows = those_of(keeper.caps()?.into_vec(), account);
     let decision = decide_revoke_account(alloc, &caller.digest, rows.as_slice())?;
     let told = Told::Capabilities(Rows::from_vec(rows));
-    Ok(conclude(keeper, Ok(told), decision)?)
+    Ok(conclude(keeper, caller, Ok(told), decision)?)
 }
 
 // Those of the capabilities at digests that begin with these digits.

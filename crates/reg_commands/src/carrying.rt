@@ -7,14 +7,20 @@ ghost use Rattle.reg_core.specs.declared.decide.Decision.TheVariants.{Same};
 ghost use Rattle.reg_keeper.specs.Keeper.{Makes};
 ghost use Rattle.reg_commands.specs.Decisions.{CanMake, row_by};
 
+use crate::admission::Caller;
 use reg_core::change::Change;
 use reg_core::decide::Decision;
 use reg_core::request::{Request, State};
 use reg_keeper::keeper::{Fault, Keeper};
 use std::alloc::AllocError;
 
-/// Makes a change that fits every well kept world with the rows that it was decided over.
-pub fn make<K: Keeper>(keeper: &mut K, change: Change) -> Result<(), Fault>
+/// Makes a change that fits every well kept world with the rows that it was decided over. All changes
+/// are made here, each with its caller at hand; the jobs that need no token have none.
+pub fn make<K: Keeper>(
+    keeper: &mut K,
+    _caller: Option<&Caller>,
+    change: Change,
+) -> Result<(), Fault>
     requires { K.Holds keeper.old →
         WellKept (K.world keeper.old) → CanApply (K.world keeper.old) change }
     ensures { Makes K.world K.Holds K.Sound K.FAILS keeper.old keeper.new result
@@ -24,7 +30,11 @@ pub fn make<K: Keeper>(keeper: &mut K, change: Change) -> Result<(), Fault>
 }
 
 // Makes the change of a decision, if there is one; where there is none, the keeper is not asked.
-fn carry_out<K: Keeper>(keeper: &mut K, decision: Decision) -> Result<(), Fault>
+pub(crate) fn carry_out<K: Keeper>(
+    keeper: &mut K,
+    caller: Option<&Caller>,
+    decision: Decision,
+) -> Result<(), Fault>
     requires { K.Holds keeper.old →
         WellKept (K.world keeper.old) → CanMake (K.world keeper.old) decision }
     ensures change { Makes K.world K.Holds K.Sound K.FAILS keeper.old keeper.new result
@@ -32,7 +42,7 @@ fn carry_out<K: Keeper>(keeper: &mut K, decision: Decision) -> Result<(), Fault>
     ensures same { decision ≡ Same → result ≡ Ok tt }
 {
     match decision {
-        Decision::Make(change) => make(keeper, change),
+        Decision::Make(change) => make(keeper, caller, change),
         Decision::Same => Ok(()),
     }
 }
@@ -41,6 +51,7 @@ fn carry_out<K: Keeper>(keeper: &mut K, decision: Decision) -> Result<(), Fault>
 /// that. A decision to leave all as it is needs no memory.
 pub fn conclude<K: Keeper, T: Drop>(
     keeper: &mut K,
+    caller: &Caller,
     told: Result<T, AllocError>,
     decision: Decision,
 ) -> Result<T, Fault>
@@ -52,7 +63,7 @@ pub fn conclude<K: Keeper, T: Drop>(
     ensures same { OnOk told (decision ≡ Same → IsOk result) }
 {
     let told = told?;
-    carry_out(keeper, decision)?;
+    carry_out(keeper, Some(caller), decision)?;
     Ok(told)
 }
 
@@ -60,6 +71,7 @@ pub fn conclude<K: Keeper, T: Drop>(
 /// after that. A decision to leave all as it is needs no memory.
 pub fn conclude_on<K: Keeper>(
     keeper: &mut K,
+    caller: &Caller,
     request: Request,
     decision: Decision,
 ) -> Result<Request, Fault>
@@ -71,7 +83,7 @@ pub fn conclude_on<K: Keeper>(
     ensures same { decision ≡ Same → result ≡ Ok request }
 {
     let row = row_after(request, &decision);
-    conclude(keeper, row, decision)
+    conclude(keeper, caller, row, decision)
 }
 
 // A request as it is after a decision about it. Where the decision leaves all as it is, that needs no

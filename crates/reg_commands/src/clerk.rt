@@ -26,21 +26,21 @@ pub fn perform<K: Keeper>(
         ClerkCommand::PendingRequests => desk::list_pending(keeper),
         ClerkCommand::OneRequest(account, reference) => desk::show_one(keeper, account, reference),
         ClerkCommand::AssignExpert(account, reference, expert) => {
-            desk::assign(keeper, account, reference, expert)
+            desk::assign(keeper, caller, account, reference, expert)
         }
         ClerkCommand::Approve(account, reference) => {
             desk::approve(keeper, caller, account, reference)
         }
         ClerkCommand::Decline(account, reference, reason) => {
-            desk::decline(keeper, account, reference, reason)
+            desk::decline(keeper, caller, account, reference, reason)
         }
-        ClerkCommand::Define(name, table) => registers::define(keeper, name, table),
-        ClerkCommand::AddPool(prefix) => registers::add_pool(keeper, *prefix),
+        ClerkCommand::Define(name, table) => registers::define(keeper, caller, name, table),
+        ClerkCommand::AddPool(prefix) => registers::add_pool(keeper, caller, *prefix),
         ClerkCommand::SetHold(name, value, held) => {
             registers::set_hold(keeper, caller, name, *value, *held)
         }
         ClerkCommand::AllCapabilities => capabilities::list_all(keeper),
-        ClerkCommand::Grant(token, cap) => capabilities::tell_grant(keeper, token, cap),
+        ClerkCommand::Grant(token, cap) => capabilities::tell_grant(keeper, caller, token, cap),
         ClerkCommand::Revoke(token) => capabilities::revoke(keeper, caller, token),
         ClerkCommand::RevokeDigits(digits) => capabilities::revoke_digits(keeper, caller, digits),
         ClerkCommand::RevokeAccount(account) => {

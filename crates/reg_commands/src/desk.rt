@@ -3,7 +3,7 @@ ghost use Rattle.std.specs.Prelude.{◌≡◌};
 ghost use Rattle.reg_core.specs.Request.{is_pending as pending};
 ghost use Rattle.reg_core.specs.View.{published};
 ghost use Rattle.reg_core.specs.declared.command.ClerkCommand.TheVariants as command;
-ghost use Rattle.reg_commands.specs.Answers.{answer_to_clerk, answer_at_desk};
+ghost use Rattle.reg_commands.specs.Answers.{answer_to_clerk};
 ghost use Rattle.reg_commands.specs.Decisions.{approval_of};
 ghost use Rattle.reg_commands.specs.Performs.{LooksUp, Performs};
 
@@ -24,24 +24,25 @@ use reg_ranges::formed::Formed;
 
 /// All requests.
 pub fn list_all<K: Keeper>(keeper: &mut K) -> Result<Told, Stop>
-    ensures { Performs K.world K.Holds K.Sound K.FAILS keeper.old keeper.new result
-        (answer_at_desk command.AllRequests) }
+    ensures { (clerk : Caller) → Performs K.world K.Holds K.Sound K.FAILS
+        keeper.old keeper.new result (answer_to_clerk clerk command.AllRequests) }
 {
     Ok(Told::Desks(keeper.all()?))
 }
 
 /// The requests that wait, with their experts and all advice on them.
 pub fn list_pending<K: Keeper>(keeper: &mut K) -> Result<Told, Stop>
-    ensures { Performs K.world K.Holds K.Sound K.FAILS keeper.old keeper.new result
-        (answer_at_desk command.PendingRequests) }
+    ensures { (clerk : Caller) → Performs K.world K.Holds K.Sound K.FAILS
+        keeper.old keeper.new result (answer_to_clerk clerk command.PendingRequests) }
 {
     Ok(Told::Cases(keeper.pending()?))
 }
 
 /// A request, with its experts and all advice on it.
 pub fn show_one<K: Keeper>(keeper: &mut K, account: &Account, reference: &Ref) -> Result<Told, Stop>
-    ensures { Performs K.world K.Holds K.Sound K.FAILS keeper.old keeper.new result
-        (answer_at_desk (command.OneRequest account.now reference.now)) }
+    ensures { (clerk : Caller) → Performs K.world K.Holds K.Sound K.FAILS
+        keeper.old keeper.new result
+        (answer_to_clerk clerk (command.OneRequest account.now reference.now)) }
 {
     let file = keeper.file(account, reference)?.ok_or(Refusal::Request)?;
     Ok(Told::Filed(file))
@@ -50,17 +51,19 @@ pub fn show_one<K: Keeper>(keeper: &mut K, account: &Account, reference: &Ref) -
 /// Assigns a request to an expert.
 pub fn assign<K: Keeper>(
     keeper: &mut K,
+    caller: &Caller,
     account: &Account,
     reference: &Ref,
     expert: &Account,
 ) -> Result<Told, Stop>
     ensures { Performs K.world K.Holds K.Sound K.FAILS keeper.old keeper.new result
-        (answer_at_desk (command.AssignExpert account.now reference.now expert.now)) }
+        (answer_to_clerk caller.now
+        (command.AssignExpert account.now reference.now expert.now)) }
 {
     let file = keeper.file(account, reference)?.ok_or(Refusal::Request)?;
     expert.formed();
     let decision = decide_assign(&file.request, file.experts.as_slice(), expert)?;
-    Ok(Told::Desk(conclude_on(keeper, file.request, decision)?))
+    Ok(Told::Desk(conclude_on(keeper, caller, file.request, decision)?))
 }
 
 /// Approves a request on the caller's day, over its experts and all advice on it.
@@ -76,7 +79,7 @@ pub fn approve<K: Keeper>(
     let file = keeper.file(account, reference)?.ok_or(Refusal::Request)?;
     caller.day.formed();
     let decision = approval(keeper, &file, caller.day)?;
-    Ok(Told::Desk(conclude_on(keeper, file.request, decision)?))
+    Ok(Told::Desk(conclude_on(keeper, caller, file.request, decision)?))
 }
 
 // What is decided of an approval. No registry is looked at for a request that is not pending.
@@ -93,17 +96,19 @@ fn approval<K: Keeper>(keeper: &mut K, file: &CaseFile, today: Day) -> Result<De
 /// Declines a request, for a reason.
 pub fn decline<K: Keeper>(
     keeper: &mut K,
+    caller: &Caller,
     account: &Account,
     reference: &Ref,
     reason: &Text,
 ) -> Result<Told, Stop>
     ensures { Performs K.world K.Holds K.Sound K.FAILS keeper.old keeper.new result
-        (answer_at_desk (command.Decline account.now reference.now reason.now)) }
+        (answer_to_clerk caller.now
+        (command.Decline account.now reference.now reason.now)) }
 {
     let request = keeper.own_one(account, reference)?.ok_or(Refusal::Request)?;
     reason.formed();
     let decision = decide_decline(&request, reason)?;
-    Ok(Told::Desk(conclude_on(keeper, request, decision)?))
+    Ok(Told::Desk(conclude_on(keeper, caller, request, decision)?))
 }
 
 fn is_pending(state: &State) -> bool

@@ -64,7 +64,7 @@ fn advise<K: Keeper>(
     advice.formed();
     let decision = decide_advise(&row, expert, advice)?;
     let advised = with_advice(row, advice);
-    Ok(Told::Item(conclude(keeper, advised, decision)?))
+    Ok(Told::Item(conclude(keeper, caller, advised, decision)?))
 }
 
 // Whether the expert gave just this advice.

@@ -39,7 +39,7 @@ pub fn set_listing<K: Keeper>(
     let held = keeper.holding(account, block)?.ok_or(Refusal::Holding)?;
     let decision = decide_listing(&held, private);
     let row = marked(held, private);
-    Ok(Told::Held(conclude(keeper, Ok(row), decision)?))
+    Ok(Told::Held(conclude(keeper, caller, Ok(row), decision)?))
 }
 
 // A holding with this mark.

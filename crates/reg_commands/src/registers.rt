@@ -2,7 +2,7 @@
 //! prefixes.
 ghost use Rattle.std.specs.Prelude.{◌≡◌};
 ghost use Rattle.reg_core.specs.declared.command.ClerkCommand.TheVariants.{Define, AddPool, SetHold};
-ghost use Rattle.reg_commands.specs.Answers.{answer_at_desk, answer_to_clerk};
+ghost use Rattle.reg_commands.specs.Answers.{answer_to_clerk};
 ghost use Rattle.reg_commands.specs.Performs.{Performs};
 ghost use Rattle.reg_commands.specs.Rows.{held_row};
 
@@ -20,25 +20,30 @@ use reg_ranges::formed::Formed;
 use reg_ranges::table::RangeTable;
 
 /// Opens a registry.
-pub fn define<K: Keeper>(keeper: &mut K, name: &Name, table: &RangeTable) -> Result<Told, Stop>
+pub fn define<K: Keeper>(
+    keeper: &mut K,
+    caller: &Caller,
+    name: &Name,
+    table: &RangeTable,
+) -> Result<Told, Stop>
     ensures { Performs K.world K.Holds K.Sound K.FAILS keeper.old keeper.new result
-        (answer_at_desk (Define name.now table.now)) }
+        (answer_to_clerk caller.now (Define name.now table.now)) }
 {
     let existing = keeper.ranges(name)?;
     let decision = decide_define(existing.as_ref(), name, table)?;
     name.formed();
     table.formed();
-    Ok(Told::Defined(conclude(keeper, Ok(*name), decision)?))
+    Ok(Told::Defined(conclude(keeper, caller, Ok(*name), decision)?))
 }
 
 /// Adds a prefix to the pool.
-pub fn add_pool<K: Keeper>(keeper: &mut K, prefix: u32) -> Result<Told, Stop>
+pub fn add_pool<K: Keeper>(keeper: &mut K, caller: &Caller, prefix: u32) -> Result<Told, Stop>
     ensures { Performs K.world K.Holds K.Sound K.FAILS keeper.old keeper.new result
-        (answer_at_desk (AddPool prefix)) }
+        (answer_to_clerk caller.now (AddPool prefix)) }
 {
     let there = keeper.is_pooled(prefix)?;
     let decision = decide_pool(there, prefix)?;
-    Ok(conclude(keeper, Ok(Told::Pooled(prefix)), decision)?)
+    Ok(conclude(keeper, caller, Ok(Told::Pooled(prefix)), decision)?)
 }
 
 /// Says of an entry whether it is held, and tells how it stands then on the caller's day.
@@ -56,7 +61,7 @@ pub fn set_hold<K: Keeper>(
     let row = keeper.entry(name, value)?.ok_or(Refusal::Entry)?;
     let decision = decide_hold(&row, held, caller.day)?;
     let shown = show(marked(row, held), caller.day);
-    Ok(Told::Marked(conclude(keeper, Ok(shown), decision)?))
+    Ok(Told::Marked(conclude(keeper, caller, Ok(shown), decision)?))
 }
 
 // An entry with this mark.

@@ -4,20 +4,19 @@ use Rattle.reg_core.specs.Answer.{reply_of, change_of}
 use Rattle.reg_core.specs.Laws.{clerk_cap, is_refused}
 use Rattle.reg_core.specs.Names.{is_token}
 use Rattle.reg_core.specs.World.{World, applied_if}
-use Rattle.reg_core.specs.declared.command.ClerkCommand.TheVariants.{Grant}
 use Rattle.reg_keeper.specs.Keeper.{MayFault}
-use Rattle.reg_commands.specs.Answers.{answer_at_desk}
+use Rattle.reg_commands.specs.Answers.{answer_to_grant}
 use Rattle.reg_office.specs.declared.found.FoundFault.{FoundFault}
 use Rattle.reg_office.specs.declared.found.FoundFault.TheVariants.{Token, Exists, Fault}
 
 -- the first clerk's capability was granted as any other is
 pub record WasFounded (old new : World) (token : List ℕ) : Type 0 where
-  pub accepted : is_refused (reply_of (answer_at_desk (Grant token clerk_cap) old)) ≡ false
-  pub granted : new ≡ applied_if old (change_of (answer_at_desk (Grant token clerk_cap) old))
+  pub accepted : is_refused (reply_of (answer_to_grant token clerk_cap old)) ≡ false
+  pub granted : new ≡ applied_if old (change_of (answer_to_grant token clerk_cap old))
 
 abbrev pub IsCause : World → List ℕ → FoundFault → Type 0
 IsCause w token Token = is_token token ≡ false
-IsCause w token Exists = is_refused (reply_of (answer_at_desk (Grant token clerk_cap) w)) ≡ true
+IsCause w token Exists = is_refused (reply_of (answer_to_grant token clerk_cap w)) ≡ true
 IsCause w token (Fault fault) = Unit {0}
 
 abbrev pub MayFound : Bool → FoundFault → Type 0

@@ -34,7 +34,7 @@ pub fn found<K: Keeper>(keeper: &mut K, token: &[u8]) -> Result<(), FoundFault>
     ensures fault { IfErr result (MayFound K.FAILS) }
 {
     let token = Token::read(token).ok_or(FoundFault::Token)?;
-    match grant(keeper, &token, &clerk_cap()) {
+    match grant(keeper, None, &token, &clerk_cap()) {
         Ok(_) => Ok(()),
         Err(Stop::Refused(_)) => Err(FoundFault::Exists),
         Err(Stop::Fault(fault)) => Err(FoundFault::Fault(fault)),

@@ -101,7 +101,7 @@ pub fn revoke_chosen<K: Keeper>(
     let rows = keeper.caps()?;
     let chosen = chosen_at(alloc, rows.as_slice(), moment, choice)?;
     let digests = digests_of(alloc, chosen.as_slice())?;
-    make(keeper, Change::RevokeAll(Rows::from_vec(digests)))?;
+    make(keeper, None, Change::RevokeAll(Rows::from_vec(digests)))?;
     Ok(Rows::from_vec(chosen))
 }
 

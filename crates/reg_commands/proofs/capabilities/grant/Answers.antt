@@ -11,8 +11,8 @@ use Rattle.reg_commands.proofs.Decided.{can_make, follows}
 use Rattle.reg_commands.proofs.Rows.{selected_after}
 use Rattle.reg_commands.proofs.capabilities.grant.Goals as goal
 
-pub conclude-requires : goal.conclude-requires
-conclude-requires g c = λ h kept.
+pub carry_out-requires : goal.carry_out-requires
+carry_out-requires g c = λ h kept.
     let w = g.K.Keeper.world c.cap.new.self in
     let digest = c.digest_of-digest.result in
     let cap = c.args.cap.now in

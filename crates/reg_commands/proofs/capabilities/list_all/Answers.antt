@@ -11,7 +11,7 @@ returns g c =
     let rows = c.in_ok-caps.ensures in
     let sorted = c.in_ok-sort_by_key.ensures in
     let ordered = c.sort_by_key.new.self.items in
-    (record {
+    (λ clerk. record {
       told = λ h.
           let caps = (g.K.Keeper.world c.args.keeper.now).caps in
           let moved : IsPermutation (cap_rows caps) ordered =

@@ -14,7 +14,7 @@ use Rattle.reg_core.specs.declared.request.Case.{Case}
 use Rattle.reg_core.specs.declared.request.Request.{Request}
 use Rattle.reg_core.proofs.Files.{among_experts}
 use Rattle.reg_core.proofs.Fitting.{assign_fits}
-use Rattle.reg_commands.specs.Answers.{answer_at_desk}
+use Rattle.reg_commands.specs.Answers.{answer_to_clerk}
 use Rattle.reg_commands.proofs.Decided.{Decides, makes_found, performs_declined, performs_found}
 use Rattle.reg_commands.proofs.Rows.{IsFileOf, answer_about, file_is, selected_after, there}
 use Rattle.reg_commands.proofs.desk.assign.Given.{Over}
@@ -58,7 +58,7 @@ module _ (g : Over) (c : After-decide_assign g) where
 
   decides : Decides g.K.Keeper.world g.K.Keeper.Holds g.K.Keeper.Sound
       c.args.keeper.now c.file.new.self
-      (answer_at_desk (AssignExpert c.args.account.now c.args.reference.now c.args.expert.now))
+      (answer_to_clerk c.args.caller.now (AssignExpert c.args.account.now c.args.reference.now c.args.expert.now))
       rule (desk_by name (case_of row))
   decides = record {
     answered = λ h.

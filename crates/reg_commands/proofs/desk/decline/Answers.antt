@@ -6,7 +6,7 @@ use Rattle.reg_core.specs.declared.command.ClerkCommand.TheVariants.{Decline}
 use Rattle.reg_core.specs.declared.told.Told.TheVariants.{Desk}
 use Rattle.reg_core.specs.declared.request.Request.{Request}
 use Rattle.reg_core.proofs.Fitting.{decline_fits}
-use Rattle.reg_commands.specs.Answers.{answer_at_desk}
+use Rattle.reg_commands.specs.Answers.{answer_to_clerk}
 use Rattle.reg_commands.proofs.Decided.{Decides, makes_fitting, performs_denied, performs_decided}
 use Rattle.reg_commands.proofs.Requests.{decides_about}
 use Rattle.reg_commands.proofs.desk.decline.Given.{Over}
@@ -19,7 +19,7 @@ module _ (g : Over) (c : After-decide_decline g) where
 
   decides : Decides g.K.Keeper.world g.K.Keeper.Holds g.K.Keeper.Sound
       c.args.keeper.now c.own_one.new.self
-      (answer_at_desk (Decline c.args.account.now c.args.reference.now c.args.reason.now))
+      (answer_to_clerk c.args.caller.now (Decline c.args.account.now c.args.reference.now c.args.reason.now))
       (decline_rule (row.account, row.reference) c.args.reason.now row.state)
       (desk_by (row.account, row.reference) (case_of row))
   decides =

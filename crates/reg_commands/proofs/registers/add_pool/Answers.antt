@@ -6,7 +6,7 @@ use Rattle.reg_core.specs.World.{World}
 use Rattle.reg_core.specs.declared.command.ClerkCommand.TheVariants.{AddPool}
 use Rattle.reg_core.specs.declared.told.Told.TheVariants.{Pooled}
 use Rattle.reg_core.proofs.Fitting.{pool_fits}
-use Rattle.reg_commands.specs.Answers.{answer_at_desk}
+use Rattle.reg_commands.specs.Answers.{answer_to_clerk}
 use Rattle.reg_commands.proofs.Decided.{Decides, follows, makes_fitting, performs_decided, the_value}
 use Rattle.reg_commands.proofs.Rows.{selected_after}
 use Rattle.reg_commands.proofs.registers.add_pool.Given.{Over}
@@ -24,7 +24,7 @@ module _ (g : Over) (c : After-decide_pool g) where
 
   decides : Decides g.K.Keeper.world g.K.Keeper.Holds g.K.Keeper.Sound
       c.args.keeper.now c.is_pooled.new.self
-      (answer_at_desk (AddPool c.args.prefix)) (pool_rule c.in_ok-there.there c.args.prefix)
+      (answer_to_clerk c.args.caller.now (AddPool c.args.prefix)) (pool_rule c.in_ok-there.there c.args.prefix)
       (λ decision. Pooled c.args.prefix)
   decides = record {
     answered = λ h.
