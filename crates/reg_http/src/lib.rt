@@ -2,6 +2,7 @@
 #![tactic(auto)]
 
 pub mod dates;
+pub mod front;
 pub mod known;
 pub mod laws;
 pub mod listener;
