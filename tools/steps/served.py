@@ -1,10 +1,12 @@
 """Steps in which an office is served, or a peer answers."""
 import contextlib
 import datetime
+import itertools
 import json
 import re
 import socket
 import subprocess
+import threading
 import time
 from concurrent.futures import ThreadPoolExecutor
 
@@ -116,6 +118,31 @@ def is_silent(case, file, given, wanted):
         output, errors = server.communicate(timeout=60)
     wants((heard, server.returncode, output, errors), (b'', 0, b'', b''), 'what a silent client hears')
     wants(9.5 < lasted < 15, True, f'{lasted} seconds after which it is closed')
+
+
+def drip(client, given, ended):
+    """Sends a byte of this every 20 milliseconds, and then letters, as long as the office takes them; nothing at all where nothing is given."""
+    for byte in itertools.chain(given, itertools.repeat(ord('x') if given else None)):
+        if byte is None or ended.wait(0.02):
+            return
+        client.sendall(bytes([byte]))
+
+
+def holds_nobody_up(case, file, given, wanted):
+    ended = threading.Event()
+    with serving(case, file, connections=101) as server, ThreadPoolExecutor(1) as clients, \
+            socket.create_connection(('127.0.0.1', server.port), timeout=60) as client:
+        dripping = clients.submit(drip, client, given, ended)
+        for _ in range(100):
+            begun = time.monotonic()
+            answer = office.exchange(server.port, b'GET /registries HTTP/1.1\r\n\r\n', seconds=60)
+            lasted = time.monotonic() - begun
+            wants(answer[-2:], b'[]', 'what another client hears')
+            wants(lasted < 2, True, f'{lasted} seconds after which another client is answered')
+            time.sleep(0.02)
+        ended.set()
+        with contextlib.suppress(OSError):
+            dripping.result()
 
 
 def is_of_loopback(case, file, given, wanted):

@@ -3,6 +3,8 @@ ghost use Rattle.std.specs.Prelude.{[], ◌∷◌, Some};
 ghost use Rattle.std.specs.Option.{option_map_or};
 
 use crate::dates::Dates;
+use crate::listener::same;
+use crate::log::{LineLog, LogLine};
 use crate::peers::Peers;
 use reg_wire::log::Sent;
 use std::alloc::Global;
@@ -30,7 +32,7 @@ impl<'a> Peers for OneCaller<'a> {
 
     ghost blank = { Some [] };
 
-    fn next(&mut self) -> Option<&'a [u8]> {
+    fn next<L: LineLog>(&mut self, _log: &mut L) -> Option<&'a [u8]> {
         match self.bytes {
             Some(bytes) => {
                 self.bytes = None;
@@ -44,10 +46,13 @@ impl<'a> Peers for OneCaller<'a> {
         Vec::new(self.alloc)
     }
 
-    fn end(&mut self, writer: Vec<u8>, sent: Option<Sent>) {
+    fn end<L: LineLog>(&mut self, writer: Vec<u8>, line: LogLine, log: &mut L) {
         self.answer = writer;
-        self.sent = sent;
+        self.sent = same(&line.sent);
+        log.told(line);
     }
+
+    fn finish<L: LineLog>(&mut self, _log: &mut L) {}
 }
 
 /// A date, unless it has been read.

@@ -5,12 +5,13 @@ ghost use Rattle.reg_http.specs.Meeting.{Exchanges, ServesInTurn};
 ghost use Rattle.reg_wire.specs.Serving.{AnswersOver};
 
 use crate::dates::{Dates, moment_now};
+use crate::log::{LineLog, LogLine};
 use crate::peers::Peers;
 use reg_head::watch::Watch;
 use reg_keeper::keeper::Keeper;
 use reg_office::Office;
 use reg_parse::route::Routes;
-use reg_wire::log::{Log, Sent};
+use reg_wire::log::Sent;
 use reg_wire::serving::{respond, send_told};
 use std::alloc::Global;
 
@@ -27,10 +28,10 @@ pub struct Connections {
 }
 
 /// Serves so many connections, one after the other, one request each, at the moment of the clock
-/// when it comes; a clock that fails or stands before 1970 gives moment 0. A connection that cannot
+/// when its turn comes; a clock that fails or stands before 1970 gives moment 0. A connection that cannot
 /// be had, or fails, is dropped, and the next is served. The office is changed by at most one
 /// request of each connection, and by nothing else. The log is told of each connection that came.
-pub fn serve_listener<D: Dates, K: Keeper, P: Peers, L: Log>(
+pub fn serve_listener<D: Dates, K: Keeper, P: Peers, L: LineLog>(
     alloc: Global,
     dates: &mut D,
     office: &mut Office<K>,
@@ -69,7 +70,7 @@ fn count_of(sent: Option<Sent>) -> u32
 }
 
 // Serves the next connection; gives the answer that was written whole.
-fn serve_next<D: Dates, K: Keeper, P: Peers, L: Log>(
+fn serve_next<D: Dates, K: Keeper, P: Peers, L: LineLog>(
     alloc: Global,
     dates: &mut D,
     office: &mut Office<K>,
@@ -81,7 +82,7 @@ fn serve_next<D: Dates, K: Keeper, P: Peers, L: Log>(
         (count_of result) (P.coming peers.old) (P.coming peers.new) (D.readings dates.old)
         (D.readings dates.new) (P.written peers.old) (P.written peers.new) office.old office.new }
 {
-    match peers.next() {
+    match peers.next(log) {
         None => None,
         Some(reader) => {
             let moment = moment_now(dates);
@@ -91,7 +92,7 @@ fn serve_next<D: Dates, K: Keeper, P: Peers, L: Log>(
 }
 
 // One exchange over a connection, of which the log is told; gives the answer that was written whole.
-fn exchange<K: Keeper, P: Peers, L: Log>(
+fn exchange<K: Keeper, P: Peers, L: LineLog>(
     alloc: Global,
     office: &mut Office<K>,
     routes: &Routes,
@@ -110,13 +111,17 @@ fn exchange<K: Keeper, P: Peers, L: Log>(
     let told = respond(alloc, office, routes, moment, &mut reader, &mut watch, log);
     let mut writer = peers.turned(reader);
     let sent = send_told(alloc, &mut writer, told).ok();
-    log.ended(moment, same(&sent));
-    peers.end(writer, same(&sent));
+    let line = LogLine {
+        moment,
+        asked: log.taken(alloc),
+        sent: same(&sent),
+    };
+    peers.end(writer, line, log);
     sent
 }
 
 // The same again. A status is of a library's type, and is not copied by being passed twice.
-fn same(sent: &Option<Sent>) -> Option<Sent>
+pub(crate) fn same(sent: &Option<Sent>) -> Option<Sent>
     ensures { result ≡ sent.now }
 {
     match sent {

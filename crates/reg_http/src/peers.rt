@@ -3,7 +3,8 @@ ghost use Rattle.std.specs.Prelude.{◌≡◌, IfOk};
 ghost use Rattle.std.specs.Option.{option_map};
 ghost use Rattle.reg_http.specs.Meeting.{Comes, EndsOneMore};
 
-use reg_wire::log::Sent;
+use crate::log::{LineLog, LogLine};
+use std::alloc::Global;
 use std::io;
 use std::io::{Read, Write};
 use std::net::SocketAddr;
@@ -29,8 +30,8 @@ pub trait Peers {
     /// What is known of what was written over a connection over which nothing was.
     ghost blank: { Option (List ℕ) } = { None };
 
-    /// The next connection, unless it cannot be had.
-    fn next(&mut self) -> Option<Self::Reader>
+    /// The next connection, unless it cannot be had. The log is told of those that end meanwhile.
+    fn next<L: LineLog>(&mut self, log: &mut L) -> Option<Self::Reader>
         ensures comes { Comes (coming self.old) (coming self.new)
             (option_map Self.Reader.remaining result) }
         ensures ended { written self.new ≡ written self.old };
@@ -41,25 +42,38 @@ pub trait Peers {
         ensures coming { coming self.new ≡ coming self.old }
         ensures ended { written self.new ≡ written self.old };
 
-    /// Ends a connection, over which this answer was written whole, or none.
-    fn end(&mut self, writer: Self::Writer, sent: Option<Sent>)
+    /// Ends a connection, of which this line is to be told once the peer has taken what was written, or
+    /// with no answer in it where the peer does not.
+    fn end<L: LineLog>(&mut self, writer: Self::Writer, line: LogLine, log: &mut L)
         ensures ends { EndsOneMore (written self.old) (written self.new) (Self.Writer.contents writer) }
+        ensures coming { coming self.new ≡ coming self.old };
+
+    /// Waits until the peers have taken all that was written, or have had their time.
+    fn finish<L: LineLog>(&mut self, log: &mut L)
+        ensures ended { written self.new ≡ written self.old }
         ensures coming { coming self.new ≡ coming self.old };
 }
 
 /// What can be listened on.
 pub trait Ports {
+    ghost use Rattle.std.specs.Prelude.{ℕ};
     ghost use Rattle.std.specs.declared.net.socket_addr.SocketAddr.{SocketAddr as OfPlace};
     ghost use Rattle.std.specs.declared.time.Duration.{Duration as OfPatience};
 
     /// What gives the connections.
     type Given: Peers + Drop;
 
-    /// These are the connections at an address, with so much time to be read in, and again to be
+    /// These are so many connections at an address, with so much time to be read in, and again to be
     /// written in.
-    ghost Opened: { Self → OfPlace → OfPatience → Self.Given → Type 0 } = { λ _ _ _ _. Unit {0} };
+    ghost Opened: { Self → OfPlace → OfPatience → ℕ → Self.Given → Type 0 } = { λ _ _ _ _ _. Unit {0} };
 
     /// Listens at an address.
-    fn listen(&self, address: SocketAddr, patience: Duration) -> io::Result<Self::Given>
-        ensures { IfOk result (Opened self.now address patience) };
+    fn listen(
+        &self,
+        alloc: Global,
+        address: SocketAddr,
+        patience: Duration,
+        count: u32,
+    ) -> io::Result<Self::Given>
+        ensures { IfOk result (Opened self.now address patience count) };
 }

@@ -20,32 +20,32 @@ IsLoopback (V6 a) port = ⊥
 abbrev pub IsPatience : Duration → Type 0
 IsPatience patience = as_nanos patience ≡ 10 * 1000000000
 
--- they are the connections at this port of loopback, and a peer has ten seconds to send its request,
+-- they are so many connections at this port of loopback, and a peer has ten seconds to send its request,
 -- and again to take the answer
-pub record IsListener {P : Type 0} (Opened : SocketAddr → Duration → P → Type 0) (port : ℕ) (peers : P)
-    : Type 0 where
+pub record IsListener {P : Type 0} (Opened : SocketAddr → Duration → ℕ → P → Type 0) (port count : ℕ)
+    (peers : P) : Type 0 where
   pub address : SocketAddr
   pub patience : Duration
   pub loopback : IsLoopback address port
   pub seconds : IsPatience patience
-  pub opened : Opened address patience peers
+  pub opened : Opened address patience count peers
 
 -- so many connections at this port are served in turn, and nothing else changes the office
 pub record ServesOn {S P : Type 0} (Serves : S → Call → Response → S → Type 0)
-    (Opened : SocketAddr → Duration → P → Type 0)
+    (Opened : SocketAddr → Duration → ℕ → P → Type 0)
     (blank : Option (List ℕ)) (coming written : P → Option (List (Option (List ℕ))))
     (readings later : Option (List (Option Duration))) (port count : ℕ) (before after : S) : Type 0
   where
     pub first : P
     pub last : P
-    pub is_opened : IsListener Opened port first
+    pub is_opened : IsListener Opened port count first
     pub answered : ℕ
     pub served : ServesInTurn Serves blank count answered (coming first) (coming last) readings later
         (written first) (written last) before after
 
 -- they are served; or none is, and the office stays
 abbrev pub ServesOrStays : {S P : Type 0} → (S → Call → Response → S → Type 0)
-    → (SocketAddr → Duration → P → Type 0) → Option (List ℕ) → (P → Option (List (Option (List ℕ))))
+    → (SocketAddr → Duration → ℕ → P → Type 0) → Option (List ℕ) → (P → Option (List (Option (List ℕ))))
     → (P → Option (List (Option (List ℕ)))) → Option (List (Option Duration))
     → Option (List (Option Duration)) → S → S → Result ⊤ Undone → ℕ → ℕ → Type 0
 ServesOrStays Serves Opened blank coming written readings later before after result port count =

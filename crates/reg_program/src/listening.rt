@@ -10,6 +10,7 @@ use crate::faults::{JobFailure, Undone};
 use crate::log::Lines;
 use reg_http::dates::Dates;
 use reg_http::listener::{PATIENCE_SECONDS, serve_listener};
+use reg_http::log::LineLog;
 use reg_http::peers::{Peers, Ports};
 use reg_keeper::keeper::Keeper;
 use reg_office::Office;
@@ -25,14 +26,14 @@ use std::time::Duration;
 pub struct Serving {
     /// The port of loopback, from 1.
     pub port: u16,
-    /// How many connections are served.
+    /// How many connections are accepted and served.
     pub connections: u32,
     /// Whether a line on standard error tells of each connection.
     pub log: bool,
 }
 
-/// Listens on a port of loopback, says so on standard output, and serves so many connections, one
-/// after the other. With a log, a line on standard error tells of each. `Port` where it cannot be
+/// Listens on a port of loopback, says so on standard output, and serves so many connections: one
+/// after the other, while it waits for all of them at once. With a log, a line on standard error tells of each. `Port` where it cannot be
 /// listened on. Where it fails, nothing is served.
 pub fn serve_in<N: Ports, D: Dates, K: Keeper, R: Read, W: Write, E: Write>(
     alloc: Global,
@@ -47,7 +48,7 @@ pub fn serve_in<N: Ports, D: Dates, K: Keeper, R: Read, W: Write, E: Write>(
         office.old office.new result serving.port serving.connections }
 {
     let routes = Routes::new(alloc)?;
-    let mut peers = listening(ports, serving.port)?;
+    let mut peers = listening(alloc, ports, serving)?;
     say_listening(alloc, serving.port, console.output)?;
     serve_on(
         alloc,
@@ -78,16 +79,39 @@ fn serve_on<D: Dates, K: Keeper, P: Peers, E: Write>(
     let count = serving.connections;
     if serving.log {
         let mut lines = Lines::new(alloc, errors);
-        serve_listener(alloc, dates, office, routes, peers, count, &mut lines).answered
+        serve_logged(alloc, dates, office, routes, peers, count, &mut lines)
     } else {
-        serve_listener(alloc, dates, office, routes, peers, count, &mut Unlogged).answered
+        serve_logged(alloc, dates, office, routes, peers, count, &mut Unlogged)
     }
 }
 
-fn listening<N: Ports>(ports: &N, port: u16) -> Result<N::Given, JobFailure>
-    ensures { IfOk result (IsListener (N.Opened ports.now) port) }
+// Serves so many connections, and waits until the last answer is taken; gives how many were answered.
+fn serve_logged<D: Dates, K: Keeper, P: Peers, L: LineLog>(
+    alloc: Global,
+    dates: &mut D,
+    office: &mut Office<K>,
+    routes: &Routes,
+    peers: &mut P,
+    count: u32,
+    log: &mut L,
+) -> u32
+    ensures { ServesInTurn (AnswersOver K.world K.Holds K.Sound K.FAILS) P.blank count result
+        (P.coming peers.old) (P.coming peers.new) (D.readings dates.old) (D.readings dates.new)
+        (P.written peers.old) (P.written peers.new) office.old office.new }
 {
-    match ports.listen(loopback(port), patience()) {
+    let done = serve_listener(alloc, dates, office, routes, peers, count, log);
+    peers.finish(log);
+    done.answered
+}
+
+fn listening<N: Ports>(
+    alloc: Global,
+    ports: &N,
+    serving: Serving,
+) -> Result<N::Given, JobFailure>
+    ensures { IfOk result (IsListener (N.Opened ports.now) serving.port serving.connections) }
+{
+    match ports.listen(alloc, loopback(serving.port), patience(), serving.connections) {
         Ok(peers) => Ok(peers),
         Err(_) => Err(JobFailure::Port),
     }

@@ -3,12 +3,16 @@ ghost use Rattle.std.specs.Prelude.{◌<◌};
 
 use jiff::Timestamp;
 use reg_parse::shown::Shown;
+use reg_http::log::{LineLog, LogLine};
 use reg_wire::log::{Log, Sent};
 use std::alloc::{AllocError, Global};
 use std::io::Write;
 
 /// What stands for a method and a path that could not be read.
 const UNREAD: &[u8] = b"- -";
+
+/// What stands for a path in front of the office of which nothing may be shown.
+const UNSHOWN: &[u8] = b"-";
 
 /// Tells of each connection by a line: the moment, the method, what may be shown of the path, the
 /// status and how many bytes the body of the answer has; `dropped` in place of the last two where it
@@ -18,7 +22,8 @@ const UNREAD: &[u8] = b"- -";
 pub struct Lines<'a, E: Write> {
     alloc: Global,
     errors: &'a mut E,
-    // What the connection that is being served asks, as it is written; empty where that is unknown.
+    // What the connection that is being served asks, as it is written; empty where that is unknown or
+    // was given.
     asked: Vec<u8>,
 }
 
@@ -37,25 +42,41 @@ impl<E: Write> Log for Lines<'_, E> {
     const IS_KEPT: bool = true;
 
     fn asked(&mut self, method: &[u8], path: Shown<'_>) {
-        if write_asked(&mut self.asked, method, path).is_err() {
+        if write_asked(&mut self.asked, method, path.text()).is_err() {
             self.asked.clear();
         }
     }
 
     fn ended(&mut self, moment: u64, sent: Option<Sent>) {
-        if let Ok(line) = line_of(self.alloc, moment, self.asked.as_slice(), sent) {
-            let _ = self.errors.write_all(line.as_slice());
-            let _ = self.errors.flush();
-        }
-        self.asked.clear();
+        let asked = self.taken(self.alloc);
+        self.told(LogLine { moment, asked, sent });
     }
 }
 
-fn write_asked(asked: &mut Vec<u8>, method: &[u8], path: Shown<'_>) -> Result<(), AllocError> {
+impl<E: Write> LineLog for Lines<'_, E> {
+    fn asked_in_front(&mut self, method: &[u8], path: Option<&[u8]>) {
+        if write_asked(&mut self.asked, method, path.unwrap_or(UNSHOWN)).is_err() {
+            self.asked.clear();
+        }
+    }
+
+    fn taken(&mut self, alloc: Global) -> Vec<u8> {
+        std::mem::replace(&mut self.asked, Vec::new(alloc))
+    }
+
+    fn told(&mut self, line: LogLine) {
+        if let Ok(text) = line_of(self.alloc, &line) {
+            let _ = self.errors.write_all(text.as_slice());
+            let _ = self.errors.flush();
+        }
+    }
+}
+
+fn write_asked(asked: &mut Vec<u8>, method: &[u8], path: &[u8]) -> Result<(), AllocError> {
     asked.clear();
     write_escaped(asked, method)?;
     asked.push(b' ')?;
-    write_escaped(asked, path.text())
+    write_escaped(asked, path)
 }
 
 // A space, a backslash and what is no printable ASCII is written as `\x` and two digits.
@@ -88,24 +109,20 @@ fn digit_of(value: u8) -> u8
 }
 
 // The line of a connection.
-fn line_of(
-    alloc: Global,
-    moment: u64,
-    asked: &[u8],
-    sent: Option<Sent>,
-) -> Result<Vec<u8>, AllocError> {
-    let mut line = moment_text(alloc, moment)?.into_bytes();
-    line.push(b' ')?;
-    line.extend_from_slice(if asked.is_empty() { UNREAD } else { asked })?;
-    let end = match sent {
+fn line_of(alloc: Global, line: &LogLine) -> Result<Vec<u8>, AllocError> {
+    let mut text = moment_text(alloc, line.moment)?.into_bytes();
+    text.push(b' ')?;
+    let asked = line.asked.as_slice();
+    text.extend_from_slice(if asked.is_empty() { UNREAD } else { asked })?;
+    let end = match &line.sent {
         Some(Sent { status, body }) => {
             let status = status.as_str();
             format!(in alloc; " {status} {body}\n")?
         }
         None => String::from_str(alloc, " dropped\n")?,
     };
-    line.extend_from_slice(end.as_bytes())?;
-    Ok(line)
+    text.extend_from_slice(end.as_bytes())?;
+    Ok(text)
 }
 
 // The moment as `2026-11-26T08:00:00Z` (RFC 3339); `-` where the calendar has none.

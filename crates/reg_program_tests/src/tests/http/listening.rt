@@ -1,9 +1,10 @@
 //! A listener on loopback, and its clients.
 use crate::tests::exercise::{Exercise, over_lists};
 use crate::tests::http::served::Served;
+use reg_http::crowd::crowd_at;
 use reg_http::dates::ClockDates;
+use reg_http::front::NoFront;
 use reg_http::listener::Connections;
-use reg_http::tcp::TcpPeers;
 use reg_keeper::keeper::Keeper;
 use reg_testing::facts::ensure;
 use std::io::{Read, Write};
@@ -11,11 +12,12 @@ use std::net::{Ipv4Addr, Shutdown, SocketAddr, TcpListener, TcpStream};
 use std::test::Fail;
 use std::time::Duration;
 
-/// A listener at any port of loopback, and its address.
-pub fn listening(rt: &HostRuntime) -> Result<(TcpListener, SocketAddr), Fail> {
+/// An address at loopback where nobody listens.
+pub fn free_address(rt: &HostRuntime) -> Result<SocketAddr, Fail> {
     let listener = TcpListener::bind(rt, SocketAddr::from((Ipv4Addr::LOCALHOST, 0)))?;
     let address = listener.local_addr()?;
-    Ok((listener, address))
+    drop(listener);
+    Ok(address)
 }
 
 /// A client that has sent these bytes.
@@ -117,14 +119,10 @@ fn answer_four<K: Keeper + Drop>(
     rt: &HostRuntime,
     served: &mut Served<K>,
 ) -> Result<(Connections, Heard), Fail> {
-    let (listener, address) = listening(rt)?;
+    let address = free_address(rt)?;
+    let patience = Duration::from_millis(200);
+    let mut connections = crowd_at(rt, rt.alloc(), address, patience, 4, NoFront)?;
     let mut peers = Peers::connected(rt, address)?;
-    let mut connections = TcpPeers {
-        listener,
-        address,
-        clock: rt,
-        patience: Duration::from_millis(200),
-    };
     let mut dates = ClockDates { clock: rt };
     let done = served.listen(rt.alloc(), &mut dates, &mut connections, 4);
     drop(connections);

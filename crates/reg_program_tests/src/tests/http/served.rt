@@ -2,6 +2,7 @@
 use crate::tests::http::messages::request;
 use reg_http::dates::Dates;
 use reg_http::listener::{Connections, serve_listener};
+use reg_http::log::LineLog;
 use reg_http::peers::Peers;
 use reg_keeper::keeper::Keeper;
 use reg_office::Office;
@@ -100,14 +101,21 @@ impl<K: Keeper + Drop> Served<K> {
         peers: &mut P,
         count: u32,
     ) -> Connections {
-        serve_listener(
-            alloc,
-            dates,
-            &mut self.office,
-            &self.routes,
-            peers,
-            count,
-            &mut Unlogged,
-        )
+        self.listen_logged(alloc, dates, peers, count, &mut Unlogged)
+    }
+
+    /// The same, and tells a log of them.
+    pub fn listen_logged<D: Dates, P: Peers, L: LineLog>(
+        &mut self,
+        alloc: Global,
+        dates: &mut D,
+        peers: &mut P,
+        count: u32,
+        log: &mut L,
+    ) -> Connections {
+        let office = &mut self.office;
+        let done = serve_listener(alloc, dates, office, &self.routes, peers, count, log);
+        peers.finish(log);
+        done
     }
 }

@@ -1,0 +1,38 @@
+//! What is told of connections that end in another order than they are carried out.
+use reg_wire::log::{Log, Sent, Unlogged};
+use std::alloc::Global;
+
+/// What is told of one connection once it has ended.
+#[derive(Drop)]
+pub struct LogLine {
+    /// When it was carried out, in seconds since 1970-01-01T00:00:00Z.
+    pub moment: u64,
+    /// What it asks, as the log keeps it; empty where that could not be read.
+    pub asked: Vec<u8>,
+    /// The answer that was written whole; none where the connection was dropped.
+    pub sent: Option<Sent>,
+}
+
+/// A log that gives away what it was told that a connection asks, and takes it back once the connection
+/// has ended: others are carried out in between.
+pub trait LineLog: Log {
+    /// The connection asks by this method for what stands in front of the office: for this path, or for
+    /// one of which nothing may be shown.
+    fn asked_in_front(&mut self, method: &[u8], path: Option<&[u8]>);
+
+    /// What the log was told last that a connection asks, as it keeps it. It is given once.
+    fn taken(&mut self, alloc: Global) -> Vec<u8>;
+
+    /// A connection has ended.
+    fn told(&mut self, line: LogLine);
+}
+
+impl LineLog for Unlogged {
+    fn asked_in_front(&mut self, _method: &[u8], _path: Option<&[u8]>) {}
+
+    fn taken(&mut self, alloc: Global) -> Vec<u8> {
+        Vec::new(alloc)
+    }
+
+    fn told(&mut self, _line: LogLine) {}
+}
