@@ -1,3 +1,4 @@
 pub mod Known
 pub mod Listening
 pub mod Meeting
+pub mod Places

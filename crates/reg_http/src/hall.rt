@@ -6,7 +6,7 @@ use crate::place::{
     MOST_PLACES, Place, Stage, are_too_heavy, free_place, giving_way, heaviest, next_turn,
     soonest_end,
 };
-use crate::socket::{Portions, Readiness, Socket};
+use crate::socket::{LeftContent, Readiness, Socket};
 use http::StatusCode;
 use mio::net::TcpStream;
 use mio::{Interest, Registry};
@@ -337,7 +337,7 @@ impl<'a, C: Clock, F: Front + Drop> Hall<'a, C, F> {
         let mut socket = socket;
         socket.bytes = head;
         socket.rest = match content {
-            Some(content) => Some(Portions {
+            Some(content) => Some(LeftContent {
                 content,
                 left: length,
                 last: self

@@ -1,4 +1,8 @@
 //! Where connections stand, and which of them comes next, gives way, or is dropped.
+ghost use Rattle.std.specs.Prelude.{◌≡◌, ◌≤◌, ◌↔◌, IsTrue};
+ghost use Rattle.std.specs.Duration.{as_nanos};
+ghost use Rattle.reg_http.specs.Places.{IsOver, IsTimed, answer_rank, first_in, free_rank, is_before, rank_in, turn_rank, wait_rank, weight_rank, with_place};
+
 use std::time::Duration;
 
 /// The most connections at a time.
@@ -52,7 +56,9 @@ impl Place {
     }
 
     // Whether the connection ends by the clock.
-    fn is_timed(&self) -> bool {
+    fn is_timed(self) -> bool
+        ensures { IsTrue result ↔ IsTimed self.stage }
+    {
         match self.stage {
             Stage::Asking | Stage::Answered(_) | Stage::Refused(_) => true,
             Stage::Free | Stage::Due(_) | Stage::InTurn => false,
@@ -60,99 +66,154 @@ impl Place {
     }
 
     /// Whether it has been asking, answered or refused too long.
-    pub fn is_over(&self, now: Duration) -> bool {
-        self.is_timed() && now >= self.end
+    pub fn is_over(self, now: Duration) -> bool
+        ensures { IsTrue result ↔ IsOver self now }
+    {
+        self.is_timed() && has_come(self.end, now)
     }
 }
 
-/// What puts places into an order, and leaves some out.
-trait Ranking {
-    /// The rank of a place; none where it is left out.
-    fn rank(&self, place: &Place) -> Option<(u64, u64)>;
+// Whether an end has come.
+fn has_come(end: Duration, now: Duration) -> bool
+    ensures { IsTrue result ↔ (as_nanos end ≤ as_nanos now) }
+{
+    now.as_nanos() >= end.as_nanos()
 }
 
-// The first of the places with the least rank.
-fn first_by<R: Ranking>(places: &[Place], ranking: &R) -> Option<usize> {
-    let mut found = None;
-    let mut least = (u64::MAX, u64::MAX);
-    for (at, place) in places.iter().enumerate() {
-        if let Some(rank) = ranking.rank(place) {
-            if found.is_none() || rank < least {
-                found = Some(at);
-                least = rank;
-            }
+/// An order of places, which leaves some out.
+#[derive(Clone, Copy, Debug, PartialEq, Eq)]
+pub(crate) enum Order {
+    /// Those that are due, in turn.
+    Turn,
+    /// Those that wait for a request, the one that was accepted first before all.
+    Wait,
+    /// Those whose answer was made, the first before all.
+    Answer,
+    /// Those that can be dropped, the one with the most unsent bytes before all.
+    Weight,
+    /// Those without a connection.
+    Free,
+}
+
+impl Order {
+    // The rank of a place; none where it is left out.
+    fn rank(self, place: Place) -> Option<(u64, u64)>
+        ensures { result ≡ rank_in self place }
+    {
+        match self {
+            Order::Turn => place.turn_rank(),
+            Order::Wait => place.wait_rank(),
+            Order::Answer => place.answer_rank(),
+            Order::Weight => place.weight_rank(),
+            Order::Free => place.free_rank(),
         }
     }
-    found
 }
 
-struct ByTurn;
-
-impl Ranking for ByTurn {
-    fn rank(&self, place: &Place) -> Option<(u64, u64)> {
-        match place.stage {
-            Stage::Due(round) => Some((round, place.number)),
+impl Place {
+    fn turn_rank(self) -> Option<(u64, u64)>
+        ensures { result ≡ turn_rank self.stage self.number }
+    {
+        match self.stage {
+            Stage::Due(round) => Some((round, self.number)),
             _ => None,
         }
     }
-}
 
-struct ByWait;
-
-impl Ranking for ByWait {
-    fn rank(&self, place: &Place) -> Option<(u64, u64)> {
-        match place.stage {
-            Stage::Asking => Some((place.number, 0)),
+    fn wait_rank(self) -> Option<(u64, u64)>
+        ensures { result ≡ wait_rank self.stage self.number }
+    {
+        match self.stage {
+            Stage::Asking => Some((self.number, 0)),
             _ => None,
         }
     }
-}
 
-struct ByAnswer;
-
-impl Ranking for ByAnswer {
-    fn rank(&self, place: &Place) -> Option<(u64, u64)> {
-        match place.stage {
+    fn answer_rank(self) -> Option<(u64, u64)>
+        ensures { result ≡ answer_rank self.stage }
+    {
+        match self.stage {
             Stage::Answered(answer) | Stage::Refused(answer) => Some((answer, 0)),
             _ => None,
         }
     }
-}
 
-struct ByWeight;
-
-impl Ranking for ByWeight {
-    fn rank(&self, place: &Place) -> Option<(u64, u64)> {
-        match place.stage {
+    fn weight_rank(self) -> Option<(u64, u64)>
+        ensures { result ≡ weight_rank self.stage self.asked self.unsent }
+    {
+        match self.stage {
             Stage::Asking | Stage::Answered(_) => Some((
-                u64::MAX - place.unsent as u64,
-                u64::MAX - place.asked as u64,
+                u64::MAX.saturating_sub(self.unsent as u64),
+                u64::MAX.saturating_sub(self.asked as u64),
             )),
             _ => None,
         }
     }
-}
 
-struct Frees;
-
-impl Ranking for Frees {
-    fn rank(&self, place: &Place) -> Option<(u64, u64)> {
-        match place.stage {
+    fn free_rank(self) -> Option<(u64, u64)>
+        ensures { result ≡ free_rank self.stage }
+    {
+        match self.stage {
             Stage::Free => Some((0, 0)),
             _ => None,
         }
     }
 }
 
+fn is_before(a: (u64, u64), b: (u64, u64)) -> bool
+    ensures { result ≡ is_before a b }
+{
+    a.0 < b.0 || a.0 == b.0 && a.1 < b.1
+}
+
+// The first of the places with the least rank.
+fn first_in(places: &[Place], order: Order) -> Option<usize>
+    ensures { result ≡ first_in order places.now }
+{
+    let mut found: Option<(usize, (u64, u64))> = None;
+    for (at, place) in places.iter().enumerate() {
+        found = with_place(found, at, order.rank(*place));
+    }
+    match found {
+        Some((at, _)) => Some(at),
+        None => None,
+    }
+}
+
+// What is found with one place more.
+fn with_place(
+    found: Option<(usize, (u64, u64))>,
+    at: usize,
+    rank: Option<(u64, u64)>,
+) -> Option<(usize, (u64, u64))>
+    ensures { result ≡ with_place found at rank }
+{
+    let Some(rank) = rank else {
+        return found;
+    };
+    match found {
+        None => Some((at, rank)),
+        Some((had, least)) => Some(if is_before(rank, least) {
+            (at, rank)
+        } else {
+            (had, least)
+        }),
+    }
+}
+
 /// The connection that is carried out next: of those that are due, the one that became so first, and
 /// of those of one round the one that was accepted first.
-pub(crate) fn next_turn(places: &[Place]) -> Option<usize> {
-    first_by(places, &ByTurn)
+pub(crate) fn next_turn(places: &[Place]) -> Option<usize>
+    ensures { result ≡ first_in Order.Turn places.now }
+{
+    first_in(places, Order::Turn)
 }
 
 /// A place without a connection.
-pub(crate) fn free_place(places: &[Place]) -> Option<usize> {
-    first_by(places, &Frees)
+pub(crate) fn free_place(places: &[Place]) -> Option<usize>
+    ensures { result ≡ first_in Order.Free places.now }
+{
+    first_in(places, Order::Free)
 }
 
 /// The connection whose place a new one takes: where fewer than half of all places wait for a
@@ -160,11 +221,11 @@ pub(crate) fn free_place(places: &[Place]) -> Option<usize> {
 /// those that wait.
 pub(crate) fn giving_way(places: &[Place]) -> Option<usize> {
     if waiting(places) < MOST_PLACES / 2 {
-        if let Some(at) = first_by(places, &ByAnswer) {
+        if let Some(at) = first_in(places, Order::Answer) {
             return Some(at);
         }
     }
-    first_by(places, &ByWait)
+    first_in(places, Order::Wait)
 }
 
 // How many wait for a request.
@@ -180,8 +241,10 @@ fn waiting(places: &[Place]) -> usize {
 
 /// The connection that is dropped at the bound: of those that wait for a request or are answered, the
 /// one with the most unsent bytes, and of those with as many the one with the longest request.
-pub(crate) fn heaviest(places: &[Place]) -> Option<usize> {
-    first_by(places, &ByWeight)
+pub(crate) fn heaviest(places: &[Place]) -> Option<usize>
+    ensures { result ≡ first_in Order.Weight places.now }
+{
+    first_in(places, Order::Weight)
 }
 
 /// Whether more is kept than may be: too much of requests, or too much of them and of two unsent

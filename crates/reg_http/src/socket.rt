@@ -37,7 +37,7 @@ pub(crate) enum Readiness {
 
 /// Content that is sent after what is kept.
 #[derive(Drop)]
-pub(crate) struct Portions<C> {
+pub(crate) struct LeftContent<C> {
     /// What is read.
     pub content: C,
     /// How many bytes of it are still to be read.
@@ -65,7 +65,7 @@ pub(crate) struct Socket<C> {
     /// What is told of it once it has ended.
     pub line: Option<LogLine>,
     /// What is sent after the bytes.
-    pub rest: Option<Portions<C>>,
+    pub rest: Option<LeftContent<C>>,
     // How many bytes of the answer were sent in all.
     sent: usize,
     // How many bytes of a refused peer were dropped.
