@@ -1,4 +1,6 @@
 //! One connection: its socket, and what of its request and its answer is kept.
+ghost use Rattle.std.specs.Io.{WritesAtMost};
+
 use crate::front::PORTION_BYTES;
 use crate::log::LogLine;
 use crate::outlook::{Outlook, outlook_of};
@@ -92,7 +94,12 @@ impl<C: Read + Drop> Socket<C> {
 
     /// How many bytes of the answer are kept and not sent.
     pub fn unsent(&self) -> usize {
-        self.bytes.len().saturating_sub(self.at)
+        self.left().len()
+    }
+
+    // What is kept of the answer and not sent.
+    fn left(&self) -> &[u8] {
+        &self.bytes[self.at.min(self.bytes.len())..]
     }
 
     /// Has the socket watched for this; with `again`, what it is ready for is reported once more.
@@ -190,7 +197,7 @@ impl<C: Read + Drop> Socket<C> {
                     return readiness;
                 }
             }
-            match self.stream.write(&self.bytes[self.at..]) {
+            match self.stream.write(self.left()) {
                 Ok(0) => return Readiness::Broken,
                 Ok(count) => {
                     self.at = self.at.saturating_add(count);
@@ -241,8 +248,8 @@ impl<C: Read + Drop> Socket<C> {
 
     /// Gives back the memory of what was sent, where that is as much as what was not.
     pub fn shrink(&mut self, alloc: Global) {
-        if self.at >= self.bytes.len() / 2 && self.at <= self.bytes.len() {
-            if let Ok(bytes) = Vec::from_slice(alloc, &self.bytes[self.at..]) {
+        if self.at >= self.bytes.len() / 2 {
+            if let Ok(bytes) = Vec::from_slice(alloc, self.left()) {
                 self.bytes = bytes;
                 self.at = 0;
             }
@@ -250,7 +257,9 @@ impl<C: Read + Drop> Socket<C> {
     }
 
     /// Takes in what is written: sends what the peer takes at once, and keeps the rest.
-    pub fn write(&mut self, buf: &[u8]) -> io::Result<usize> {
+    pub fn write(&mut self, buf: &[u8]) -> io::Result<usize>
+        ensures bound { WritesAtMost result buf.now }
+    {
         let mut taken = 0;
         if self.bytes.is_empty() {
             match self.stream.write(buf) {

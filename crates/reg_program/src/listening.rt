@@ -33,8 +33,8 @@ pub struct Serving {
 }
 
 /// Listens on a port of loopback, says so on standard output, and serves so many connections: one
-/// after the other, while it waits for all of them at once. With a log, a line on standard error tells of each. `Port` where it cannot be
-/// listened on. Where it fails, nothing is served.
+/// after the other, while it waits for all of them at once. With a log, a line on standard error tells
+/// of each. `Port` where it cannot be listened on. Where it fails, nothing is served.
 pub fn serve_in<N: Ports, D: Dates, K: Keeper, R: Read, W: Write, E: Write>(
     alloc: Global,
     ports: &N,
@@ -104,14 +104,15 @@ fn serve_logged<D: Dates, K: Keeper, P: Peers, L: LineLog>(
     done.answered
 }
 
-fn listening<N: Ports>(
-    alloc: Global,
-    ports: &N,
-    serving: Serving,
-) -> Result<N::Given, JobFailure>
+fn listening<N: Ports>(alloc: Global, ports: &N, serving: Serving) -> Result<N::Given, JobFailure>
     ensures { IfOk result (IsListener (N.Opened ports.now) serving.port serving.connections) }
 {
-    match ports.listen(alloc, loopback(serving.port), patience(), serving.connections) {
+    match ports.listen(
+        alloc,
+        loopback(serving.port),
+        patience(),
+        serving.connections,
+    ) {
         Ok(peers) => Ok(peers),
         Err(_) => Err(JobFailure::Port),
     }

@@ -2,8 +2,8 @@
 ghost use Rattle.std.specs.Prelude.{◌<◌};
 
 use jiff::Timestamp;
-use reg_parse::shown::Shown;
 use reg_http::log::{LineLog, LogLine};
+use reg_parse::shown::Shown;
 use reg_wire::log::{Log, Sent};
 use std::alloc::{AllocError, Global};
 use std::io::Write;
@@ -48,8 +48,13 @@ impl<E: Write> Log for Lines<'_, E> {
     }
 
     fn ended(&mut self, moment: u64, sent: Option<Sent>) {
-        let asked = self.taken(self.alloc);
-        self.told(LogLine { moment, asked, sent });
+        let alloc = self.alloc;
+        let asked = self.taken(alloc);
+        self.told(LogLine {
+            moment,
+            asked,
+            sent,
+        });
     }
 }
 
