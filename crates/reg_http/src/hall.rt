@@ -326,14 +326,9 @@ impl<'a, C: Clock, F: Front + Drop> Hall<'a, C, F> {
             content,
         } = answer;
         log.asked_in_front(method.as_slice(), path.as_deref());
-        let line = LogLine {
-            moment: moment_now(&mut ClockDates { clock: self.clock }),
-            asked: log.taken(self.alloc),
-            sent: Some(Sent {
-                status,
-                body: length,
-            }),
-        };
+        let moment = moment_now(&mut ClockDates { clock: self.clock });
+        let body = length;
+        let line = log.line(self.alloc, moment, Some(Sent { status, body }));
         let mut socket = socket;
         socket.bytes = head;
         socket.rest = match content {

@@ -5,7 +5,7 @@ ghost use Rattle.reg_http.specs.Meeting.{Exchanges, ServesInTurn};
 ghost use Rattle.reg_wire.specs.Serving.{AnswersOver};
 
 use crate::dates::{Dates, moment_now};
-use crate::log::{LineLog, LogLine};
+use crate::log::LineLog;
 use crate::peers::Peers;
 use reg_head::watch::Watch;
 use reg_keeper::keeper::Keeper;
@@ -111,11 +111,7 @@ fn exchange<K: Keeper, P: Peers, L: LineLog>(
     let told = respond(alloc, office, routes, moment, &mut reader, &mut watch, log);
     let mut writer = peers.turned(reader);
     let sent = send_told(alloc, &mut writer, told).ok();
-    let line = LogLine {
-        moment,
-        asked: log.taken(alloc),
-        sent: same(&sent),
-    };
+    let line = log.line(alloc, moment, same(&sent));
     peers.end(writer, line, log);
     sent
 }

@@ -1,4 +1,5 @@
 //! What is told of connections that end in another order than they are carried out.
+use reg_keeper::keeper::Fault;
 use reg_wire::log::{Log, Sent, Unlogged};
 use std::alloc::Global;
 
@@ -9,6 +10,8 @@ pub struct LogLine {
     pub moment: u64,
     /// What it asks, as the log keeps it; empty where that could not be read.
     pub asked: Vec<u8>,
+    /// What failed while it was carried out, if it is answered `storage`.
+    pub failed: Option<Fault>,
     /// The answer that was written whole; none where the connection was dropped.
     pub sent: Option<Sent>,
 }
@@ -20,8 +23,9 @@ pub trait LineLog: Log {
     /// one of which nothing may be shown.
     fn asked_in_front(&mut self, method: &[u8], path: Option<&[u8]>);
 
-    /// What the log was told last that a connection asks, as it keeps it. It is given once.
-    fn taken(&mut self, alloc: Global) -> Vec<u8>;
+    /// The line of the connection that was carried out at this moment and is answered so: with what the
+    /// log was told of it, which it forgets.
+    fn line(&mut self, alloc: Global, moment: u64, sent: Option<Sent>) -> LogLine;
 
     /// A connection has ended.
     fn told(&mut self, line: LogLine);
@@ -30,8 +34,13 @@ pub trait LineLog: Log {
 impl LineLog for Unlogged {
     fn asked_in_front(&mut self, _method: &[u8], _path: Option<&[u8]>) {}
 
-    fn taken(&mut self, alloc: Global) -> Vec<u8> {
-        Vec::new(alloc)
+    fn line(&mut self, alloc: Global, moment: u64, sent: Option<Sent>) -> LogLine {
+        LogLine {
+            moment,
+            asked: Vec::new(alloc),
+            failed: None,
+            sent,
+        }
     }
 
     fn told(&mut self, _line: LogLine) {}

@@ -1,8 +1,10 @@
 //! The log of the connections that are served, in lines.
 ghost use Rattle.std.specs.Prelude.{◌<◌};
 
+use http::StatusCode;
 use jiff::Timestamp;
 use reg_http::log::{LineLog, LogLine};
+use reg_keeper::keeper::Fault;
 use reg_parse::shown::Shown;
 use reg_wire::log::{Log, Sent};
 use std::alloc::{AllocError, Global};
@@ -16,7 +18,8 @@ const UNSHOWN: &[u8] = b"-";
 
 /// Tells of each connection by a line: the moment, the method, what may be shown of the path, the
 /// status and how many bytes the body of the answer has; `dropped` in place of the last two where it
-/// was not answered.
+/// was not answered. After the size of an answer with status 503 comes why: `memory`, `store` or
+/// `clock`.
 /// That a line cannot be written, or that there is no memory for it, ends nothing.
 #[derive(Drop)]
 pub struct Lines<'a, E: Write> {
@@ -25,6 +28,8 @@ pub struct Lines<'a, E: Write> {
     // What the connection that is being served asks, as it is written; empty where that is unknown or
     // was given.
     asked: Vec<u8>,
+    // What failed while it was carried out.
+    failed: Option<Fault>,
 }
 
 impl<'a, E: Write> Lines<'a, E> {
@@ -34,6 +39,7 @@ impl<'a, E: Write> Lines<'a, E> {
             alloc,
             errors,
             asked: Vec::new(alloc),
+            failed: None,
         }
     }
 }
@@ -47,14 +53,8 @@ impl<E: Write> Log for Lines<'_, E> {
         }
     }
 
-    fn ended(&mut self, moment: u64, sent: Option<Sent>) {
-        let alloc = self.alloc;
-        let asked = self.taken(alloc);
-        self.told(LogLine {
-            moment,
-            asked,
-            sent,
-        });
+    fn failed(&mut self, fault: Fault) {
+        self.failed = Some(fault);
     }
 }
 
@@ -65,8 +65,13 @@ impl<E: Write> LineLog for Lines<'_, E> {
         }
     }
 
-    fn taken(&mut self, alloc: Global) -> Vec<u8> {
-        std::mem::replace(&mut self.asked, Vec::new(alloc))
+    fn line(&mut self, alloc: Global, moment: u64, sent: Option<Sent>) -> LogLine {
+        LogLine {
+            moment,
+            asked: std::mem::replace(&mut self.asked, Vec::new(alloc)),
+            failed: self.failed.take(),
+            sent,
+        }
     }
 
     fn told(&mut self, line: LogLine) {
@@ -121,13 +126,24 @@ fn line_of(alloc: Global, line: &LogLine) -> Result<Vec<u8>, AllocError> {
     text.extend_from_slice(if asked.is_empty() { UNREAD } else { asked })?;
     let end = match &line.sent {
         Some(Sent { status, body }) => {
+            let why = reason_of(status, line.failed);
             let status = status.as_str();
-            format!(in alloc; " {status} {body}\n")?
+            format!(in alloc; " {status} {body}{why}\n")?
         }
         None => String::from_str(alloc, " dropped\n")?,
     };
     text.extend_from_slice(end.as_bytes())?;
     Ok(text)
+}
+
+// Why a request is answered with status 503, after a space; nothing of another answer.
+fn reason_of(status: &StatusCode, failed: Option<Fault>) -> &'static str {
+    match failed {
+        Some(Fault::Memory) => " memory",
+        Some(Fault::Store) => " store",
+        None if *status == StatusCode::SERVICE_UNAVAILABLE => " clock",
+        None => "",
+    }
 }
 
 // The moment as `2026-11-26T08:00:00Z` (RFC 3339); `-` where the calendar has none.

@@ -1,5 +1,6 @@
 //! What is told of connections while they are served.
 use http::StatusCode;
+use reg_keeper::keeper::Fault;
 use reg_parse::shown::Shown;
 
 /// An answer that was written whole.
@@ -12,7 +13,7 @@ pub struct Sent {
 }
 
 /// What is told of each connection that a listener had: what it asks, where that could be read, and
-/// then what became of it. It changes nothing of what is answered.
+/// what failed. It changes nothing of what is answered.
 pub trait Log {
     /// Whether it keeps what it is told.
     const IS_KEPT: bool;
@@ -20,8 +21,8 @@ pub trait Log {
     /// The connection asks by this method for a path, of which no more is told than may be shown.
     fn asked(&mut self, method: &[u8], path: Shown<'_>);
 
-    /// The connection, which came at this moment, was answered so, or dropped.
-    fn ended(&mut self, moment: u64, sent: Option<Sent>);
+    /// The connection is answered `storage`, since memory or the store failed.
+    fn failed(&mut self, fault: Fault);
 }
 
 /// The log that keeps nothing.
@@ -33,5 +34,5 @@ impl Log for Unlogged {
 
     fn asked(&mut self, _method: &[u8], _path: Shown<'_>) {}
 
-    fn ended(&mut self, _moment: u64, _sent: Option<Sent>) {}
+    fn failed(&mut self, _fault: Fault) {}
 }

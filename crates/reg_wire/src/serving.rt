@@ -100,7 +100,7 @@ pub fn respond<K: Keeper, R: Read, L: Log>(
     match read_request(alloc, reader, watch) {
         Ok(message) => {
             tell(routes, &message, log);
-            let response = respond_to(alloc, office, routes, moment, &message);
+            let response = respond_to(alloc, office, routes, moment, &message, log);
             drop(message);
             Ok(response)
         }
@@ -120,13 +120,14 @@ fn tell<L: Log>(routes: &Routes, message: &Message, log: &mut L)
     }
 }
 
-// What is answered to a request.
-fn respond_to<K: Keeper>(
+// What is answered to a request. The log is told of what failed.
+fn respond_to<K: Keeper, L: Log>(
     alloc: Global,
     office: &mut Office<K>,
     routes: &Routes,
     moment: u64,
     message: &Message,
+    log: &mut L,
 ) -> Response
     requires { LiesInBytes message.now }
     ensures { (request : Request) → IsMessage message.now request
@@ -143,6 +144,9 @@ fn respond_to<K: Keeper>(
     };
     match answer_to(alloc, office, routes, &call) {
         Ok(answer) => Response::Answer(answer),
-        Err(_) => Response::Answer(Answer::Storage),
+        Err(fault) => {
+            log.failed(fault);
+            Response::Answer(Answer::Storage)
+        }
     }
 }

@@ -3,6 +3,7 @@ mod asking;
 mod callers;
 mod failures;
 mod listening;
+mod logged;
 mod messages;
 pub mod served;
 mod untaken;

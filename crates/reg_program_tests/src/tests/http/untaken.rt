@@ -9,10 +9,10 @@ use reg_http::front::NoFront;
 use reg_http::listener::Connections;
 use reg_http::log::{LineLog, LogLine};
 use reg_http::peers::Peers;
-use reg_keeper::keeper::Keeper;
+use reg_keeper::keeper::{Fault, Keeper};
 use reg_parse::shown::Shown;
 use reg_testing::facts::ensure;
-use reg_wire::log::{Log, Sent};
+use reg_wire::log::{Log, Sent, Unlogged};
 use std::alloc::Global;
 use std::io;
 use std::io::Write;
@@ -40,14 +40,8 @@ fn answer_long<P: Peers, L: LineLog>(alloc: Global, peers: &mut P, log: &mut L) 
     let reader = peers.next(log)?;
     let mut writer = peers.turned(reader);
     write_long(&mut writer).ok()?;
-    let line = LogLine {
-        moment: 0,
-        asked: Vec::new(alloc),
-        sent: Some(Sent {
-            status: StatusCode::OK,
-            body: 0,
-        }),
-    };
+    let status = StatusCode::OK;
+    let line = log.line(alloc, 0, Some(Sent { status, body: 0 }));
     peers.end(writer, line, log);
     Some(())
 }
@@ -63,14 +57,15 @@ impl Log for Ends {
 
     fn asked(&mut self, _method: &[u8], _path: Shown<'_>) {}
 
-    fn ended(&mut self, _moment: u64, _sent: Option<Sent>) {}
+    fn failed(&mut self, _fault: Fault) {}
 }
 
 impl LineLog for Ends {
     fn asked_in_front(&mut self, _method: &[u8], _path: Option<&[u8]>) {}
 
-    fn taken(&mut self, alloc: Global) -> Vec<u8> {
-        Vec::new(alloc)
+    fn line(&mut self, alloc: Global, moment: u64, sent: Option<Sent>) -> LogLine {
+        let mut nothing = Unlogged;
+        nothing.line(alloc, moment, sent)
     }
 
     fn told(&mut self, line: LogLine) {

@@ -30,7 +30,7 @@ returns-in-Err g c request is =
     g.K.Keeper.FAILS c.args.office.now (call_at c.args.moment r) storage c.answer_to.new.office)
     (c.parts-parts.ensures request is)
     (record {
-      result = Err c.in-Err.field-0;
+      result = Err c.in-Err.fault;
       is_told = refl;
       gives = record {
         answers = told.answer;
