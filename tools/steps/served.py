@@ -70,14 +70,17 @@ def request_of(client):
     return heard
 
 
-def met(case, words, answer):
-    """What the program sends to a peer that gives this answer, at PORT of its words, and what the program gives."""
+def met(case, words, answer, is_endless=False):
+    """What the program sends to a peer that gives this answer, or gives it without end, at PORT of its words, and what the program gives."""
     def meet(held):
         held.settimeout(60)
         with held.accept()[0] as client:
             client.settimeout(60)
             heard = request_of(client)
             client.sendall(answer)
+            with contextlib.suppress(ConnectionError):
+                while is_endless:
+                    client.sendall(answer)
         return heard
 
     with listener() as held, ThreadPoolExecutor(1) as peers:
@@ -87,6 +90,12 @@ def met(case, words, answer):
 
 def is_misled(case, words, given, wanted):
     wants(met(case, words, given)[0], (1, b'', wanted), words)
+
+
+def is_flooded(case, words, given, wanted):
+    begun = time.monotonic()
+    wants(met(case, words, given, is_endless=True)[0], (1, b'', wanted), words)
+    wants(time.monotonic() - begun < 10, True, f'{words}, which ends within ten seconds')
 
 
 def sends(case, words, given, wanted):
