@@ -122,7 +122,7 @@ def judge_files(office, site):
         tally.judge(len(page) <= 4 * len(listed) + 65_536, f'{name}.html has {len(page)} bytes, its listing {len(listed)}')
     tally.judge(files['blocks.csv'] == office.listing(None).encode(), 'blocks.csv is no listing')
     for path in site.rglob('*'):
-        tally.judge(path.stat().st_mode & 0o444 == 0o444, f'not everybody can read {path}')
+        tally.judge(path.stat().st_mode & 0o777 == (0o755 if path.is_dir() else 0o644), f'{path} has another mode')
     pages.judge_changes(tally, site, records)
     pages.judge_feed(tally, site, records, 'Registries')
 

@@ -203,6 +203,16 @@ def is_locked(case, folder_and_words, given, wanted):
         os.close(held)
 
 
+def is_done_under(case, mask_and_words, given, wanted):
+    mask, _, words = mask_and_words.partition(' ')
+    wants(case.run(words, given, umask=int(mask, 8)), (0, wanted, b''), words)
+
+
+def make_link(case, name_and_target, given, wanted):
+    name, _, target = name_and_target.partition(' ')
+    case.path(name).symlink_to(target)
+
+
 def is_held(case, file_and_words, given, wanted):
     file, _, words = file_and_words.partition(' ')
     before = case.files()
@@ -224,3 +234,9 @@ def carry_out(case, file_and_statement, given, wanted):
 def are_private(case, files, given, wanted):
     for file in files.split(' '):
         wants(oct(case.path(file).stat().st_mode & 0o777), '0o600', file)
+
+
+def are_public(case, folder, given, wanted):
+    top = case.path(folder)
+    for path in (top, *top.rglob('*')):
+        wants(oct(path.stat().st_mode & 0o777), '0o755' if path.is_dir() else '0o644', path.relative_to(case.folder))

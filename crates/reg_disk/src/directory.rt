@@ -5,13 +5,14 @@ ghost use Rattle.reg_disk.specs.Names.{names_by};
 
 use crate::disk::{Disk, SystemDisk};
 use crate::folder::{Folder, MOST_READ_BYTES};
+use crate::modes::{make_folder, make_folders};
 use crate::replacement::{Names, put};
 use reg_pages::portions::Portions;
 use reg_site::files::File;
 use reg_source::bounded::read_up_to;
 use reg_source::unpublished::{Unpublished, unwritten};
 use std::alloc::{AllocError, Global};
-use std::fs::{Files, create_dir_all};
+use std::fs::Files;
 
 /// A folder of a disk. The bytes of a file are compared with those of the file that is there. From the
 /// first other byte on it is written beside its place, under the name `.new`, with all bytes before;
@@ -25,13 +26,15 @@ pub struct Directory<D> {
 
 impl<'a, H: Files> Directory<SystemDisk<'a, H>> {
     /// The folder at a path, with a folder `registries` in it. Both are made where they are not
-    /// there. `Write` where they cannot be, or the path is empty.
+    /// there, for everybody to read. `Write` where they cannot be, the path is empty, or a link stands in the
+    /// place of `registries`.
     pub fn open(rt: &'a H, alloc: Global, path: &str) -> Result<Self, Unpublished> {
         if path.is_empty() {
             return Err(Unpublished::Write);
         }
+        make_folders(rt, path).map_err(unwritten)?;
         let inner = format!(in alloc; "{path}/registries")?;
-        create_dir_all(rt, inner.as_str()).map_err(unwritten)?;
+        make_folder(rt, inner.as_str()).map_err(unwritten)?;
         let path = String::from_str(alloc, path)?;
         Ok(Directory {
             disk: SystemDisk { rt },

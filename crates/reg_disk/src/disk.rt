@@ -2,9 +2,10 @@
 ghost use Rattle.std.specs.Prelude.{◌≡◌, [], ◌∷◌, ◌++◌, Some, IfOk, IfSome, OnOk, option_map};
 ghost use Rattle.reg_disk.specs.Disk.{Created, DoesOneStep, Kept, NamesKept, Removed, Renamed};
 
+use crate::modes::{READ_BY_ALL, create_file};
 use reg_source::unpublished::{Unpublished, unread, unwritten};
 use std::fs;
-use std::fs::{File, Files, OpenFile};
+use std::fs::{Files, OpenFile};
 use std::io::{ErrorKind, Read, Write};
 
 /// What keeps files under names. A file is made, written, and kept; then it may take another name.
@@ -76,7 +77,8 @@ pub trait Disk {
         ensures { Tells → done self.new ≡ done self.old ++ Removed name.now ∷ [] };
 }
 
-/// The file system of a machine. Nothing is known of it: no contract can say what a disk holds.
+/// The file system of a machine, where everybody reads new files. Nothing is known of it: no contract can say
+/// what a disk holds.
 #[derive(Drop)]
 pub struct SystemDisk<'a, H> {
     /// Its runtime.
@@ -103,7 +105,7 @@ impl<H: Files> Disk for SystemDisk<'_, H> {
     }
 
     fn create(&mut self, name: &str) -> Result<H::File, Unpublished> {
-        File::create_new(self.rt, name).map_err(unwritten)
+        create_file(self.rt, name, READ_BY_ALL).map_err(unwritten)
     }
 
     fn add(&self, draft: &mut H::File, bytes: &[u8]) -> Result<(), Unpublished> {

@@ -4,4 +4,5 @@
 pub mod directory;
 pub mod disk;
 pub mod folder;
+pub mod modes;
 pub mod replacement;

@@ -7,7 +7,7 @@ use reg_source::unpublished::Unpublished;
 use reg_testing::facts::ensure;
 use reg_testing::folders::folder_for;
 use std::alloc::{Allocator, Global};
-use std::fs::{Files, Metadata, OpenFile, OpenOptions};
+use std::fs::{Files, Metadata, OpenFile, OpenOptions, Permissions};
 use std::io::{ErrorKind, Read, Seek, SeekFrom, Write};
 use std::test::Fail;
 use std::{fs, io};
@@ -67,6 +67,10 @@ impl OpenFile for UnkeptFile {
 
     fn sync_data(&self) -> io::Result<()> {
         self.sync_all()
+    }
+
+    fn set_permissions(&self, perm: Permissions) -> io::Result<()> {
+        self.file.set_permissions(perm)
     }
 }
 
