@@ -1,16 +1,18 @@
 // What clerks do: decide requests, define registries, add prefixes, hold allocations, and hand out tokens.
 import { Refusal, ask } from './office.js';
-import { attempt, badge, button, control, details, element, focusOn, form, say, sure, table } from './dom.js';
+import { attempt, badge, button, control, copyable, details, element, focusOn, form, say, sure, table } from './dom.js';
 import {
-  CAPABILITIES, COUNTS, POLICIES, STATES, dayOf, endOf, faultOf, grantOf, hexOf, inWords, opinionsOf, outcome, policyOf, rangesOf, rowsOf,
+  CAPABILITIES, COUNTS, POLICIES, STATES, dayOf, endOf, faultOf, grantOf, hexOf, inWords, opinionsOf, outcome, rangesOf, rowsOf,
 } from './forms.js';
+import { adviceLacking, byExpiry, effectOf, expertsAmong, lossOf, nextWaiting, noteLine, policyFor, rivalsOf } from './cases.js';
 import { faultInWords } from './errors.js';
 
 // ---- Requests
 
 /** The requests that wait, each with its experts and what they recommend. */
 export async function waiting(app) {
-  return requestTable(app, await ask('GET', '/desk/pending'), { caption: 'Requests that wait', empty: 'No request waits.', last: ['Experts', opinionsOf] });
+  const rows = await ask('GET', '/desk/pending');
+  return requestTable(app, rows, { caption: 'Requests that wait', empty: 'No request waits.', last: ['Experts', opinionsOf] });
 }
 
 /** All requests. */
@@ -20,26 +22,28 @@ export async function everything(app) {
 }
 
 function requestTable(app, rows, { last: [title, told], ...texts }) {
-  const open = row => button('Open', () => openCase(app, row), { 'aria-label': `Open ${row.reference} of ${row.account}` });
-  const cells = row => [row.account, row.reference, inWords(row.ask), badge(row.state, STATES[row.state] ?? row.state), told(row), open(row)];
-  return table({ ...texts, columns: ['Account', 'Reference', 'Request', 'State', title, 'Actions'], rows, cells, quiet: true });
+  const open = row => button('Open', () => openCase(app, row, rows), { 'aria-label': `Open ${row.reference} of ${row.account}` });
+  const state = row => (texts.states ? [badge(row.state, STATES[row.state] ?? row.state)] : []);
+  const cells = row => [row.account, row.reference, inWords(row.ask), ...state(row), told(row), open(row)];
+  const columns = ['Account', 'Reference', 'Request', ...texts.states ? ['State'] : [], title, 'Actions'];
+  return table({ ...texts, columns, rows, cells, quiet: true });
 }
 
-// Opens a request with its evidence, its experts and their advice.
-async function openCase(app, { account, reference }, message) {
-  const title = `Request ${reference} of ${account}`, path = `${account}/${reference}`;
-  await app.open(title, async () => {
-    const row = await ask('GET', `/desk/requests/${path}`), place = element('div'), note = element('p', { class: 'note', role: 'status', hidden: true });
-    const again = text => openCase(app, row, text);
-    const result = outcome(row) ? [['Result', outcome(row)]] : [];
-    const told = [['Applicant', account], ['Reference', reference], ['State', STATES[row.state] ?? row.state], ...result, ...rowsOf(row.ask)];
-    const parts = [details(told), experts(row)];
-    if (row.state === 'pending') {
-      explain(row, note);
-      const approve = button('Approve', () => decide(row, place, again));
-      parts.push(note, place, element('p', { class: 'actions' }, approve), element('div', { class: 'columns' }, assignment(path, again), refusal(path, row, again)));
-    }
-    return element('div', {}, parts);
+// ---- A case
+
+// Opens a request of a list with its evidence, its experts and their advice. `before` is shown above it.
+async function openCase(app, listed, rows, { message, before } = {}) {
+  const { account, reference } = listed;
+  await app.open(`Request ${reference} of ${account}`, async () => {
+    const row = await ask('GET', `/desk/requests/${account}/${reference}`);
+    const page = row.ask.kind === 'block' ? null : await ask('GET', `/registries/${row.ask.registry}`);
+    listed.state = row.state;
+    const result = outcome(row) ? [['Result', outcome(row)]] : [], state = STATES[row.state] ?? row.state;
+    const told = [['Applicant', account], ['Reference', reference], ['State', state], ...result, ...rowsOf(row.ask)];
+    const next = nextWaiting(rows, row), go = (one, more) => openCase(app, one, rows, more);
+    const onward = next ? button('Next waiting request', () => go(next), { class: row.state === 'pending' ? 'plain' : undefined }) : null;
+    const parts = row.state === 'pending' ? decision({ row, page, rows, listed, next, onward, go }) : element('p', { class: 'actions' }, onward);
+    return element('div', {}, before, details(told), experts(row), parts);
   }, message);
 }
 
@@ -49,43 +53,69 @@ function experts({ experts, advice }) {
   return table({ caption: 'Experts', columns: ['Account', 'Recommendation', 'Advice'], rows, empty: 'No expert is assigned.', cells });
 }
 
-// Says under which policy the request falls, and what is still missing.
-async function explain({ ask: wish, advice }, note) {
-  if (wish.kind === 'block') return;
-  const page = await ask('GET', `/registries/${wish.registry}`).catch(() => null);
-  const policy = policyOf(wish.kind, { ...wish, wish: wish.least ? 'least' : 'value', value: String(wish.value ?? '') }, page);
-  if (!POLICIES[policy]) return;
-  const needsExpert = ['expert-review', 'specification-required'].includes(policy) && wish.kind !== 'renew';
-  const missing = needsExpert && !advice.some(({ verdict }) => verdict === 'for') ? ' No expert has recommended it yet.' : '';
-  note.textContent = `${POLICIES[policy].title} (RFC 8126, section ${POLICIES[policy].section}).${missing}`;
-  note.hidden = false;
+// The refusals of an approval that a look at the case explains.
+const MOVED = ['taken', 'exhausted', 'permanent', 'renewed', 'advice', 'closed'];
+
+// What an approval would do, and the ways to decide.
+function decision({ row, page, rows, listed, next, onward, go }) {
+  const { account, reference } = row, path = `${account}/${reference}`, place = element('div');
+  const loss = lossOf(row, page), bar = loss ? `${loss} Decline this request.` : adviceLacking(row, page);
+  const policy = page && POLICIES[policyFor(row.ask, page)], told = bar ?? effectOf(row, page);
+  const says = policy ? `${policy.title} (RFC 8126, section ${policy.section}). ${told}` : told;
+  const note = element('div', { class: 'note', id: 'prospect' }, element('p', {}, says), rivalry(rivalsOf(row, page, rows), go));
+  const done = async (decided, answer) => {
+    listed.state = decided.state;
+    const message = `${STATES[decided.state]}: ${reference} of ${account}. ${outcome(decided)}`;
+    await go(answer === 'more' ? next : listed, { message, before: noteCard(decided) });
+  };
+  const approve = async () => {
+    const answer = bar ? say(bar) : await sure(`${told} You cannot undo this.`, 'Approve', { more: next && 'Approve and open the next' });
+    if (answer) await attempt(place, async () => {
+      const decided = await ask('PUT', `/desk/approve/${path}`).catch(error => { if (!MOVED.includes(error.error)) throw error; });
+      await (decided ? done(decided, answer) : go(listed, { message: 'This was not approved, since something has changed meanwhile.' }));
+    });
+  };
+  const actions = element('p', { class: 'actions' },
+    button('Approve', approve, { 'aria-disabled': bar ? 'true' : undefined, 'aria-describedby': 'prospect' }), onward);
+  return [note, place, actions, element('div', { class: 'columns' }, assignment(listed, path, go), refusal(listed, path, next, done))];
 }
 
-async function decide({ account, reference, ask: wish }, place, again) {
-  if (!await sure(`Approve ${reference} of ${account}? ${inWords(wish)}. An approval cannot be undone.`, 'Approve')) return;
-  await attempt(place, async () => {
-    const row = await ask('PUT', `/desk/approve/${account}/${reference}`);
-    await again(`Approved. ${outcome(row)}.`);
-  });
+function rivalry(rivals, go) {
+  if (!rivals.length) return null;
+  const wants = rivals.length === 1 ? '1 other request wants' : `${rivals.length} other requests want`;
+  return [element('p', {}, `${wants} just this value. The first to be approved gets it.`), element('p', { class: 'actions' },
+    rivals.slice(0, 10).map(one => button(`Open ${one.reference} of ${one.account}`, () => go(one), { class: 'plain' })))];
 }
 
-function assignment(path, again) {
+function noteCard(row) {
+  const line = noteLine(row), about = 'With it the site shows the reference. Add it to notes.csv, in place of any other line about this value.';
+  const title = element('h3', {}, `Line for notes.csv, from ${row.reference} of ${row.account}`);
+  return line && element('section', { class: 'card' }, title, element('p', {}, about), copyable(line, 'line'));
+}
+
+// Experts are those who have an expert's token. Another account is asked about first, since it gets to read the request.
+function assignment(listed, path, go) {
+  const field = control('expert'), names = element('datalist', { id: 'experts' });
+  const known = ask('GET', '/desk/tokens').then(rows => expertsAmong(rows, Date.now() / 1000, listed.account)).catch(() => []);
+  known.then(accounts => names.replaceChildren(...accounts.map(value => element('option', { value }))));
+  field.input.setAttribute('list', 'experts');
+  const assign = async ({ expert }) => {
+    const isKnown = (await known).includes(expert);
+    const question = `${expert} has no expert's token. It would get to read this request, and cannot be removed. Is the spelling right?`;
+    if (!isKnown && !await sure(question, `Assign ${expert}`)) return;
+    await ask('PUT', `/desk/experts/${path}/${expert}`);
+    await go(listed, { message: `The request is assigned to ${expert}.` });
+  };
+  return form({ title: 'Ask an expert', verb: 'Assign', look: 'plain', controls: [field], parts: [field.node, names], send: assign });
+}
+
+function refusal({ account, reference }, path, next, done) {
   return form({
-    title: 'Ask an expert', verb: 'Assign', controls: [control('expert')],
-    send: async ({ expert }) => {
-      await ask('PUT', `/desk/experts/${path}/${expert}`);
-      await again(`The request is assigned to ${expert}.`);
-    },
-  });
-}
-
-function refusal(path, { reference }, again) {
-  return form({
-    title: 'Decline', verb: 'Decline', controls: [control('reason')],
+    title: 'Decline', verb: 'Decline', look: 'stop', controls: [control('reason')],
     send: async ({ reason }) => {
-      if (!await sure(`Decline ${reference} for this reason? "${reason}" This cannot be undone.`, 'Decline')) return;
-      await ask('PUT', `/desk/decline/${path}`, { reason });
-      await again('The request is declined.');
+      const question = `Decline ${reference} of ${account} for this reason? "${reason}" You cannot undo this.`;
+      const answer = await sure(question, 'Decline', { stop: true, more: next && 'Decline and open the next' });
+      if (answer) await done(await ask('PUT', `/desk/decline/${path}`, { reason }), answer);
     },
   });
 }
@@ -100,6 +130,7 @@ export async function registries(app) {
   return element('div', {}, list, definition(app));
 }
 
+const HELD = 'An early allocation that is held does not expire until it is released.';
 const words = treatment => (treatment === 'reserved' ? 'Reserved' : POLICIES[treatment]?.title ?? treatment);
 
 function rangeTable(caption, ranges) {
@@ -110,21 +141,33 @@ function rangeTable(caption, ranges) {
 function openRegistry(app, name, message) {
   return app.open(`Registry ${name}`, async () => {
     const page = await ask('GET', `/registries/${name}`), place = element('div');
-    const early = page.entries.filter(({ expires }) => expires);
-    const hold = (value, held) => attempt(place, async () => {
-      await ask('PUT', `/desk/holds/${name}/${value}`, { held });
-      await openRegistry(app, name, held ? `Value ${value} is held: it does not expire.` : `Value ${value} is released: it expires as its day says.`);
-    });
-    const action = ({ value, held, status }) => {
-      if (held) return button('Release', () => hold(value, false), { 'aria-label': `Release value ${value}` });
-      return status === 'Temporary' ? button('Hold', () => hold(value, true), { 'aria-label': `Hold value ${value}` }) : '';
-    };
-    const cells = entry => [String(entry.value), entry.label, entry.assignee, entry.held ? 'Held' : entry.status, entry.expires, action(entry)];
-    const columns = ['Value', 'Name', 'Account', 'Status', 'Expires', 'Actions'];
-    return element('div', {}, place, details([['Largest value', String(page.max)], ['Entries', String(page.entries.length)]]), rangeTable('Ranges', page.ranges),
-      element('p', {}, 'An early allocation that is held does not expire until it is released.'),
-      table({ caption: 'Early allocations', columns, rows: early, cells, empty: 'There are no early allocations.' }));
+    const told = details([['Largest value', String(page.max)], ['Entries', String(page.entries.length)]]);
+    return element('div', {}, place, told, rangeTable('Ranges', page.ranges), element('p', {}, HELD),
+      earlyTable('Early allocations', byExpiry([page]), place, text => openRegistry(app, name, text)));
   }, message);
+}
+
+/** The early allocations of all registries, the next to expire first. */
+export async function due(app) {
+  const pages = [], place = element('div'), soon = dayOf(Date.now() / 1000 + 30 * 86400);
+  for (const name of await ask('GET', '/registries')) pages.push(await ask('GET', `/registries/${name}`));
+  const rows = byExpiry(pages), { length } = rows.filter(({ status, held, expires }) => status === 'Temporary' && !held && expires <= soon);
+  const told = length ? `${length === 1 ? '1 allocation expires' : `${length} allocations expire`} by ${soon}.` : `Nothing expires by ${soon}.`;
+  return element('div', {}, element('p', {}, `${told} ${HELD}`), place, earlyTable('Due to expire', rows, place, text => app.go('due', text), true));
+}
+
+// Early allocations, each with a button that holds or releases it.
+function earlyTable(caption, rows, place, again, quiet) {
+  const hold = ({ registry, value }, held) => attempt(place, async () => {
+    await ask('PUT', `/desk/holds/${registry}/${value}`, { held });
+    await again(`Value ${value} of ${registry} is ${held ? 'held: it does not expire.' : 'released: it expires as its day says.'}`);
+  });
+  const action = (row, verb, held) => button(verb, () => hold(row, held), { 'aria-label': `${verb} value ${row.value} of ${row.registry}` });
+  const act = row => (row.held ? action(row, 'Release', false) : row.status === 'Temporary' ? action(row, 'Hold', true) : '');
+  const status = row => (row.held ? 'Held' : row.status);
+  const cells = row => [row.expires, row.registry, String(row.value), row.label, row.assignee, status(row), act(row)];
+  const columns = ['Expires', 'Registry', 'Value', 'Name', 'Account', 'Status', 'Actions'];
+  return table({ caption, columns, rows, cells, quiet, empty: 'There are no early allocations.' });
 }
 
 // A new registry from a CSV file, after a look at its ranges.
@@ -216,14 +259,9 @@ function grant(app, shown, fill) {
 function show(app, place, token, { account, kind, until }) {
   const title = element('h3', {}, `The token of ${account}`);
   const hide = () => { place.replaceChildren(); app.go('tokens', 'The token is hidden.'); };
-  const copy = async event => {
-    const text = event.target.closest('section').querySelector('output').textContent;
-    const done = await navigator.clipboard.writeText(text).then(() => true, () => false);
-    say(done ? 'The token is copied.' : 'The browser does not allow that. Select the token and copy it by hand.');
-  };
-  place.replaceChildren(element('section', { class: 'card' }, title, element('output', { class: 'token' }, token),
-    element('p', {}, `${CAPABILITIES[kind]}, valid through ${until}. Hand it to ${account} so that nobody else sees it. This page shows it only now. If it is lost, take it away below and make another.`),
-    element('p', { class: 'actions' }, button('Copy', copy), button('Done, hide it', hide, { class: 'plain' }))));
+  const about = `${CAPABILITIES[kind]}, valid through ${until}. Hand it to ${account} so that nobody else sees it, with the address of this page,`
+    + ` ${location.origin}${location.pathname}. The page shows the token only now. If it is lost, revoke it below and make another.`;
+  place.replaceChildren(element('section', { class: 'card' }, title, element('p', {}, about), copyable(token, 'token', button('Done, hide it', hide, { class: 'plain' }))));
   focusOn(title);
 }
 
@@ -260,9 +298,8 @@ function tokenTable(app, rows) {
 
 // ---- Counts
 
-/** How much the office has at this moment. */
+/** How much the office has at this moment, and how many requests wait. */
 export async function counts() {
-  const told = await ask('GET', '/desk/counts');
-  return details(Object.entries(COUNTS).map(([name, title]) => [title, String(told[name])]));
+  const told = await ask('GET', '/desk/counts'), { length } = await ask('GET', '/desk/pending');
+  return details([['Waiting requests', String(length)], ...Object.entries(COUNTS).map(([name, title]) => [title, String(told[name])])]);
 }
-

@@ -12,8 +12,8 @@ const SECTIONS = {
   },
   expert: { queue: ['Requests to review', expert.queue] },
   clerk: {
-    waiting: ['Waiting', clerk.waiting], requests: ['All requests', clerk.everything], registries: ['Registries', clerk.registries],
-    pool: ['Prefixes', clerk.pool], tokens: ['Tokens', clerk.tokens], counts: ['Counts', clerk.counts],
+    waiting: ['Waiting', clerk.waiting], requests: ['All requests', clerk.everything], due: ['Due to expire', clerk.due],
+    registries: ['Registries', clerk.registries], pool: ['Prefixes', clerk.pool], tokens: ['Tokens', clerk.tokens], counts: ['Counts', clerk.counts],
   },
 };
 const HOUR = 3600000, LOOK = 10000;

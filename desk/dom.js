@@ -118,11 +118,11 @@ export function choice(legend, name, options, value, onchange) {
 
 /**
  * A form. `controls` gives its controls, `check` the faults of its values by field, and `send` does what it is for; what `send` throws is
- * shown beside the field to which it belongs, or above the form. `calm` hides what is shown above.
+ * shown beside the field to which it belongs, or above the form. `calm` hides what is shown above. `look` is the class of its button.
  */
-export function form({ title, controls, parts, verb, check, send, autocomplete = 'off' }) {
+export function form({ title, controls, parts, verb, check, send, autocomplete = 'off', look }) {
   const problem = element('div', { class: 'problem', role: 'alert', hidden: true });
-  const submit = element('button', { type: 'submit' }, verb);
+  const submit = element('button', { type: 'submit', class: look }, verb);
   let busy = false;
   const now = () => (typeof controls === 'function' ? controls() : controls);
   const values = () => Object.fromEntries(now().map(one => [one.name, one.get()]));
@@ -220,14 +220,29 @@ export const details = rows => element('dl', {}, rows.map(([name, text]) => elem
 /** A state as a word with a mark of its own. */
 export const badge = (state, text) => element('span', { class: `badge ${state}` }, text);
 
-/** Asks before something that cannot be undone. */
-export function sure(question, verb) {
+/**
+ * Asks before something that cannot be undone. Gives `yes`, or `more` for a second way to go on, or an empty text. What declines or revokes is a
+ * `stop`.
+ */
+export function sure(question, verb, { stop = false, more } = {}) {
   return new Promise(done => {
-    const dialog = element('dialog', { 'aria-labelledby': 'question', onclose: () => { dialog.remove(); done(dialog.returnValue === 'yes'); } },
+    const close = answer => () => dialog.close(answer);
+    const dialog = element('dialog', { 'aria-labelledby': 'question', onclose: () => { dialog.remove(); done(dialog.returnValue); } },
       element('p', { id: 'question' }, question),
-      element('p', { class: 'actions' }, button(verb, () => dialog.close('yes')),
-        button('Cancel', () => dialog.close('no'), { class: 'plain', autofocus: true })));
+      element('p', { class: 'actions' }, button(verb, close('yes'), { class: stop ? 'stop' : undefined }),
+        more ? button(more, close('more'), { class: stop ? 'stop plain' : 'plain' }) : null,
+        button('Cancel', close(''), { class: 'plain', autofocus: true })));
     document.body.append(dialog);
     dialog.showModal();
   });
+}
+
+/** A text to copy, called `name`, and a button for that beside others. */
+export function copyable(text, name, ...more) {
+  const output = element('output', { class: 'token' }, text);
+  const copy = async () => {
+    const done = await navigator.clipboard.writeText(output.textContent).then(() => true, () => false);
+    say(done ? `The ${name} is copied.` : `The browser does not allow that. Select the ${name} and copy it by hand.`);
+  };
+  return [output, element('p', { class: 'actions' }, button('Copy', copy), more)];
 }

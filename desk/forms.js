@@ -117,6 +117,15 @@ export function freeUnder(page, policy) {
   return ranges.reduce((sum, { lo, hi }) => sum + hi - lo + 1, 0) - taken;
 }
 
+/** The lowest value under a policy that has no entry, if there is one. */
+export function leastFree(page, policy) {
+  const taken = new Set(page.entries.map(({ value }) => value));
+  for (const { lo, hi } of page.ranges.filter(({ treatment }) => treatment === policy)) {
+    for (let value = lo; value <= hi; value += 1) if (!taken.has(value)) return value;
+  }
+  return undefined;
+}
+
 /** The policies of a registry under which a kind of request can be made, each once. */
 export function openPolicies(page, kind) {
   return [...new Set(page.ranges.map(({ treatment }) => treatment))].filter(policy => isOpen(kind, policy));

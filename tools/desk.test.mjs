@@ -1,19 +1,18 @@
 // Tests what the page in desk/ does without a document: forms to bodies, errors to sentences, policies to evidence.
 // usage: node --test tools/desk.test.mjs
 import assert from 'node:assert/strict';
-import { mkdtempSync, readFileSync, rmSync, writeFileSync } from 'node:fs';
+import { cpSync, mkdtempSync, readFileSync, rmSync, writeFileSync } from 'node:fs';
 import { tmpdir } from 'node:os';
 import { after, test } from 'node:test';
 
 const read = path => readFileSync(new URL(`../${path}`, import.meta.url), 'utf8');
-// Node takes a file of this name for a module, which a page does without being told.
+// Node has to be told that these are modules.
 const folder = mkdtempSync(`${tmpdir()}/desk-`);
 after(() => rmSync(folder, { recursive: true }));
-const load = name => {
-  writeFileSync(`${folder}/${name}.mjs`, read(`desk/${name}`));
-  return import(`file://${folder}/${name}.mjs`);
-};
-const forms = await load('forms.js'), errors = await load('errors.js');
+cpSync(new URL('../desk', import.meta.url), folder, { recursive: true });
+writeFileSync(`${folder}/package.json`, '{"type":"module"}');
+const load = name => import(`file://${folder}/${name}`);
+const forms = await load('forms.js'), errors = await load('errors.js'), cases = await load('cases.js');
 
 const range = (lo, hi, treatment) => ({ lo, hi, treatment, note: '' });
 const PAGE = {
@@ -145,6 +144,77 @@ test('what a policy says, how much is free, and which is offered first', () => {
   assert.match(forms.noteOn('code', wish(250), PAGE), /reserved/);
   assert.equal(forms.noteOn('code', wish(''), PAGE), '');
   assert.match(forms.noteOn('code', { ...wish(''), wish: 'least', least: 'iesg-approval' }, PAGE), /9 values are free/);
+});
+
+const SOME = { code: { contact: 'C', kind: 'code', label: 'L', registry: 'codes' }, draft: { ...EARLY, label: 'L', registry: 'codes' } };
+const waits = (account, ask, more = {}) => ({ account, reference: `${account}-1`, state: 'pending', experts: [], advice: [], ask, ...more });
+const code = more => ({ ...SOME.code, ...more });
+const HELD = {
+  ...PAGE,
+  entries: [{ value: 0, assignee: 'acme' }, { value: 1, assignee: 'bob' }, { value: 25, assignee: 'acme', expires: '2027-01-01', renewed: true },
+    { value: 26, assignee: 'acme' }, { value: 3, assignee: 'bob' }],
+};
+
+test('what an approval would do now', () => {
+  const effect = ask => cases.effectOf(waits('acme', ask), HELD);
+  assert.equal(effect(code({ value: 5 })), 'Approve gives acme value 5 of codes.');
+  assert.equal(effect(code({ least: 'first-come-first-served' })), 'Approve gives acme value 2 of codes, the lowest that is free now.');
+  assert.equal(effect({ ...SOME.draft, kind: 'early', least: 'specification-required' }), 'Approve gives acme value 20 of codes, the lowest that is free now, for one year.');
+  assert.equal(effect({ ...SOME.draft, kind: 'renew', value: 25 }), 'Approve renews value 25 of codes for one year.');
+  assert.equal(effect({ ...SOME.code, kind: 'permanent', value: 25 }), 'Approve makes value 25 of codes permanent.');
+  assert.equal(effect({ kind: 'block', size: 'MA-S' }), 'Approve gives acme the next free block of size MA-S.');
+  assert.equal(forms.leastFree({ ranges: [range(0, 0, 'iesg-approval'), range(1, 1, 'reserved'), range(2, 2, 'iesg-approval')], entries: [{ value: 0 }] }, 'iesg-approval'), 2);
+});
+
+test('a request that cannot be approved any more says why', () => {
+  const loss = ask => cases.lossOf(waits('zoe', ask), HELD);
+  assert.equal(loss(code({ value: 3 })), 'Value 3 was assigned to bob meanwhile.');
+  assert.equal(loss(code({ value: 4 })), undefined);
+  assert.equal(loss({ ...SOME.code, kind: 'permanent', value: 26 }), 'Value 26 was made permanent meanwhile.');
+  assert.match(loss({ ...SOME.draft, kind: 'renew', value: 25 }), /renewed before/);
+  assert.equal(loss({ ...SOME.draft, kind: 'renew', value: 25, iesg: 'M' }), undefined);
+  assert.equal(loss({ kind: 'block', size: 'MA-S' }), undefined);
+  assert.equal(cases.lossOf(waits('zoe', code({ least: 'rfc-required' })), { entries: [], ranges: [range(0, 9, 'iesg-approval')] }), 'No value is free under RFC Required.');
+});
+
+test('which expert has not advised yet, until one recommends it', () => {
+  const lacking = (ask, experts, advice) => cases.adviceLacking(waits('acme', ask, { experts, advice: advice.map(([expert, verdict]) => ({ expert, verdict })) }), PAGE);
+  const ends = 'You can approve once an expert recommends it.', least = code({ least: 'specification-required' });
+  assert.equal(lacking(code({ value: 10 }), [], []), `No expert is assigned. ${ends}`);
+  assert.equal(lacking(code({ value: 10 }), ['xan'], []), `xan has not advised yet. ${ends}`);
+  assert.equal(lacking(least, ['xan', 'yve', 'zed'], [['xan', 'against']]), `yve and zed have not advised yet. xan is against it. ${ends}`);
+  assert.equal(lacking(least, ['xan', 'yve'], [['xan', 'against'], ['yve', 'for']]), undefined);
+  assert.equal(lacking(code({ value: 5 }), [], []), undefined);
+  assert.equal(lacking({ kind: 'renew', value: 25, registry: 'codes' }, [], []), undefined);
+  assert.equal(lacking({ kind: 'permanent', value: 25, registry: 'codes' }, [], []), `No expert is assigned. ${ends}`);
+});
+
+test('others who want just this value, and the next that waits', () => {
+  const rows = [waits('acme', code({ value: 2 })), waits('bob', code({ least: 'first-come-first-served' })), waits('cid', code({ value: 2 }), { state: 'declined' }),
+    waits('dan', { ...SOME.draft, kind: 'early', value: 2 }), waits('eve', code({ value: 2, registry: 'other' })), waits('fay', { kind: 'block', size: 'MA-S' })];
+  const rivals = row => cases.rivalsOf(row, HELD, rows).map(({ account }) => account);
+  assert.deepEqual(rivals(rows[0]), ['dan']);
+  assert.deepEqual(rivals(rows[1]), ['acme', 'dan']);
+  assert.deepEqual(rivals(rows[5]), []);
+  const next = row => cases.nextWaiting(rows, row)?.account;
+  assert.deepEqual([next(rows[0]), next(rows[1]), next(rows[5]), next({ account: 'old', reference: 'o' })], ['bob', 'dan', 'acme', 'acme']);
+  assert.equal(cases.nextWaiting(rows.slice(0, 1), rows[0]), undefined);
+});
+
+test('the line for notes.csv, experts to choose from, and what expires next', () => {
+  const line = (ask, given) => cases.noteLine({ ask, given });
+  assert.equal(line(code({ rfc: { number: 9999 } }), '270'), 'codes,270,,RFC 9999,');
+  assert.equal(line(code({ specification: 'The "S", 2nd' }), '5'), 'codes,5,,"The ""S"", 2nd",');
+  assert.equal(line({ ...SOME.draft, kind: 'early' }, '7'), 'codes,7,,draft-x-00,');
+  assert.equal(line(code({}), '7'), undefined);
+  assert.equal(line({ kind: 'block' }, '001A2B'), undefined);
+  assert.equal(line(code({ rfc: { number: 1 } })), undefined);
+  const caps = [['xan', 'expert', 20], ['yve', 'expert', 5], ['amy', 'expert', 20], ['xan', 'expert', 30], ['bob', 'applicant', 20]].map(([account, kind, until]) => ({ account, kind, until }));
+  assert.deepEqual(cases.expertsAmong(caps, 10, 'amy'), ['xan']);
+  const entry = (value, expires, status, held) => ({ value, expires, status, ...held && { held } });
+  const pages = [{ name: 'a', entries: [entry(1, '2027-03-01', 'Temporary'), entry(2, '2025-01-01', 'Expired'), { value: 3, status: 'Assigned' }] },
+    { name: 'b', entries: [entry(4, '2027-01-01', 'Temporary'), entry(5, '2026-01-01', 'Temporary', true)] }];
+  assert.deepEqual(cases.byExpiry(pages).map(({ registry, value }) => `${registry}${value}`), ['b4', 'a1', 'b5', 'a2']);
 });
 
 test('asks of the transcripts are told in words, and in rows', () => {

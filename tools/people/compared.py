@@ -27,8 +27,9 @@ def counted(office, clerk):
     """The page shows the office's counts."""
     clerk.go('Counts')
     shown = clerk.script('return [...document.querySelectorAll("main dl > div")].map(one => [one.firstChild.textContent, one.lastChild.textContent])')
-    told = office.ask('GET', '/desk/counts', CLERK)
-    judge(shown == [[title, str(told[name])] for name, title in COUNTS.items()] and len(told) == len(COUNTS), f'the page counts {shown} in place of {told}')
+    told, waiting = office.ask('GET', '/desk/counts', CLERK), len(office.ask('GET', '/desk/pending', CLERK))
+    right = [['Waiting requests', str(waiting)], *([title, str(told[name])] for name, title in COUNTS.items())]
+    judge(shown == right and len(told) == len(COUNTS), f'the page counts {shown} in place of {told}')
 
 
 def same_waiting(office, clerk):
@@ -37,6 +38,6 @@ def same_waiting(office, clerk):
     told = office.ask('GET', '/desk/pending', CLERK)
     verdicts = [{one['expert']: one['verdict'] for one in row['advice']} for row in told]
     right = [[row['account'], row['reference'], '; '.join(f'{name}: {given.get(name, "no advice yet")}' for name in row['experts'])] for row, given in zip(told, verdicts)]
-    shown = [[row[0], row[1], row[4]] for row in clerk.rows('Requests that wait')]
+    shown = [[row[0], row[1], row[3]] for row in clerk.rows('Requests that wait')]
     judge(shown == right, f'what waits is {shown} in place of {right}')
     return told

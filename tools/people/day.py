@@ -147,10 +147,7 @@ def experts_and_clerks(office, xan, clerk, token):
     judge(len(wanted) == len(office.ask('GET', '/desk/requests', CLERK)), 'not all wait')
     name = {one['ask'].get('label', 'block'): one['reference'] for one in wanted}
     clerk.click(f'Open {name["Green"]} of alice')
-    clerk.sees('No expert has recommended it yet.')
-    clerk.click('Approve')
-    clerk.click('Approve')
-    clerk.sees('An expert must recommend this request first.')
+    clerk.sees('No expert is assigned. You can approve once an expert recommends it.')
     clerk.fill('Account of the expert', 'xan')
     clerk.click('Assign')
     clerk.status('The request is assigned to xan.')
@@ -181,13 +178,13 @@ def decided(clerk, name):
             clerk.click(f'Open {name[label]} of alice')
         clerk.click('Approve')
         clerk.click('Approve')
-        clerk.status('Approved.')
+        clerk.status('Approved: ')
     clerk.go('Waiting')
     clerk.click(f'Open {name["Red"]} of alice')
     clerk.fill('Reason', 'The RFC is not published.')
     clerk.click('Decline')
     clerk.click('Decline')
-    clerk.status('The request is declined.')
+    clerk.status('Declined: ')
 
 
 def results(office, alice, token, clerk):
@@ -230,7 +227,7 @@ def hold(office, clerk, entry):
     clerk.go('Registries')
     clerk.click('Open codes')
     for verb, mark in [('Hold', True), ('Release', None)]:
-        clerk.click(f'{verb} value {entry["value"]}')
+        clerk.click(f'{verb} value {entry["value"]} of codes')
         clerk.status('is held' if mark else 'is released')
         held = [one.get('held') for one in office.ask('GET', '/registries/codes')['entries'] if one['value'] == entry['value']]
         judge(held == [mark], f'after {verb} the mark is {held}')

@@ -36,7 +36,7 @@ class Person:
     """Somebody at a browser of their own, who clicks and types."""
 
     def __init__(self, profile, address):
-        self.profile, self.address = profile, address
+        self.profile, self.address, self.clicks = profile, address, 0
         self.driver = driver_of(profile)
         self.driver.get(address)
 
@@ -68,6 +68,7 @@ class Person:
         return self.until(lambda: self.script(find, css, name), f'{css} {name!r}')
 
     def click(self, name):
+        self.clicks += 1
         self.named('button, a, summary', name).click()
 
     def control(self, label):
@@ -80,10 +81,12 @@ class Person:
         box.send_keys(text)
 
     def choose(self, label, option):
+        self.clicks += 1
         box = self.control(label)
         self.until(lambda: [one for one in box.find_elements('css selector', 'option') if one.text == option], f'{option!r} of {label!r}')[0].click()
 
     def tick(self, label):
+        self.clicks += 1
         self.control(label).click()
 
     def press(self, *keys):
@@ -111,6 +114,7 @@ class Person:
         self.status('You are signed out.')
 
     def go(self, section):
+        self.clicks += 1
         self.script('window.old = document.querySelector("h2")')
         self.named('nav a', section).click()
         self.until(lambda: self.script('const one = document.querySelector("h2"); return one !== window.old && one.textContent') == section, section)

@@ -50,7 +50,7 @@ def hostile(office, alice, xan, clerk):
     clerk.fill('Reason', HOSTILE[1])
     clerk.click('Decline')
     clerk.click('Decline')
-    clerk.status('The request is declined.')
+    clerk.status('Declined: ')
     alice.go('Agents')
     alice.go('My requests')
     alice.sees(f'Reason: {HOSTILE[1]}')

@@ -1,0 +1,80 @@
+// What an approval would do, what stands in its way, and who else wants the same. Nothing here touches the document or the network.
+import { POLICIES, leastFree, policyOf } from './forms.js';
+
+const isNew = ({ kind }) => kind === 'code' || kind === 'early';
+const isSame = (one, other) => one.account === other.account && one.reference === other.reference;
+
+/** The policy under which an ask falls, if the page of its registry is known. */
+export function policyFor(ask, page) {
+  return policyOf(ask.kind, { ...ask, wish: ask.least ? 'least' : 'value', value: String(ask.value ?? '') }, page);
+}
+
+/** The value that an approval would give now; undefined for a block, or if none is free. */
+export const valueDue = (ask, page) => (ask.least ? leastFree(page, ask.least) : ask.value);
+
+/** What an approval would do now, as a sentence. */
+export function effectOf({ account, ask }, page) {
+  if (ask.kind === 'block') return `Approve gives ${account} the next free block of size ${ask.size}.`;
+  const value = `value ${valueDue(ask, page)} of ${ask.registry}`, lowest = ask.least ? ', the lowest that is free now' : '';
+  return {
+    code: `Approve gives ${account} ${value}${lowest}.`, early: `Approve gives ${account} ${value}${lowest}, for one year.`,
+    renew: `Approve renews ${value} for one year.`, permanent: `Approve makes ${value} permanent.`,
+  }[ask.kind];
+}
+
+/** Why a request can never be approved any more, as a sentence; undefined if it still can. */
+export function lossOf({ ask }, page) {
+  if (ask.kind === 'block' || !page) return undefined;
+  const value = valueDue(ask, page), entry = page.entries.find(one => one.value === value);
+  if (value === undefined) return `No value is free under ${POLICIES[ask.least]?.title ?? ask.least}.`;
+  if (isNew(ask)) return entry && `Value ${value} was assigned to ${entry.assignee} meanwhile.`;
+  if (entry && !entry.expires) return `Value ${value} was made permanent meanwhile.`;
+  const wasRenewed = ask.kind === 'renew' && entry?.renewed && !ask.iesg;
+  return wasRenewed ? `Value ${value} was renewed before, and this request cites no IESG minutes.` : undefined;
+}
+
+/** Which advice a request still lacks, as sentences; undefined if it needs none. */
+export function adviceLacking({ ask, experts, advice }, page) {
+  const needsExpert = ['expert-review', 'specification-required'].includes(policyFor(ask, page)) && ask.kind !== 'renew';
+  if (!needsExpert || advice.some(({ verdict }) => verdict === 'for')) return undefined;
+  const silent = experts.filter(expert => !advice.some(one => one.expert === expert)), against = advice.map(({ expert }) => expert);
+  const told = (names, one, many) => (names.length ? `${inOneText(names)} ${names.length > 1 ? many : one}. ` : '');
+  const who = told(silent, 'has not advised yet', 'have not advised yet') + told(against, 'is against it', 'are against it');
+  return `${who || 'No expert is assigned. '}You can approve once an expert recommends it.`;
+}
+
+const inOneText = names => names.join(', ').replace(/, ([^,]*)$/, ' and $1');
+
+/** The other waiting requests that ask for just the value that this one would get. */
+export function rivalsOf(row, page, rows) {
+  const value = isNew(row.ask) && page ? valueDue(row.ask, page) : undefined;
+  const wants = ({ ask }) => isNew(ask) && ask.registry === row.ask.registry && ask.value === value;
+  return value === undefined ? [] : rows.filter(one => one.state === 'pending' && !isSame(one, row) && wants(one));
+}
+
+/** The waiting request after this one in a list, or else the first before it. */
+export function nextWaiting(rows, row) {
+  const place = rows.findIndex(one => isSame(one, row));
+  return [...rows.slice(place + 1), ...rows.slice(0, Math.max(place, 0))].find(one => one.state === 'pending' && !isSame(one, row));
+}
+
+/** The line of notes.csv that an approved request gives a value's reference; undefined if it names none. */
+export function noteLine({ ask, given }) {
+  const reference = ask.rfc ? `RFC ${ask.rfc.number}` : ask.specification ?? ask.draft;
+  if (ask.kind === 'block' || reference === undefined || given === undefined) return undefined;
+  const field = /[",]/.test(reference) ? `"${reference.replaceAll('"', '""')}"` : reference;
+  return `${ask.registry},${given},,${field},`;
+}
+
+/** The accounts that have a valid expert's token now, except one. */
+export function expertsAmong(capabilities, now, account) {
+  const valid = capabilities.filter(one => one.kind === 'expert' && one.until > now && one.account !== account);
+  return [...new Set(valid.map(one => one.account))].sort();
+}
+
+/** The early allocations of all registries: what expires next first, then what is held, then what has expired. */
+export function byExpiry(pages) {
+  const rows = pages.flatMap(({ name, entries }) => entries.filter(({ expires }) => expires).map(entry => ({ ...entry, registry: name })));
+  const rank = ({ status, held }) => (status === 'Expired' ? 2 : held ? 1 : 0);
+  return rows.sort((one, other) => rank(one) - rank(other) || (one.expires < other.expires ? -1 : one.expires > other.expires ? 1 : 0));
+}

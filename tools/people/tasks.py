@@ -1,0 +1,138 @@
+"""What each kind of caller comes for, with the clicks that it takes."""
+import contextlib
+import datetime
+
+from lib import office as offices
+from people.office import CLERK
+from people.person import judge
+
+RANGES = 'lo,hi,treatment,note\n0,999,first-come-first-served,\n1000,1999,expert-review,\n2000,2999,standards-action,\n3000,3000,first-come-first-served,\n3001,9999,reserved,\n'
+EARLY = {'chair': 'wg', 'director': 'ad', 'draft': 'draft-x-00', 'interest': True, 'kind': 'early', 'registry': 'ports', 'stable': True}
+
+
+@contextlib.contextmanager
+def within(person, most, task):
+    """The task that is done here takes at most so many clicks."""
+    person.clicks = 0
+    yield
+    print(f'{task}: {person.clicks} clicks')
+    judge(person.clicks <= most, f'{task} takes {person.clicks} clicks, more than {most}')
+
+
+def token_of(account):
+    return f'{account}-token-00000000001'
+
+
+def asks(office, account, reference, **more):
+    """A request of this account, made without the page."""
+    body = {'contact': 'C', 'kind': 'code', 'label': f'{account} {reference}', 'registry': 'ports', **more}
+    told = office.ask('PUT', f'/requests/{reference}', token_of(account), {name: value for name, value in body.items() if value is not None})
+    judge('error' not in told, f'{account} is answered {told}')
+
+
+def prepared(office):
+    """A registry with a contested value, several requests that wait, and early allocations."""
+    offices.ask(office.port, 'PUT', '/desk/registries/ports/9999', CLERK, RANGES)
+    for account, kind in [('acme', 'applicant'), ('zephyr', 'applicant'), ('oceanic', 'applicant'), ('moduya', 'expert')]:
+        office.grant(account, kind, token_of(account))
+    for account in ('acme', 'zephyr'):
+        asks(office, account, 'p-843', value=843)
+    for number in range(3):
+        asks(office, 'oceanic', f'o-{number}', least='first-come-first-served')
+    asks(office, 'acme', 'x-1', value=1000, specification='https://example.org/spec, 2nd edition')
+    for account in ('acme', 'zephyr'):
+        asks(office, account, 'early', **EARLY, contact=None, least='standards-action')
+        office.ask('PUT', f'/desk/approve/{account}/early', CLERK)
+
+
+def clerks_tasks(office, clerk):
+    """What a clerk does, once `prepared` has run. The requests that wait are listed by account."""
+    clerk.go('Waiting')
+    with within(clerk, 1, 'open a contested request'):
+        clerk.click('Open p-843 of acme')
+        clerk.sees('Approve gives acme value 843 of ports.')
+    clerk.sees('1 other request wants just this value.')
+    with within(clerk, 2, 'the next decision'):
+        clerk.click('Approve')
+        clerk.click('Approve and open the next')
+        clerk.status('Approved: p-843 of acme. Value 843')
+    too_early(office, clerk)
+    clerk.go('Waiting')
+    clerk.click('Open o-0 of oceanic')
+    for number in range(2):
+        with within(clerk, 2, 'the next decision'):
+            clerk.sees('the lowest that is free now.')
+            clerk.click('Approve')
+            clerk.click('Approve and open the next')
+            clerk.status(f'Approved: o-{number} of oceanic. Value {number}')
+    lost(office, clerk)
+    clerk.click('Next waiting request')
+    clerk.until(lambda: 'Waiting' in clerk.script('return document.querySelector("main dl").textContent'), 'the next that waits')
+    expiring(office, clerk)
+
+
+def too_early(office, clerk):
+    """A request that needs an expert, as the next one: it cannot be approved yet, and a mistyped account is asked about."""
+    clerk.sees('No expert is assigned. You can approve once an expert recommends it.')
+    office.relay.log.clear()
+    clerk.click('Approve')
+    clerk.status('No expert is assigned.')
+    judge(clerk.script('return document.querySelector("dialog") === null') and not any('approve' in line for line in office.relay.log), 'Approve does something without advice')
+    offered = clerk.until(lambda: clerk.script('return [...document.querySelectorAll("#experts option")].map(one => one.value)'), 'the experts')
+    judge('moduya' in offered and 'acme' not in offered, f'the experts to choose from are {offered}')
+    clerk.fill('Account of the expert', 'moduyaa')
+    clerk.click('Assign')
+    clerk.sees("moduyaa has no expert's token.")
+    clerk.click('Cancel')
+    clerk.fill('Account of the expert', 'moduya')
+    with within(clerk, 1, 'assign an expert'):
+        clerk.click('Assign')
+        clerk.status('The request is assigned to moduya.')
+    clerk.sees('moduya has not advised yet.')
+    judge(office.ask('GET', '/desk/requests/acme/x-1', CLERK)['experts'] == ['moduya'], 'a mistyped account was assigned')
+    office.ask('PUT', '/queue/acme/x-1', token_of('moduya'), {'text': 'fine', 'verdict': 'for'})
+    clerk.go('Waiting')
+    clerk.click('Open x-1 of acme')
+    clerk.sees('Approve gives acme value 1000 of ports.')
+    clerk.click('Approve')
+    clerk.click('Approve')
+    clerk.sees('Line for notes.csv, from x-1 of acme')
+    line = clerk.script('return document.querySelector("output").textContent')
+    judge(line == 'ports,1000,,"https://example.org/spec, 2nd edition",', f'the line for notes.csv is {line}')
+
+
+def lost(office, clerk):
+    """A value that somebody else got meanwhile, before and after the case was opened."""
+    clerk.go('Waiting')
+    clerk.click('Open p-843 of zephyr')
+    clerk.sees('Value 843 was assigned to acme meanwhile. Decline this request.')
+    clerk.fill('Reason', 'Somebody else has it.')
+    clerk.click('Decline')
+    clerk.click('Decline')
+    clerk.status('Declined: p-843 of zephyr.')
+    for account in ('acme', 'zephyr'):
+        asks(office, account, 'last', value=3000)
+    clerk.go('Waiting')
+    clerk.click('Open last of zephyr')
+    clerk.sees('Approve gives zephyr value 3000 of ports.')
+    office.ask('PUT', '/desk/approve/acme/last', CLERK)
+    clerk.click('Approve')
+    clerk.click('Approve')
+    clerk.status('This was not approved')
+    clerk.sees('Value 3000 was assigned to acme meanwhile. Decline this request.')
+    office.ask('PUT', '/desk/decline/zephyr/last', CLERK, {'reason': 'taken'})
+
+
+def expiring(office, clerk):
+    with within(clerk, 1, 'what expires'):
+        clerk.go('Due to expire')
+    right = [[entry['expires'], name, str(entry['value'])] for name in office.ask('GET', '/registries') for entry in office.ask('GET', f'/registries/{name}')['entries']
+             if 'expires' in entry]
+    shown = [row[:3] for row in clerk.rows('Due to expire')]
+    judge(shown == sorted(right, key=lambda row: row[0]) and len(shown) > 1, f'due to expire are {shown} in place of {right}')
+    clerk.sees(f'Nothing expires by {datetime.datetime.now(datetime.UTC).date() + datetime.timedelta(30)}.')
+    clerk.click('Hold value 2001 of ports')
+    clerk.status('Value 2001 of ports is held')
+    judge(clerk.rows('Due to expire')[-1][5] == 'Held', 'what is held does not come last')
+    clerk.click('Release value 2001 of ports')
+    clerk.status('Value 2001 of ports is released')
