@@ -1,6 +1,7 @@
 // What applicants do: their requests, new ones, who may read them, and their blocks.
 import { ask } from './office.js';
-import { Told, attempt, badge, button, choice, control, details, element, form, say, sure, table } from './dom.js';
+import { Told, attempt, button, choice, control, details, element, form, say, sure } from './dom.js';
+import { table } from './list.js';
 import {
   KINDS, POLICIES, STATES, askOf, easiest, evidenceFor, faultsOf, freeUnder, hexOf, inWords, noteOn, openPolicies, optionsFor, outcome, policyOf,
   rowsOf, waitingTwin,
@@ -18,8 +19,8 @@ export async function requests(app) {
       await app.go('requests', `The request ${row.reference} is withdrawn.`);
     });
   };
-  const actions = row => [detailsButton(app, row, `Request ${row.reference}`),
-    row.state === 'pending' ? button('Withdraw', () => withdraw(row), { 'aria-label': `Withdraw ${row.reference}`, class: 'plain' }) : null];
+  const actions = row => element('div', { class: 'row' }, detailsButton(app, row, `Request ${row.reference}`),
+    row.state === 'pending' ? button('Withdraw', () => withdraw(row), { 'aria-label': `Withdraw ${row.reference}`, class: 'plain' }) : null);
   const add = element('p', {}, element('a', { class: 'button', href: '#new' }, 'New request'));
   return element('div', {}, place, add, requestTable(rows, actions, 'My requests', 'You have no requests yet. Make one by "New request".'));
 }
@@ -28,11 +29,9 @@ function detailsButton(app, row, title) {
   return button('Details', () => app.open(title, requestDetails(row)), { 'aria-label': `Details of ${row.reference}` });
 }
 
-function requestTable(rows, actions, caption, empty) {
-  const state = row => badge(row.state, STATES[row.state] ?? row.state);
-  const cells = row => [row.reference, inWords(row.ask), state(row), outcome(row), element('div', { class: 'row' }, actions(row))];
-  const columns = ['Reference', 'Request', 'State', 'Result', 'Actions'];
-  return table({ caption, columns, rows, cells, empty, states: STATES, quiet: true });
+function requestTable(rows, act, caption, empty) {
+  const cells = row => [row.reference, inWords(row.ask), STATES[row.state] ?? row.state, outcome(row)];
+  return table({ caption, columns: ['Reference', 'Request', 'State', 'Result'], rows, cells, act, empty, states: STATES, quiet: true });
 }
 
 /** A request in all its parts. */
@@ -217,7 +216,7 @@ export async function agents(app) {
   });
   const open = account => attempt(place, async () => {
     const rows = await ask('GET', `/principals/${account}/requests`);
-    const actions = row => [detailsButton(app, row, `Request ${row.reference} of ${account}`)];
+    const actions = row => detailsButton(app, row, `Request ${row.reference} of ${account}`);
     app.open(`Requests of ${account}`, requestTable(rows, actions, `Requests of ${account}`, 'There are no requests.'));
   });
   const add = form({
@@ -228,16 +227,14 @@ export async function agents(app) {
     },
   });
   const mine = table({
-    caption: 'Agents who may read my requests', columns: ['Account', 'Actions'], rows: names, empty: 'Nobody else may read your requests.',
-    cells: name => [name, button('Stop', () => stop(name), { 'aria-label': `Stop ${name} from reading` })],
+    caption: 'Agents who may read my requests', columns: ['Account'], rows: names, empty: 'Nobody else may read your requests.',
+    cells: name => [name], act: name => button('Stop', () => stop(name), { 'aria-label': `Stop ${name} from reading` }),
   });
   const others = table({
-    quiet: true, caption: 'Accounts that named me as their agent', columns: ['Account', 'Actions'], rows: principals,
-    empty: 'No account has named you as its agent.',
-    cells: name => [name, button('Read', () => open(name), { 'aria-label': `Read the requests of ${name}` })],
+    caption: 'Accounts whose requests I may read', columns: ['Account'], rows: principals, empty: 'No account has named you as its agent.',
+    cells: name => [name], act: name => button('Read', () => open(name), { 'aria-label': `Read the requests of ${name}` }),
   });
-  return element('div', {}, place, element('p', {}, 'An agent sees your requests as you do. It cannot change anything.'), mine, add,
-    element('h3', {}, 'Accounts whose requests I may read'), others);
+  return element('div', {}, place, element('p', {}, 'An agent sees your requests as you do. It cannot change anything.'), mine, add, others);
 }
 
 // ---- Blocks
@@ -258,7 +255,7 @@ export async function blocks() {
   });
   const about = 'The public always sees that a block is assigned. If you keep it private, the public sees neither your organization nor its address.';
   return element('div', {}, place, element('p', {}, about), table({
-    quiet: true, caption: 'My blocks', columns: ['Block', 'Size', 'Organization', 'Address', 'Private'], rows,
-    cells: row => [row.block, row.size, row.organization, row.address, toggle(row)], empty: 'You have no blocks. Ask for one by "New request".',
+    quiet: true, caption: 'My blocks', columns: ['Block', 'Size', 'Organization', 'Address'], acts: 'Private', act: toggle, rows,
+    cells: row => [row.block, row.size, row.organization, row.address], empty: 'You have no blocks. Ask for one by "New request".',
   }));
 }

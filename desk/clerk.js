@@ -1,6 +1,7 @@
 // What clerks do: decide requests, define registries, add prefixes, hold allocations, and hand out tokens.
 import { Refusal, ask } from './office.js';
-import { attempt, badge, button, control, copyable, details, element, focusOn, form, say, sure, table } from './dom.js';
+import { attempt, button, control, copyable, details, element, focusOn, form, say, sure } from './dom.js';
+import { table } from './list.js';
 import {
   CAPABILITIES, COUNTS, POLICIES, STATES, dayOf, endOf, faultOf, grantOf, hexOf, inWords, opinionsOf, outcome, rangesOf, rowsOf,
 } from './forms.js';
@@ -22,17 +23,19 @@ export async function everything(app) {
 }
 
 function requestTable(app, rows, { last: [title, told], ...texts }) {
-  const open = row => button('Open', () => openCase(app, row, rows), { 'aria-label': `Open ${row.reference} of ${row.account}` });
-  const state = row => (texts.states ? [badge(row.state, STATES[row.state] ?? row.state)] : []);
-  const cells = row => [row.account, row.reference, inWords(row.ask), ...state(row), told(row), open(row)];
-  const columns = ['Account', 'Reference', 'Request', ...texts.states ? ['State'] : [], title, 'Actions'];
-  return table({ ...texts, columns, rows, cells, quiet: true });
+  const name = row => `Open ${row.reference} of ${row.account}`;
+  const act = (row, seen) => button('Open', () => openCase(app, row, { rows, seen: seen() }), { 'aria-label': name(row) });
+  const state = row => (texts.states ? [STATES[row.state] ?? row.state] : []);
+  const cells = row => [row.account, row.reference, inWords(row.ask), ...state(row), told(row)];
+  const columns = ['Account', 'Reference', 'Request', ...texts.states ? ['State'] : [], title];
+  return table({ ...texts, columns, rows, cells, act, quiet: true });
 }
 
 // ---- A case
 
-// Opens a request of a list with its evidence, its experts and their advice. `before` is shown above it.
-async function openCase(app, listed, rows, { message, before } = {}) {
+// Opens a request of a list with its evidence, its experts and their advice. The list has `rows`, of which `seen` were listed in this order. `before` is
+// shown above the request.
+async function openCase(app, listed, list, { message, before } = {}) {
   const { account, reference } = listed;
   await app.open(`Request ${reference} of ${account}`, async () => {
     const row = await ask('GET', `/desk/requests/${account}/${reference}`);
@@ -40,9 +43,9 @@ async function openCase(app, listed, rows, { message, before } = {}) {
     listed.state = row.state;
     const result = outcome(row) ? [['Result', outcome(row)]] : [], state = STATES[row.state] ?? row.state;
     const told = [['Applicant', account], ['Reference', reference], ['State', state], ...result, ...rowsOf(row.ask)];
-    const next = nextWaiting(rows, row), go = (one, more) => openCase(app, one, rows, more);
+    const next = nextWaiting(list.seen, row), go = (one, more) => openCase(app, one, list, more);
     const onward = next ? button('Next waiting request', () => go(next), { class: row.state === 'pending' ? 'plain' : undefined }) : null;
-    const parts = row.state === 'pending' ? decision({ row, page, rows, listed, next, onward, go }) : element('p', { class: 'actions' }, onward);
+    const parts = row.state === 'pending' ? decision({ row, page, rows: list.rows, listed, next, onward, go }) : element('p', { class: 'actions' }, onward);
     return element('div', {}, before, details(told), experts(row), parts);
   }, message);
 }
@@ -126,7 +129,8 @@ function refusal({ account, reference }, path, next, done) {
 export async function registries(app) {
   const names = await ask('GET', '/registries');
   const open = name => button('Open', () => openRegistry(app, name), { 'aria-label': `Open ${name}` });
-  const list = table({ quiet: true, caption: 'Registries', columns: ['Name', 'Actions'], rows: names, empty: 'There are no registries yet.', cells: name => [name, open(name)] });
+  const empty = 'There are no registries yet.';
+  const list = table({ quiet: true, caption: 'Registries', columns: ['Name'], rows: names, empty, cells: name => [name], act: open });
   return element('div', {}, list, definition(app));
 }
 
@@ -163,11 +167,11 @@ function earlyTable(caption, rows, place, again, quiet) {
     await again(`Value ${value} of ${registry} is ${held ? 'held: it does not expire.' : 'released: it expires as its day says.'}`);
   });
   const action = (row, verb, held) => button(verb, () => hold(row, held), { 'aria-label': `${verb} value ${row.value} of ${row.registry}` });
-  const act = row => (row.held ? action(row, 'Release', false) : row.status === 'Temporary' ? action(row, 'Hold', true) : '');
+  const act = row => (row.held ? action(row, 'Release', false) : row.status === 'Temporary' ? action(row, 'Hold', true) : []);
   const status = row => (row.held ? 'Held' : row.status);
-  const cells = row => [row.expires, row.registry, String(row.value), row.label, row.assignee, status(row), act(row)];
-  const columns = ['Expires', 'Registry', 'Value', 'Name', 'Account', 'Status', 'Actions'];
-  return table({ caption, columns, rows, cells, quiet, empty: 'There are no early allocations.' });
+  const cells = row => [row.expires, row.registry, String(row.value), row.label, row.assignee, status(row)];
+  const columns = ['Expires', 'Registry', 'Value', 'Name', 'Account', 'Status'];
+  return table({ caption, columns, rows, cells, act, quiet, empty: 'There are no early allocations.' });
 }
 
 // A new registry from a CSV file, after a look at its ranges.
@@ -291,9 +295,9 @@ function tokenTable(app, rows) {
   const actions = ({ account, digest }) => element('div', { class: 'row' },
     button('Take away', take(account, `Take away the token ${digest} of ${account}?`, `/desk/tokens/${digest}`), { 'aria-label': `Take away ${digest} of ${account}` }),
     button('Take away all', take(account, `Take away all tokens of ${account}?`, `/desk/accounts/${account}`), { 'aria-label': `Take away all tokens of ${account}`, class: 'plain' }));
-  const cells = row => [row.account, CAPABILITIES[row.kind] ?? row.kind, endOf(row, now), row.digest, actions(row)];
-  const columns = ['Account', 'Kind', 'Valid through', 'Digest', 'Actions'], about = 'The office keeps no tokens. It knows each by a digest, which begins as shown here.';
-  return element('div', {}, element('h3', {}, 'All tokens'), element('p', {}, about), place, table({ caption: 'All tokens', columns, rows, cells, empty: 'There are no tokens.', quiet: true }));
+  const cells = row => [row.account, CAPABILITIES[row.kind] ?? row.kind, endOf(row, now), row.digest], about = 'The office keeps no tokens. It knows each by a digest, which begins as shown here.';
+  const list = table({ caption: 'All tokens', columns: ['Account', 'Kind', 'Valid through', 'Digest'], rows, cells, act: actions, empty: 'There are no tokens.' });
+  return element('div', {}, list, element('p', {}, about), place);
 }
 
 // ---- Counts

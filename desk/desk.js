@@ -3,6 +3,7 @@ import * as applicant from './applicant.js';
 import * as clerk from './clerk.js';
 import * as expert from './expert.js';
 import { LOADING, button, control, element, focusOn, form, say, trouble } from './dom.js';
+import { forgetPlaces } from './list.js';
 import { Gone, Refusal, ask, carries, carry, endBy, tellBy } from './office.js';
 
 const SECTIONS = {
@@ -18,12 +19,12 @@ const SECTIONS = {
 };
 const HOUR = 3600000, LOOK = 10000;
 const main = document.getElementById('main'), sections = document.getElementById('sections'), who = document.getElementById('who');
-let kind = null, own = {}, used = 0, shown = 0;
+let kind = null, own = {}, used = 0, shown = 0, place = '', scrolled = 0;
 
 // ---- Sections
 
 // Shows a view. Of two that are on their way the later one stays.
-async function view(title, make, { message = '', back } = {}) {
+async function view(title, make, { message = '', back, scroll } = {}) {
   const turn = shown += 1, heading = element('h2', {}, title);
   say(LOADING);
   main.inert = true;
@@ -40,27 +41,53 @@ async function view(title, make, { message = '', back } = {}) {
   say(message);
   document.title = `${title} - Registry desk`;
   focusOn(heading);
+  if (scroll === undefined) return;
+  scrollTo(0, scroll);
+  main.querySelector('.used button')?.focus({ preventScroll: true });
 }
 
+// The address names the section alone. A case has an entry in the history with the same address, so that Back leads to its list.
 const app = {
   go: (name, message) => {
-    if (location.hash !== `#${name}`) history.pushState(null, '', `#${name}`);
+    if (history.state?.inside) history.replaceState(null, '', `#${name}`);
+    else if (location.hash !== `#${name}`) history.pushState(null, '', `#${name}`);
+    place = here();
     return draw(message);
   },
-  open: (title, make, message) => view(title, make, { message, back: () => element('p', {}, button('Back to the list', () => draw(), { class: 'plain' })) }),
+  open: (title, make, message) => {
+    if (!history.state?.inside) {
+      scrolled = scrollY;
+      history.pushState({ inside: true }, '');
+      place = here();
+    }
+    return view(title, make, { message, back: () => element('p', {}, button('Back to the list', () => history.back(), { class: 'plain' })) });
+  },
 };
 
-function draw(message) {
+const here = () => `${location.hash}${history.state?.inside ? ' inside' : ''}`;
+
+// What comes once the address or the entry of the history has changed. From a case the way leads to the same place of its list.
+function arrive() {
+  const [before, after] = [place, here()].map(one => one.split(' ')[0]), isElsewhere = place !== here();
+  place = here();
+  if (!kind || !isElsewhere) return;
+  if (before !== after) forgetPlaces();
+  draw('', before === after ? scrolled : undefined);
+}
+
+function draw(message, scroll) {
   const name = Object.hasOwn(own, location.hash.slice(1)) ? location.hash.slice(1) : Object.keys(own)[0];
   const [title, make] = own[name];
   const link = key => element('a', { href: `#${key}`, 'aria-current': key === name ? 'page' : undefined, onclick: () => again(key) }, own[key][0]);
   sections.replaceChildren(element('ul', {}, Object.keys(own).map(key => element('li', {}, link(key)))));
-  return view(title, () => make(app), { message });
+  return view(title, () => make(app), { message, scroll });
 }
 
 // A link to the section that is open changes no address, so it would do nothing.
 function again(name) {
-  if (location.hash === `#${name}`) draw();
+  if (location.hash !== `#${name}`) return;
+  forgetPlaces();
+  draw();
 }
 
 // ---- Signing in and out
@@ -108,6 +135,8 @@ function enter() {
   const named = { applicant: 'an applicant', expert: 'an expert', clerk: 'a clerk' }[kind];
   who.replaceChildren(element('span', {}, `Signed in as ${named}`), button('Sign out', () => signOut('You are signed out.'), { class: 'plain' }));
   sections.hidden = false;
+  history.replaceState(null, '');
+  place = here();
   draw();
 }
 
@@ -123,6 +152,7 @@ function signOut(message) {
   sections.replaceChildren();
   sections.hidden = true;
   history.replaceState(null, '', location.pathname);
+  forgetPlaces();
   // The engine keeps the last text that a pattern was tried on.
   /^/.test('');
   signIn(message);
@@ -136,8 +166,8 @@ function isIdle() {
 
 tellBy(say);
 endBy(() => { if (kind) signOut('Your token does not work any more: it has expired or was taken away. Ask the authority for another.'); });
-addEventListener('hashchange', () => { if (kind) draw(); });
-addEventListener('popstate', () => { if (!kind && location.hash) history.replaceState(null, '', location.pathname); });
+addEventListener('hashchange', arrive);
+addEventListener('popstate', () => { if (!kind && location.hash) history.replaceState(null, '', location.pathname); else arrive(); });
 for (const name of ['pointerdown', 'keydown', 'focusin']) addEventListener(name, () => { isIdle(); used = Date.now(); }, true);
 addEventListener('visibilitychange', isIdle, true);
 setInterval(isIdle, LOOK);

@@ -9,7 +9,6 @@ export class Told extends Error {}
 /** What is said while a view is on its way. */
 export const LOADING = 'Loading.';
 
-const SHOWN = 100;
 let count = 0;
 
 /** An element with its attributes, listeners (`onclick`) and children. */
@@ -95,7 +94,8 @@ export function control(name, { options, value, onchange, type, optional = false
   };
 }
 
-function select(attributes, options, value) {
+/** A list of choices, with `Choose` above them as long as none is chosen. */
+export function select(attributes, options, value) {
   const keys = Object.keys(options), known = Object.hasOwn(options, value ?? '') ? value ?? '' : undefined;
   const first = keys.length === 1 || known !== undefined ? null : element('option', { value: '' }, 'Choose');
   const node = element('select', attributes, first, keys.map(key => element('option', { value: key }, options[key])));
@@ -172,47 +172,7 @@ function faultNamed(error, controls) {
   return controls.some(one => one.name === name) ? { [name]: inWords(error.error, error.item) } : {};
 }
 
-// ---- Tables
-
-/** A table of rows, 100 at a time, with a search and, where `states` has words, a choice among them. A `quiet` caption is only heard. */
-export function table({ caption, columns, rows, cells, empty, states, quiet = false }) {
-  const body = element('tbody'), info = element('p', { class: 'hint', role: 'status' }), place = element('div', { class: 'scroll' });
-  let page = 0, found = rows;
-  const move = step => () => { page += step; draw(); body.closest('table')?.scrollIntoView({ block: 'start' }); };
-  const before = button('Previous page', move(-1)), after = button('Next page', move(1));
-  const search = element('input', { type: 'search', autocomplete: 'off', 'aria-label': `Search: ${caption}`, placeholder: 'Search', oninput: () => pick() });
-  const filter = states ? element('select', { 'aria-label': `State: ${caption}`, onchange: () => pick() },
-    element('option', { value: '' }, 'All states'), Object.keys(states).map(key => element('option', { value: key }, states[key]))) : null;
-  const head = element('thead', {}, element('tr', {}, columns.map(name => element('th', { scope: 'col' }, name))));
-  function pick() {
-    const text = search.value.toLowerCase();
-    const has = row => JSON.stringify(row).toLowerCase().includes(text);
-    found = rows.filter(row => (!filter?.value || row.state === filter.value) && (!text || has(row)));
-    page = 0;
-    draw();
-  }
-  function draw() {
-    const from = page * SHOWN, shown = found.slice(from, from + SHOWN);
-    const cellOf = (cell, place) => (place ? element('td', { 'data-label': columns[place] }, cell) : element('th', { scope: 'row' }, cell));
-    body.replaceChildren(...shown.map(row => element('tr', {}, cells(row).map(cellOf))));
-    info.textContent = told(from, shown.length);
-    before.disabled = page === 0;
-    after.disabled = from + SHOWN >= found.length;
-    place.hidden = !found.length;
-    pages.hidden = found.length <= SHOWN;
-  }
-  function told(from, length) {
-    if (!rows.length) return empty;
-    if (!found.length) return 'Nothing matches.';
-    if (found.length > SHOWN) return `${from + 1} to ${from + length} of ${found.length}`;
-    return found.length === rows.length ? '' : `${found.length} of ${rows.length}`;
-  }
-  const tools = rows.length > 5 ? element('div', { class: 'tools', role: 'search' }, filter, search) : null;
-  const pages = element('p', { class: 'actions' }, before, after);
-  place.append(element('table', {}, element('caption', { class: quiet ? 'heard' : undefined }, caption), head, body));
-  pick();
-  return element('div', {}, tools, info, place, pages);
-}
+// ---- Parts of a page
 
 /** Rows of a name and a text. */
 export const details = rows => element('dl', {}, rows.map(([name, text]) => element('div', {}, element('dt', {}, name), element('dd', {}, text))));

@@ -1,6 +1,7 @@
 // What experts do: the requests that are assigned to them, and their advice.
 import { ask } from './office.js';
-import { badge, button, control, details, element, form, table } from './dom.js';
+import { button, control, details, element, form } from './dom.js';
+import { table } from './list.js';
 import { STATES, VERDICTS, faultOf, inWords, rowsOf } from './forms.js';
 
 /** The requests that are assigned to the caller. */
@@ -9,10 +10,10 @@ export async function queue(app) {
   const verb = row => (row.state !== 'pending' ? 'Details' : row.advice ? 'Change advice' : 'Give advice');
   const advised = ({ advice }) => (advice ? `${advice.verdict === 'for' ? 'For' : 'Against'}: ${advice.text}` : '');
   const open = row => app.open(`Request ${row.reference} of ${row.account}`, review(app, row));
-  const cells = row => [row.account, row.reference, inWords(row.ask), badge(row.state, STATES[row.state] ?? row.state), advised(row),
-    button(verb(row), () => open(row), { 'aria-label': `Open ${row.reference} of ${row.account}` })];
-  const columns = ['Account', 'Reference', 'Request', 'State', 'My advice', 'Actions'];
-  return table({ quiet: true, caption: 'Requests assigned to me', columns, rows, cells, states: STATES, empty: 'Nothing is assigned to you.' });
+  const cells = row => [row.account, row.reference, inWords(row.ask), STATES[row.state] ?? row.state, advised(row)];
+  const act = row => button(verb(row), () => open(row), { 'aria-label': `Open ${row.reference} of ${row.account}` });
+  const columns = ['Account', 'Reference', 'Request', 'State', 'My advice'];
+  return table({ quiet: true, caption: 'Requests assigned to me', columns, rows, cells, act, states: STATES, empty: 'Nothing is assigned to you.' });
 }
 
 function review(app, row) {

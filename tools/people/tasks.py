@@ -45,8 +45,48 @@ def prepared(office):
         office.ask('PUT', f'/desk/approve/{account}/early', CLERK)
 
 
+def in_lists(office, clerk):
+    """Lists are counted, searched in what is seen, and ordered; from a case the way leads to the same place, by a button and by the browser."""
+    clerk.go('Waiting')
+    waiting = office.ask('GET', '/desk/pending', CLERK)
+    clerk.sees(f'{len(waiting)} in all')
+    search = clerk.named('input', 'Search: Requests that wait')
+    for text, right in [('kind', 0), ('FIRST COME FIRST SERVED', sum('least' in row['ask'] for row in waiting)), ('oceanic', 3)]:
+        search.clear()
+        search.send_keys(text)
+        clerk.until(lambda: len(clerk.rows('Requests that wait')) == right, f'{right} rows with {text}')
+    clerk.sees(f'3 found, {len(waiting)} in all')
+    order = clerk.named('select', 'Order: Requests that wait')
+    [one for one in order.find_elements('css selector', 'option') if one.text == 'By Reference, last first'][0].click()
+    listed = lambda: [row[1] for row in clerk.rows('Requests that wait')]
+    clerk.until(lambda: listed() == ['o-2', 'o-1', 'o-0'], 'the order')
+    for back in (lambda: clerk.click('Back to the list'), clerk.driver.back):
+        clerk.click('Open o-1 of oceanic')
+        clerk.sees('Approve gives oceanic')
+        judge(clerk.script('return location.hash') == '#waiting', 'the address names a request')
+        back()
+        clerk.until(lambda: listed() == ['o-2', 'o-1', 'o-0'], 'the list as it was left')
+        focus = clerk.until(lambda: clerk.script('return document.activeElement.getAttribute("aria-label")'), 'the focus')
+        judge(focus == 'Open o-1 of oceanic', f'the focus is on {focus}')
+        judge(clerk.script('return document.querySelector("input[type=search]").value') == 'oceanic', 'the search is lost')
+    clerk.go('All requests')
+    clerk.go('Waiting')
+    judge(len(listed()) == len(waiting), 'a section that is chosen anew has a search')
+
+
+def broken_texts(office, clerk):
+    """A reference of 32 letters leaves room for the rest."""
+    asks(office, 'acme', 'm' * 32, least='first-come-first-served')
+    clerk.go('Waiting')
+    wide = clerk.script('return [...document.querySelectorAll("tbody td:nth-child(2)")].map(one => one.getBoundingClientRect().width)')
+    judge(max(wide) < 200, f'the references are {max(wide)} pixels wide')
+    office.ask('DELETE', f'/requests/{"m" * 32}', token_of('acme'))
+
+
 def clerks_tasks(office, clerk):
     """What a clerk does, once `prepared` has run. The requests that wait are listed by account."""
+    in_lists(office, clerk)
+    broken_texts(office, clerk)
     clerk.go('Waiting')
     with within(clerk, 1, 'open a contested request'):
         clerk.click('Open p-843 of acme')

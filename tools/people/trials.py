@@ -204,6 +204,11 @@ def many(office, clerk):
     clerk.click('Next page')
     clerk.sees(f'101 to 200 of {total}')
     judge(len(clerk.rows('All requests')) == 100, 'a page has not 100 rows')
+    [reference, account] = [clerk.rows('All requests')[50][place] for place in (1, 0)]
+    clerk.click(f'Open {reference} of {account}')
+    clerk.sees('Back to the list')
+    clerk.driver.back()
+    clerk.sees(f'101 to 200 of {total}')
     clerk.named('input', 'Search: All requests').send_keys('m-04321')
     clerk.until(lambda: [row[1] for row in clerk.rows('All requests')] == ['m-04321'], 'the row that is searched for')
     clerk.go('Waiting')

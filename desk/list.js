@@ -1,0 +1,74 @@
+// Lists: how many rows there are, a search in what is seen, an order, 100 rows at a time. Where somebody was in a list is kept.
+import { badge, button, element, select } from './dom.js';
+
+const SHOWN = 100, MANY = 10;
+const { compare } = new Intl.Collator('en', { numeric: true }), places = new Map();
+
+/** Forgets where somebody was in each list. */
+export const forgetPlaces = () => places.clear();
+
+/**
+ * A list of rows. `cells` gives the texts of a row by column; a column State has marks. `act` gives the controls of a row, under the title `acts`; it
+ * is also given a function that tells the rows in the order in which they are listed. Where `states` has words, one can choose among them. A `quiet`
+ * caption is only heard, for a list that is all of its section.
+ */
+export function table({ caption, columns, rows, cells, act, acts = 'Actions', empty, states, quiet = false }) {
+  const lines = rows.map(row => ({ row, texts: cells(row) })), seen = () => found(lines, at).map(({ row }) => row);
+  const at = places.get(caption) ?? { text: '', state: '', order: '', page: 0, key: '' };
+  places.set(caption, at);
+  const body = element('tbody', { role: 'rowgroup' }), info = element('p', { class: 'hint', role: 'status' });
+  const titles = (act ? [...columns, acts] : columns).map(name => element('th', { scope: 'col', role: 'columnheader' }, name));
+  const head = element('thead', { role: 'rowgroup' }, element('tr', { role: 'row' }, titles));
+  const frame = element('table', { role: 'table' }, element('caption', { class: 'heard' }, caption), head, body);
+  const move = step => () => { at.page += step; draw(); frame.scrollIntoView({ block: 'start' }); };
+  const before = button('Previous page', move(-1)), after = button('Next page', move(1)), pages = element('p', { class: 'actions' }, before, after);
+  function draw() {
+    const all = found(lines, at), last = Math.max(Math.ceil(all.length / SHOWN) - 1, 0);
+    at.page = Math.min(Math.max(at.page, 0), last);
+    const from = at.page * SHOWN, shown = all.slice(from, from + SHOWN);
+    const actions = ({ row }) => act && element('td', { role: 'cell', 'data-label': acts }, act(row, seen));
+    body.replaceChildren(...shown.map(line => rowOf(line, columns, at, actions(line))));
+    info.textContent = !rows.length ? empty : !all.length ? 'Nothing matches.' : countOf(from, shown.length, all.length, rows.length);
+    // A button that is disabled would lose the focus.
+    before.setAttribute('aria-disabled', at.page === 0);
+    after.setAttribute('aria-disabled', at.page === last);
+    frame.hidden = !all.length;
+    pages.hidden = !last;
+  }
+  draw();
+  const isAsked = rows.length > MANY || at.text || at.state || at.order;
+  return element('div', {}, quiet ? null : element('h3', {}, caption), isAsked ? tools(caption, columns, states, at, draw) : null, info, frame, pages);
+}
+
+// The lines that are searched for, in the order that is chosen.
+function found(lines, { text, state, order }) {
+  const wanted = text.toLowerCase(), [way, place] = order.split(' ');
+  const isSeen = line => (line.seen ??= line.texts.join('\n').toLowerCase()).includes(wanted);
+  const all = lines.filter(line => (!state || line.row.state === state) && (!wanted || isSeen(line)));
+  return order ? all.sort((one, other) => compare(one.texts[place], other.texts[place]) * (way === 'up' ? 1 : -1)) : all;
+}
+
+function countOf(from, shown, all, total) {
+  const few = all > shown ? `${from + 1} to ${from + shown} of ${all}` : `${all}`;
+  return all === total ? `${few} in all` : `${few} found, ${total} in all`;
+}
+
+// The row that was used last is marked, so that the focus can return to it.
+function rowOf({ row, texts }, columns, at, actions) {
+  const key = texts.slice(0, 2).join(' '), [title, ...others] = texts, [, ...names] = columns;
+  const marked = (text, name) => (name === 'State' ? badge(row.state, text) : text);
+  const cell = (text, place) => element('td', { role: 'cell', 'data-label': names[place] }, marked(text, names[place]));
+  const use = () => { at.key = key; };
+  return element('tr', { role: 'row', class: at.key === key ? 'used' : undefined, onclick: use },
+    element('th', { scope: 'row', role: 'rowheader' }, title), others.map(cell), actions);
+}
+
+function tools(caption, columns, states, at, draw) {
+  const change = name => ({ target }) => { Object.assign(at, { [name]: target.value, page: 0 }); draw(); };
+  const menu = (name, what, options) => select({ 'aria-label': `${what}: ${caption}`, onchange: change(name) }, options, at[name]);
+  const orders = columns.flatMap((name, place) => [[`up ${place}`, `By ${name}`], [`down ${place}`, `By ${name}, last first`]]);
+  const search = element('input', { type: 'search', autocomplete: 'off', 'aria-label': `Search: ${caption}`, placeholder: 'Search', oninput: change('text') });
+  search.value = at.text;
+  return element('div', { class: 'tools', role: 'search' }, states ? menu('state', 'State', { '': 'All states', ...states }) : null, search,
+    menu('order', 'Order', { '': 'Usual order', ...Object.fromEntries(orders) }));
+}
