@@ -1,17 +1,18 @@
 // What applicants do: their requests, new ones, who may read them, and their blocks.
 import { ask } from './office.js';
-import { Told, attempt, button, choice, control, details, element, form, say, sure } from './dom.js';
+import { Told, attempt, button, choice, control, details, drafts, element, form, say, sure } from './dom.js';
 import { table } from './list.js';
 import {
-  KINDS, POLICIES, STATES, askOf, easiest, evidenceFor, faultsOf, freeUnder, hexOf, inWords, noteOn, openPolicies, optionsFor, outcome, policyOf,
-  rowsOf, waitingTwin,
+  KINDS, POLICIES, STATES, askOf, dayOf, easiest, evidenceFor, faultsOf, freeUnder, hexOf, inWords, noteOn, openPolicies, optionsFor, outcome, policyOf,
+  rowsOf, valuesOf, waitingTwin,
 } from './forms.js';
+import { endingBy, entryOf, valuesHeld } from './cases.js';
 
 // ---- Requests
 
-/** The caller's own requests. */
+/** The caller's own requests, and which values expire soon. */
 export async function requests(app) {
-  const rows = await ask('GET', '/requests'), place = element('div');
+  const rows = await ask('GET', '/requests'), pages = await pagesOf(rows.filter(({ ask }) => ask.kind === 'early')), place = element('div');
   const withdraw = async row => {
     if (!await sure(`Withdraw the request ${row.reference}? It cannot be made to wait again.`, 'Withdraw')) return;
     await attempt(place, async () => {
@@ -19,24 +20,45 @@ export async function requests(app) {
       await app.go('requests', `The request ${row.reference} is withdrawn.`);
     });
   };
-  const actions = row => element('div', { class: 'row' }, detailsButton(app, row, `Request ${row.reference}`),
+  const actions = row => element('div', { class: 'row' }, detailsButton(app, row, `Request ${row.reference}`, pages, true),
     row.state === 'pending' ? button('Withdraw', () => withdraw(row), { 'aria-label': `Withdraw ${row.reference}`, class: 'plain' }) : null);
   const add = element('p', {}, element('a', { class: 'button', href: '#new' }, 'New request'));
-  return element('div', {}, place, add, requestTable(rows, actions, 'My requests', 'You have no requests yet. Make one by "New request".'));
+  const soon = dayOf(Date.now() / 1000 + 30 * 86400), { length } = endingBy(valuesHeld(rows, pages), soon);
+  const told = `${length === 1 ? '1 of your values expires' : `${length} of your values expire`} by ${soon}. `;
+  const greeting = length ? element('p', { class: 'note' }, told, element('a', { href: '#values' }, 'See My values')) : null;
+  return element('div', {}, place, greeting, add, requestTable(rows, actions, 'My requests', 'You have no requests yet. Make one by "New request".', pages));
 }
 
-function detailsButton(app, row, title) {
-  return button('Details', () => app.open(title, requestDetails(row)), { 'aria-label': `Details of ${row.reference}` });
+// The pages of the registries in which requests were approved, by name.
+async function pagesOf(rows) {
+  const pages = new Map();
+  for (const { ask: { kind, registry }, state } of rows) {
+    if (kind !== 'block' && state === 'approved' && !pages.has(registry)) pages.set(registry, await ask('GET', `/registries/${registry}`));
+  }
+  return pages;
 }
 
-function requestTable(rows, act, caption, empty) {
-  const cells = row => [row.reference, inWords(row.ask), STATES[row.state] ?? row.state, outcome(row)];
+function detailsButton(app, row, title, pages, isOwn = false) {
+  const again = app => button('Ask again with these data', () => askFor(app, row.ask.kind, valuesOf(row.ask)));
+  const more = app => (isOwn && ['declined', 'withdrawn'].includes(row.state) ? element('p', { class: 'actions' }, again(app)) : null);
+  const open = app => element('div', {}, requestDetails(row, pages), more(app));
+  return button('Details', () => app.open(title, open), { 'aria-label': `Details of ${row.reference}` });
+}
+
+// Begins a new request with these values.
+function askFor(app, kind, values) {
+  drafts.set('request', { kind, values });
+  return app.go('new', 'Check the data before you send them.');
+}
+
+function requestTable(rows, act, caption, empty, pages = new Map()) {
+  const cells = row => [row.reference, inWords(row.ask), STATES[row.state] ?? row.state, outcome(row, entryOf(row, pages))];
   return table({ caption, columns: ['Reference', 'Request', 'State', 'Result'], rows, cells, act, empty, states: STATES, quiet: true });
 }
 
 /** A request in all its parts. */
-export function requestDetails(row) {
-  const told = { pending: 'Waiting: nothing is decided yet.', approved: `Approved. ${outcome(row)}.`, declined: `Declined. ${outcome(row)}`, withdrawn: 'Withdrawn by the applicant.' };
+export function requestDetails(row, pages = new Map()) {
+  const told = { pending: 'Waiting: nothing is decided yet.', approved: `Approved. ${outcome(row, entryOf(row, pages))}.`, declined: `Declined. ${outcome(row)}`, withdrawn: 'Withdrawn by the applicant.' };
   return details([['State', told[row.state] ?? row.state], ['Reference', row.reference], ...rowsOf(row.ask)]);
 }
 
@@ -45,25 +67,29 @@ export function requestDetails(row) {
 /** A form for a new request. Its reference stays the same until the office has answered, so one ask never has two. */
 export async function fresh(app) {
   const names = await ask('GET', '/registries'), own = await ask('GET', '/requests');
-  const draft = new Draft(names, own);
+  const draft = new Draft(names, own, drafts.get('request'));
   const node = form({
     controls: () => draft.controls(), verb: 'Send the request',
     parts: [draft.kinds, draft.top, draft.wishes, draft.note, draft.naming, draft.evidence, draft.last],
     check: () => draft.faults(),
     send: () => draft.send(own, app),
   });
-  await draft.choose('code');
+  await draft.choose(draft.kind);
   draft.calm = node.calm;
-  return node;
+  for (const name of ['input', 'change']) node.addEventListener(name, () => draft.keep());
+  const empty = () => { drafts.delete('request'); app.go('new'); };
+  return drafts.has('request') ? element('div', {}, element('p', {}, button('Empty this form', empty, { class: 'plain' })), node) : node;
 }
 
 class Draft {
-  constructor(names, own) {
-    Object.assign(this, { names, own, kind: 'code', page: null, pages: new Map(), parts: {}, shape: '' });
-    this.values = { wish: 'least', reference: `r${hexOf(crypto.getRandomValues(new Uint8Array(4)))}` };
-    this.kinds = choice('What do you need?', 'kind', KINDS, 'code', kind => this.choose(kind));
+  constructor(names, own, { kind = 'code', values } = {}) {
+    Object.assign(this, { names, own, kind, page: null, pages: new Map(), parts: {}, shape: '' });
+    this.values = { wish: 'least', reference: `r${hexOf(crypto.getRandomValues(new Uint8Array(4)))}`, ...values };
+    this.kinds = choice('What do you need?', 'kind', KINDS, kind, chosen => this.choose(chosen));
     for (const name of ['top', 'wishes', 'naming', 'evidence', 'last']) this[name] = element('div');
     this.note = element('p', { class: 'note', role: 'status' });
+    const needs = Object.values(POLICIES).map(({ title, says }) => [title, says]);
+    this.needs = element('details', {}, element('summary', {}, 'What each policy needs'), details(needs));
     this.put('last', [control('reference', { value: this.values.reference })]);
   }
 
@@ -82,6 +108,12 @@ class Draft {
     for (const one of this.controls()) this.values[one.name] = one.get();
     const [registry, value] = (this.values.allocation ?? '').split('/');
     return this.isOfMine() ? { ...this.values, registry, value, wish: 'value' } : this.values;
+  }
+
+  /** Keeps what was typed until it is sent. */
+  keep() {
+    this.read();
+    drafts.set('request', { kind: this.kind, values: { ...this.values } });
   }
 
   isOfMine() {
@@ -110,7 +142,7 @@ class Draft {
     const known = this.names.includes(this.values.registry) ? this.values.registry : this.names.length === 1 ? this.names[0] : undefined;
     const options = Object.fromEntries(this.names.map(name => [name, name]));
     if (!this.names.length) this.put('top', [], element('p', { class: 'note' }, 'The authority has not opened any registry yet.'));
-    else this.put('top', [control('registry', { options, value: known, onchange: () => this.offerWishes() })]);
+    else this.put('top', [control('registry', { options, value: known, onchange: () => this.offerWishes() })], this.needs);
     if (known) await this.offerWishes();
   }
 
@@ -200,6 +232,7 @@ class Draft {
     const twin = waitingTwin(body, own.filter(({ reference }) => reference !== values.reference));
     if (twin) throw new Told(`You have asked for just this already: request ${twin} is waiting. You need not send it again.`);
     await ask('PUT', `/requests/${values.reference}`, body);
+    drafts.delete('request');
     await app.go('requests', `Your request ${values.reference} arrived. It waits for a clerk. Look here again to see what is decided.`);
   }
 }
@@ -216,11 +249,11 @@ export async function agents(app) {
   });
   const open = account => attempt(place, async () => {
     const rows = await ask('GET', `/principals/${account}/requests`);
-    const actions = row => detailsButton(app, row, `Request ${row.reference} of ${account}`);
-    app.open(`Requests of ${account}`, requestTable(rows, actions, `Requests of ${account}`, 'There are no requests.'));
+    const actions = app => row => detailsButton(app, row, `Request ${row.reference} of ${account}`);
+    app.open(`Requests of ${account}`, app => requestTable(rows, actions(app), `Requests of ${account}`, 'There are no requests.'));
   });
   const add = form({
-    title: 'Let an account read my requests', verb: 'Let it read', controls: [control('agent')],
+    title: 'Let an account read my requests', verb: 'Let it read', controls: [control('agent')], key: 'agent',
     send: async ({ agent }) => {
       await set(agent, true);
       await app.go('agents', `${agent} can now read your requests.`);
@@ -237,7 +270,18 @@ export async function agents(app) {
   return element('div', {}, place, element('p', {}, 'An agent sees your requests as you do. It cannot change anything.'), mine, add, others);
 }
 
-// ---- Blocks
+// ---- Values and blocks
+
+/** The values that the caller's account holds, and when each expires. */
+export async function values(app) {
+  const rows = await ask('GET', '/requests'), held = valuesHeld(rows, await pagesOf(rows));
+  const renew = row => button('Renew', () => askFor(app, 'renew', { allocation: `${row.registry}/${row.value}` }), { 'aria-label': `Renew value ${row.value} of ${row.registry}` });
+  return table({
+    quiet: true, caption: 'My values', columns: ['Registry', 'Value', 'Name', 'Status', 'Expires'], rows: held, empty: 'You hold no values yet.',
+    cells: ({ registry, value, label, status, held, expires }) => [registry, String(value), label, held ? 'Held' : status, expires ?? ''],
+    act: row => (row.expires ? renew(row) : []),
+  });
+}
 
 /** The blocks that the caller's account holds, each with a switch that hides whose it is. */
 export async function blocks() {

@@ -1,4 +1,4 @@
-// What an approval would do, what stands in its way, and who else wants the same. Nothing here touches the document or the network.
+// What an approval would do, what stands in its way, who else wants the same, and what approvals gave. Nothing here touches the document or the network.
 import { POLICIES, leastFree, policyOf } from './forms.js';
 
 const isNew = ({ kind }) => kind === 'code' || kind === 'early';
@@ -72,9 +72,30 @@ export function expertsAmong(capabilities, now, account) {
   return [...new Set(valid.map(one => one.account))].sort();
 }
 
-/** The early allocations of all registries: what expires next first, then what is held, then what has expired. */
+/** The early allocations of registries: what expires next first, then what is held, then what has expired. */
 export function byExpiry(pages) {
-  const rows = pages.flatMap(({ name, entries }) => entries.filter(({ expires }) => expires).map(entry => ({ ...entry, registry: name })));
-  const rank = ({ status, held }) => (status === 'Expired' ? 2 : held ? 1 : 0);
-  return rows.sort((one, other) => rank(one) - rank(other) || (one.expires < other.expires ? -1 : one.expires > other.expires ? 1 : 0));
+  return inOrder(pages.flatMap(({ name, entries }) => entries.filter(({ expires }) => expires).map(entry => ({ ...entry, registry: name }))));
+}
+
+function inOrder(entries) {
+  const rank = ({ status, held }) => (status === 'Assigned' ? 3 : status === 'Expired' ? 2 : held ? 1 : 0);
+  return entries.sort((one, other) => rank(one) - rank(other) || String(one.expires).localeCompare(String(other.expires)));
+}
+
+/** The entries that expire by a day. */
+export const endingBy = (entries, day) => entries.filter(({ status, held, expires }) => status === 'Temporary' && !held && expires <= day);
+
+/** The entry that an approved request gave or changed; `pages` are those of the registries, by name. */
+export function entryOf({ ask: { kind, registry }, state, given }, pages) {
+  return state === 'approved' && kind !== 'block' ? pages.get(registry)?.entries.find(({ value }) => value === Number(given)) : undefined;
+}
+
+/** The values that somebody's requests gave, in the order in which they expire. */
+export function valuesHeld(rows, pages) {
+  const held = new Map();
+  for (const row of rows) {
+    const entry = entryOf(row, pages);
+    if (entry) held.set(entry, { ...entry, registry: row.ask.registry });
+  }
+  return inOrder([...held.values()]);
 }

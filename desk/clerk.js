@@ -5,7 +5,7 @@ import { table } from './list.js';
 import {
   CAPABILITIES, COUNTS, POLICIES, STATES, dayOf, endOf, faultOf, grantOf, hexOf, inWords, opinionsOf, outcome, rangesOf, rowsOf,
 } from './forms.js';
-import { adviceLacking, byExpiry, effectOf, expertsAmong, lossOf, nextWaiting, noteLine, policyFor, rivalsOf } from './cases.js';
+import { adviceLacking, byExpiry, effectOf, endingBy, expertsAmong, lossOf, nextWaiting, noteLine, policyFor, rivalsOf } from './cases.js';
 import { faultInWords } from './errors.js';
 
 // ---- Requests
@@ -37,7 +37,7 @@ function requestTable(app, rows, { last: [title, told], ...texts }) {
 // shown above the request.
 async function openCase(app, listed, list, { message, before } = {}) {
   const { account, reference } = listed;
-  await app.open(`Request ${reference} of ${account}`, async () => {
+  await app.open(`Request ${reference} of ${account}`, async app => {
     const row = await ask('GET', `/desk/requests/${account}/${reference}`);
     const page = row.ask.kind === 'block' ? null : await ask('GET', `/registries/${row.ask.registry}`);
     listed.state = row.state;
@@ -105,20 +105,21 @@ function assignment(listed, path, go) {
   const assign = async ({ expert }) => {
     const isKnown = (await known).includes(expert);
     const question = `${expert} has no expert's token. It would get to read this request, and cannot be removed. Is the spelling right?`;
-    if (!isKnown && !await sure(question, `Assign ${expert}`)) return;
+    if (!isKnown && !await sure(question, `Assign ${expert}`)) return false;
     await ask('PUT', `/desk/experts/${path}/${expert}`);
-    await go(listed, { message: `The request is assigned to ${expert}.` });
+    return go(listed, { message: `The request is assigned to ${expert}.` });
   };
   return form({ title: 'Ask an expert', verb: 'Assign', look: 'plain', controls: [field], parts: [field.node, names], send: assign });
 }
 
 function refusal({ account, reference }, path, next, done) {
   return form({
-    title: 'Decline', verb: 'Decline', look: 'stop', controls: [control('reason')],
+    title: 'Decline', verb: 'Decline', look: 'stop', controls: [control('reason')], key: `decline ${path}`,
     send: async ({ reason }) => {
       const question = `Decline ${reference} of ${account} for this reason? "${reason}" You cannot undo this.`;
       const answer = await sure(question, 'Decline', { stop: true, more: next && 'Decline and open the next' });
-      if (answer) await done(await ask('PUT', `/desk/decline/${path}`, { reason }), answer);
+      if (!answer) return false;
+      return done(await ask('PUT', `/desk/decline/${path}`, { reason }), answer);
     },
   });
 }
@@ -143,7 +144,7 @@ function rangeTable(caption, ranges) {
 }
 
 function openRegistry(app, name, message) {
-  return app.open(`Registry ${name}`, async () => {
+  return app.open(`Registry ${name}`, async app => {
     const page = await ask('GET', `/registries/${name}`), place = element('div');
     const told = details([['Largest value', String(page.max)], ['Entries', String(page.entries.length)]]);
     return element('div', {}, place, told, rangeTable('Ranges', page.ranges), element('p', {}, HELD),
@@ -155,7 +156,7 @@ function openRegistry(app, name, message) {
 export async function due(app) {
   const pages = [], place = element('div'), soon = dayOf(Date.now() / 1000 + 30 * 86400);
   for (const name of await ask('GET', '/registries')) pages.push(await ask('GET', `/registries/${name}`));
-  const rows = byExpiry(pages), { length } = rows.filter(({ status, held, expires }) => status === 'Temporary' && !held && expires <= soon);
+  const rows = byExpiry(pages), { length } = endingBy(rows, soon);
   const told = length ? `${length === 1 ? '1 allocation expires' : `${length} allocations expire`} by ${soon}.` : `Nothing expires by ${soon}.`;
   return element('div', {}, element('p', {}, `${told} ${HELD}`), place, earlyTable('Due to expire', rows, place, text => app.go('due', text), true));
 }
@@ -192,7 +193,7 @@ function definition(app) {
   chooser.input.setAttribute('accept', '.csv,text/csv,text/plain');
   const name = control('name');
   return form({
-    title: 'Define a registry', verb: 'Define this registry', controls: [name, chooser, most], parts: [name.node, chooser.node, preview, most.node],
+    title: 'Define a registry', verb: 'Define this registry', controls: [name, chooser, most], parts: [name.node, chooser.node, preview, most.node], key: 'define',
     check: values => ({ name: faultOf('name', values.name), max: faultOf('max', values.max), file: fileFault(file, Number(values.max)) }),
     send: async ({ name, max }) => {
       if (!await sure(`Define ${name} with ${file.ranges.length} ranges, 0 to ${max}? The ranges of a registry cannot be changed afterwards.`, 'Define')) return;

@@ -2,14 +2,14 @@
 import * as applicant from './applicant.js';
 import * as clerk from './clerk.js';
 import * as expert from './expert.js';
-import { LOADING, button, control, element, focusOn, form, say, trouble } from './dom.js';
+import { LOADING, button, control, drafts, element, focusOn, form, say, trouble } from './dom.js';
 import { forgetPlaces } from './list.js';
 import { Gone, Refusal, ask, carries, carry, endBy, tellBy } from './office.js';
 
 const SECTIONS = {
   applicant: {
-    requests: ['My requests', applicant.requests], new: ['New request', applicant.fresh], blocks: ['My blocks', applicant.blocks],
-    agents: ['Agents', applicant.agents],
+    requests: ['My requests', applicant.requests], new: ['New request', applicant.fresh], values: ['My values', applicant.values],
+    blocks: ['My blocks', applicant.blocks], agents: ['Agents', applicant.agents],
   },
   expert: { queue: ['Requests to review', expert.queue] },
   clerk: {
@@ -19,7 +19,7 @@ const SECTIONS = {
 };
 const HOUR = 3600000, LOOK = 10000;
 const main = document.getElementById('main'), sections = document.getElementById('sections'), who = document.getElementById('who');
-let kind = null, own = {}, used = 0, shown = 0, place = '', scrolled = 0;
+let kind = null, own = {}, used = 0, shown = 0, place = '', scrolled = 0, isHere = true, last = { names: [] };
 
 // ---- Sections
 
@@ -30,7 +30,7 @@ async function view(title, make, { message = '', back, scroll } = {}) {
   main.inert = true;
   let node;
   try {
-    node = typeof make === 'function' ? await make() : make;
+    node = await make(appFor(turn));
   } catch (error) {
     if (error instanceof Gone || turn !== shown) return;
     node = element('div', {}, trouble(error), element('p', { class: 'actions' }, button('Try again', () => view(title, make, { back }))));
@@ -47,14 +47,17 @@ async function view(title, make, { message = '', back, scroll } = {}) {
 }
 
 // The address names the section alone. A case has an entry in the history with the same address, so that Back leads to its list.
-const app = {
+// A view that somebody has left meanwhile can only say something.
+const appFor = turn => ({
   go: (name, message) => {
+    if (turn !== shown) return say(message);
     if (history.state?.inside) history.replaceState(null, '', `#${name}`);
     else if (location.hash !== `#${name}`) history.pushState(null, '', `#${name}`);
     place = here();
     return draw(message);
   },
   open: (title, make, message) => {
+    if (turn !== shown) return say(message ?? '');
     if (!history.state?.inside) {
       scrolled = scrollY;
       history.pushState({ inside: true }, '');
@@ -62,7 +65,7 @@ const app = {
     }
     return view(title, make, { message, back: () => element('p', {}, button('Back to the list', () => history.back(), { class: 'plain' })) });
   },
-};
+});
 
 const here = () => `${location.hash}${history.state?.inside ? ' inside' : ''}`;
 
@@ -80,7 +83,7 @@ function draw(message, scroll) {
   const [title, make] = own[name];
   const link = key => element('a', { href: `#${key}`, 'aria-current': key === name ? 'page' : undefined, onclick: () => again(key) }, own[key][0]);
   sections.replaceChildren(element('ul', {}, Object.keys(own).map(key => element('li', {}, link(key)))));
-  return view(title, () => make(app), { message, scroll });
+  return view(title, make, { message, scroll });
 }
 
 // A link to the section that is open changes no address, so it would do nothing.
@@ -92,17 +95,24 @@ function again(name) {
 
 // ---- Signing in and out
 
-// Which kind of work a token is for. There are three, so one that is for neither of two is for the third.
-async function kindOf() {
-  for (const [name, path] of [['applicant', '/requests'], ['expert', '/queue']]) {
+// Which kind of work a token is for, and the requests that tell its account from another. There are three kinds, so one that is for neither of two is
+// for the third.
+async function callerOf() {
+  for (const [kind, path] of [['applicant', '/requests'], ['expert', '/queue']]) {
     try {
-      await ask('GET', path);
-      return name;
+      const rows = await ask('GET', path);
+      return { kind, names: rows.map(({ account, reference }) => `${account}/${reference}`) };
     } catch (error) {
       if (!(error instanceof Refusal) || error.error !== 'kind') throw error;
     }
   }
-  return 'clerk';
+  return { kind: 'clerk', names: [] };
+}
+
+// Requests stay, so another account than before would lack some of those that were there.
+function isAnother(caller) {
+  const names = new Set(caller.names);
+  return caller.kind !== last.kind || !last.names.every(name => names.has(name));
 }
 
 function signIn(message = '') {
@@ -112,7 +122,10 @@ function signIn(message = '') {
     send: async values => {
       carry(values.token);
       try {
-        kind = await kindOf();
+        const caller = await callerOf();
+        if (isAnother(caller)) drafts.clear();
+        last = caller;
+        kind = caller.kind;
         own = SECTIONS[kind];
       } catch (error) {
         carry(null);
@@ -140,8 +153,8 @@ function enter() {
   draw();
 }
 
-// Forgets the token and all that was shown.
-function signOut(message) {
+// Forgets the token and all that was shown, and what was typed unless the same person signs in again.
+function signOut(message, isAgain = false) {
   carry(null);
   kind = null;
   own = {};
@@ -151,8 +164,11 @@ function signOut(message) {
   who.replaceChildren();
   sections.replaceChildren();
   sections.hidden = true;
-  history.replaceState(null, '', location.pathname);
   forgetPlaces();
+  if (!isAgain) {
+    drafts.clear();
+    if (isHere) history.replaceState(null, '', location.pathname);
+  }
   // The engine keeps the last text that a pattern was tried on.
   /^/.test('');
   signIn(message);
@@ -161,11 +177,20 @@ function signOut(message) {
 // ---- The page
 
 function isIdle() {
+  if (!kind && Date.now() - used > HOUR) drafts.clear();
   if (carries() && kind && Date.now() - used > HOUR) signOut('You were signed out after an hour without use.');
 }
 
 tellBy(say);
-endBy(() => { if (kind) signOut('Your token does not work any more: it has expired or was taken away. Ask the authority for another.'); });
+endBy(() => {
+  const kept = drafts.size ? ' What you typed is here again once you sign in with another.' : '';
+  if (kind) signOut(`Your token does not work any more: it has expired or was revoked. Ask the authority for another.${kept}`, true);
+});
+addEventListener('pagehide', () => {
+  isHere = false;
+  if (kind) signOut('You were signed out, because you left this page.');
+});
+addEventListener('pageshow', () => { isHere = true; });
 addEventListener('hashchange', arrive);
 addEventListener('popstate', () => { if (!kind && location.hash) history.replaceState(null, '', location.pathname); else arrive(); });
 for (const name of ['pointerdown', 'keydown', 'focusin']) addEventListener(name, () => { isIdle(); used = Date.now(); }, true);

@@ -9,6 +9,9 @@ export class Told extends Error {}
 /** What is said while a view is on its way. */
 export const LOADING = 'Loading.';
 
+/** What was typed and not sent yet, by the key of its form. It goes with the token. */
+export const drafts = new Map();
+
 let count = 0;
 
 /** An element with its attributes, listeners (`onclick`) and children. */
@@ -84,6 +87,7 @@ export function control(name, { options, value, onchange, type, optional = false
     : element('div', { class: 'field' }, title, about, input, fault);
   return {
     name, node, input, label,
+    set: text => { if (type === 'checkbox') input.checked = text; else if (type !== 'file') input.value = text; },
     get: () => (type === 'checkbox' ? input.checked : type === 'file' ? input.files[0] : input.value.trim()),
     mark: sentence => {
       fault.textContent = sentence ?? '';
@@ -118,9 +122,10 @@ export function choice(legend, name, options, value, onchange) {
 
 /**
  * A form. `controls` gives its controls, `check` the faults of its values by field, and `send` does what it is for; what `send` throws is
- * shown beside the field to which it belongs, or above the form. `calm` hides what is shown above. `look` is the class of its button.
+ * shown beside the field to which it belongs, or above the form. `calm` hides what is shown above. `look` is the class of its button. What was typed
+ * is kept under `key` until it is sent; `send` gives false if it was not.
  */
-export function form({ title, controls, parts, verb, check, send, autocomplete = 'off', look }) {
+export function form({ title, controls, parts, verb, check, send, autocomplete = 'off', look, key }) {
   const problem = element('div', { class: 'problem', role: 'alert', hidden: true });
   const submit = element('button', { type: 'submit', class: look }, verb);
   let busy = false;
@@ -143,17 +148,20 @@ export function form({ title, controls, parts, verb, check, send, autocomplete =
     busy = true;
     submit.setAttribute('aria-disabled', 'true');
     try {
-      await send(values());
+      if (await send(values()) !== false) drafts.delete(key);
     } catch (error) {
-      if (!(error instanceof Gone)) show(troubleOf(error), faultNamed(error, now()));
+      if (!(error instanceof Gone) && !node.isConnected) say(`${verb}: ${troubleOf(error)[0]}`);
+      else if (!(error instanceof Gone)) show(troubleOf(error), faultNamed(error, now()));
     }
     busy = false;
     submit.removeAttribute('aria-disabled');
   };
   problem.setAttribute('tabindex', '-1');
-  const node = element('form', { novalidate: true, method: 'post', autocomplete, onsubmit: act },
+  const keep = () => { if (key) drafts.set(key, values()); };
+  const node = element('form', { novalidate: true, method: 'post', autocomplete, onsubmit: act, oninput: keep, onchange: keep },
     title ? element('h3', {}, title) : null, problem, parts ?? now().map(one => one.node), element('p', { class: 'actions' }, submit));
   node.calm = () => { problem.hidden = true; };
+  if (drafts.has(key)) now().forEach(one => one.set(drafts.get(key)[one.name] ?? ''));
   return node;
 }
 

@@ -9,7 +9,7 @@ export async function queue(app) {
   const rows = await ask('GET', '/queue');
   const verb = row => (row.state !== 'pending' ? 'Details' : row.advice ? 'Change advice' : 'Give advice');
   const advised = ({ advice }) => (advice ? `${advice.verdict === 'for' ? 'For' : 'Against'}: ${advice.text}` : '');
-  const open = row => app.open(`Request ${row.reference} of ${row.account}`, review(app, row));
+  const open = row => app.open(`Request ${row.reference} of ${row.account}`, app => review(app, row));
   const cells = row => [row.account, row.reference, inWords(row.ask), STATES[row.state] ?? row.state, advised(row)];
   const act = row => button(verb(row), () => open(row), { 'aria-label': `Open ${row.reference} of ${row.account}` });
   const columns = ['Account', 'Reference', 'Request', 'State', 'My advice'];
@@ -22,7 +22,7 @@ function review(app, row) {
   const about = details(row.state === 'pending' ? told : [...told, ...own]);
   if (row.state !== 'pending') return about;
   const advise = form({
-    title: 'My advice', verb: 'Send my advice',
+    title: 'My advice', verb: 'Send my advice', key: `advise ${row.account}/${row.reference}`,
     controls: [control('verdict', { value: row.advice?.verdict }), control('text', { value: row.advice?.text })],
     check: values => ({ verdict: faultOf('verdict', values.verdict), text: faultOf('text', values.text) }),
     send: async ({ verdict, text }) => {

@@ -41,14 +41,15 @@ export const COUNTS = {
 };
 
 const MARKS = ['stable', 'interest', 'will_be_rfc'];
+const PLAIN = 'At most 200 characters, without accents.';
 
 /** The fields of all forms, by the name of the member or of the part of the path. */
 export const FIELDS = {
   registry: { label: 'Registry', form: 'name' },
   value: { label: 'Value', form: 'number', hint: 'A whole number.' },
   least: { label: 'Policy' },
-  label: { label: 'Name of the value', hint: 'What the registry will call it, for example the name of your option or message.' },
-  contact: { label: 'Contact', hint: 'Whom to ask about this value: a name and an e-mail address (RFC 8126, section 4). It is not published.' },
+  label: { label: 'Name of the value', hint: `What the registry will call it, for example the name of your option or message. ${PLAIN}` },
+  contact: { label: 'Contact', hint: `Whom to ask about this value: a name and an e-mail address (RFC 8126, section 4). It is not published. ${PLAIN}` },
   specification: { label: 'Specification', hint: 'Where the permanent, public specification is: its title or its web address. It must be detailed enough for independent implementations to work together (RFC 8126, section 4.6).' },
   'rfc-number': { label: 'Number of the RFC', form: 'rfc', hint: 'For example 9999.' },
   'rfc-stream': { label: 'Stream of the RFC', options: STREAMS },
@@ -62,8 +63,8 @@ export const FIELDS = {
   will_be_rfc: { label: 'The specification will be published as an RFC.' },
   iesg: { label: 'IESG minutes', hint: 'This allocation was renewed before. The IESG must approve another renewal: cite its minutes (RFC 7120, section 3.3).' },
   size: { label: 'Size', options: SIZES },
-  organization: { label: 'Organization', hint: 'As it should be listed with the block.' },
-  address: { label: 'Address of the organization', hint: 'On one line.' },
+  organization: { label: 'Organization', hint: `As it should be listed with the block. ${PLAIN}` },
+  address: { label: 'Address of the organization', hint: `On one line. ${PLAIN}` },
   reference: { label: 'Your reference', form: 'name', hint: 'Your own short name for this request: small letters, digits and hyphens. You can keep this one.' },
   agent: { label: 'Account of the agent', form: 'name', hint: 'Check the spelling: the office does not check whether the account exists.' },
   account: { label: 'Account', form: 'name', hint: 'Small letters, digits and hyphens, at most 32.' },
@@ -71,9 +72,9 @@ export const FIELDS = {
   name: { label: 'Name of the registry', form: 'name', hint: 'Small letters, digits and hyphens, at most 32.' },
   max: { label: 'Largest value', form: 'number', hint: 'The last range must end here.' },
   prefix: { label: 'Prefix', form: 'prefix', hint: 'Six hexadecimal digits, for example 001A2B.' },
-  text: { label: 'Your advice', hint: 'The clerks read it. The applicant does not.' },
+  text: { label: 'Your advice', hint: `The clerks read it. The applicant does not. ${PLAIN}` },
   verdict: { label: 'Your recommendation', options: VERDICTS },
-  reason: { label: 'Reason', hint: 'The applicant reads this.' },
+  reason: { label: 'Reason', hint: `The applicant reads this. ${PLAIN}` },
   token: { label: 'Token', form: 'token' },
   kind: { label: 'Kind', options: CAPABILITIES },
   until: { label: 'Valid through', form: 'day', hint: 'The last day, in UTC, on which the token works.' },
@@ -281,13 +282,20 @@ export function rowsOf(ask) {
   return rows;
 }
 
-/** What became of a request, in words. */
-export function outcome({ ask, state, given, reason }) {
+/** The values of a form that spells this ask. */
+export function valuesOf({ rfc, ...ask }) {
+  const parts = rfc ? { 'rfc-number': String(rfc.number), 'rfc-stream': rfc.stream, 'rfc-track': rfc.track } : {};
+  return { ...ask, ...parts, wish: ask.least ? 'least' : 'value', value: String(ask.value ?? ''), allocation: `${ask.registry}/${ask.value}` };
+}
+
+/** What became of a request, in words; `entry` is the one that it gave or changed, if that is known. */
+export function outcome({ ask, state, given, reason }, entry) {
   if (state === 'declined') return reason === undefined ? '' : `Reason: ${reason}`;
   if (state !== 'approved') return '';
   if (given === undefined) return '';
   if (ask.kind === 'block') return `Block ${given}`;
-  return { renew: `Value ${given}, for another year`, permanent: `Value ${given}, permanent`, early: `Value ${given}, for one year` }[ask.kind] ?? `Value ${given}`;
+  const ends = entry?.expires && !entry.held ? `${entry.status === 'Expired' ? 'expired' : 'expires'} on ${entry.expires}` : 'for one year';
+  return `Value ${given}${{ renew: `, ${ends}`, permanent: ', permanent', early: `, ${ends}` }[ask.kind] ?? ''}`;
 }
 
 /** The records of a text in CSV (RFC 4180); blank lines do not count. */

@@ -217,6 +217,29 @@ test('the line for notes.csv, experts to choose from, and what expires next', ()
   assert.deepEqual(cases.byExpiry(pages).map(({ registry, value }) => `${registry}${value}`), ['b4', 'a1', 'b5', 'a2']);
 });
 
+test('an ask that is asked again is the same ask', () => {
+  const asks = [['code', wish(5)], ['code', { ...wish(5), wish: 'least', least: 'specification-required', specification: 'S' }], ['code', wish(55, RFC)], ['early', wish(25, { ...EARLY, will_be_rfc: true })],
+    ['renew', wish(45, { ...EARLY, iesg: 'M-7', renewed: true })], ['permanent', wish(45, RFC)], ['block', { size: 'MA-S', organization: 'O', address: 'A' }]];
+  for (const ask of asks.map(([kind, values]) => forms.askOf(kind, values, PAGE))) {
+    const values = forms.valuesOf(ask), [registry, value] = values.allocation.split('/');
+    if (['renew', 'permanent'].includes(ask.kind)) assert.deepEqual([registry, value], [ask.registry, String(ask.value)]);
+    assert.deepEqual(forms.askOf(ask.kind, { ...values, renewed: ask.iesg !== undefined }, PAGE), ask);
+  }
+});
+
+test('what an applicant holds, and when it ends', () => {
+  const row = (kind, given, state = 'approved') => ({ ask: { kind, registry: 'codes' }, state, given });
+  const entry = { value: 7, expires: '2026-12-26', status: 'Temporary', label: 'Seven' }, other = { value: 9, status: 'Assigned' };
+  const pages = new Map([['codes', { entries: [other, entry, { value: 8, expires: '2026-12-01', status: 'Temporary', held: true }] }]]);
+  const rows = [row('code', '9'), row('early', '8'), row('early', '7'), row('renew', '7'), row('code', undefined, 'pending'), row('block', '001A2B')];
+  assert.deepEqual(cases.valuesHeld(rows, pages).map(({ value, registry }) => `${registry} ${value}`), ['codes 7', 'codes 8', 'codes 9']);
+  assert.deepEqual(cases.endingBy(cases.valuesHeld(rows, pages), '2026-12-26').map(({ value }) => value), [7]);
+  assert.deepEqual(cases.endingBy(cases.valuesHeld(rows, pages), '2026-12-25'), []);
+  assert.equal(forms.outcome(rows[2], entry), 'Value 7, expires on 2026-12-26');
+  assert.equal(forms.outcome(rows[3], { ...entry, status: 'Expired' }), 'Value 7, expired on 2026-12-26');
+  assert.equal(forms.outcome(rows[2]), 'Value 7, for one year');
+});
+
 test('asks of the transcripts are told in words, and in rows', () => {
   const asks = [...read('crates/reg_cli/transcripts/early.txt').matchAll(/^> .* PUT \/requests\/\S+ (\{.*\})$/gm)].map(([, body]) => JSON.parse(body));
   assert.ok(asks.length > 10);
@@ -225,7 +248,7 @@ test('asks of the transcripts are told in words, and in rows', () => {
     assert.doesNotMatch(forms.inWords(ask) + JSON.stringify(forms.rowsOf(ask)), /undefined|\[object/);
     assert.ok(forms.rowsOf(ask).length > 3);
   }
-  assert.equal(forms.outcome({ ask: { kind: 'renew' }, state: 'approved', given: '7' }), 'Value 7, for another year');
+  assert.equal(forms.outcome({ ask: { kind: 'renew' }, state: 'approved', given: '7' }), 'Value 7, for one year');
   assert.equal(forms.outcome({ ask: { kind: 'code' }, state: 'declined', reason: 'duplicate' }), 'Reason: duplicate');
 });
 

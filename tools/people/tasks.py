@@ -51,7 +51,7 @@ def in_lists(office, clerk):
     waiting = office.ask('GET', '/desk/pending', CLERK)
     clerk.sees(f'{len(waiting)} in all')
     search = clerk.named('input', 'Search: Requests that wait')
-    for text, right in [('kind', 0), ('FIRST COME FIRST SERVED', sum('least' in row['ask'] for row in waiting)), ('oceanic', 3)]:
+    for text, right in [('kind', 0), ('FIRST COME FIRST SERVED', sum(row['ask'].get('least') == 'first-come-first-served' for row in waiting)), ('oceanic', 3)]:
         search.clear()
         search.send_keys(text)
         clerk.until(lambda: len(clerk.rows('Requests that wait')) == right, f'{right} rows with {text}')
@@ -176,3 +176,104 @@ def expiring(office, clerk):
     judge(clerk.rows('Due to expire')[-1][5] == 'Held', 'what is held does not come last')
     clerk.click('Release value 2001 of ports')
     clerk.status('Value 2001 of ports is released')
+
+
+def applicants_tasks(office, person):
+    """What an applicant does: what it holds, a declined request again, and nothing typed that is lost."""
+    person.sign_in(token_of('acme'))
+    person.sees('Details')
+    with within(person, 1, 'when my values end'):
+        person.go('My values')
+    entries = [entry for entry in office.ask('GET', '/registries/ports')['entries'] if entry['assignee'] == 'acme']
+    shown = {(row[0], row[1]): row[4] for row in person.rows('My values')}
+    judge(shown == {('ports', str(entry['value'])): entry.get('expires', '') for entry in entries}, f'the values are {shown} in place of {entries}')
+    early = next(entry for entry in entries if 'expires' in entry)
+    person.click(f'Renew value {early["value"]} of ports')
+    person.sees(f'Value {early["value"]} of ports, "acme early", until {early["expires"]}')
+    person.click('Empty this form')
+    person.sees('What each policy needs')
+    again(office, person)
+    kept(office, person)
+    slow(office, person)
+    left(person)
+    ended(office, person)
+
+
+def again(office, person):
+    """A declined request is made again with its data, under another reference."""
+    asks(office, 'acme', 'again', value=2500, rfc={'number': 9999, 'stream': 'ietf', 'track': 'standards'})
+    office.ask('PUT', '/desk/decline/acme/again', CLERK, {'reason': 'later'})
+    person.go('My requests')
+    with within(person, 3, 'ask again'):
+        person.click('Details of again')
+        person.click('Ask again with these data')
+        person.until(lambda: person.control('Number of the RFC').get_attribute('value') == '9999', 'the data')
+        person.click('Send the request')
+        person.status('arrived')
+    told = office.ask('GET', '/requests', token_of('acme'))
+    same = [one['reference'] for one in told if one['ask'] == next(one['ask'] for one in told if one['reference'] == 'again')]
+    judge(len(same) == 2, f'the same ask has the references {same}')
+
+
+def kept(office, person):
+    """What was typed outlasts a look at another section."""
+    begun(person)
+    person.tick('A value that I choose')
+    person.fill('Value', '77')
+    person.sees('At most 200 characters, without accents.')
+    person.fill('Name of the value', 'Kept')
+    person.fill('Contact', 'Acme')
+    person.go('My values')
+    person.go('New request')
+    person.until(lambda: [person.control(label).get_attribute('value') for label in ('Value', 'Name of the value', 'Contact')] == ['77', 'Kept', 'Acme'], 'what was typed')
+
+
+def slow(office, person):
+    """A slow answer is told where somebody went meanwhile, and leads nowhere."""
+    office.relay.mode = ['slow']
+    person.click('Send the request')
+    person.go('Agents')
+    person.fill('Account of the agent', 'zo')
+    person.status('arrived')
+    judge(person.script('return [document.querySelector("h2").textContent, document.activeElement.value]') == ['Agents', 'zo'], 'a slow answer leads away')
+    begun(person)
+    judge(person.control('Name of the value').get_attribute('value') == '', 'what was sent is still in the form')
+
+
+def begun(person):
+    person.go('New request')
+    person.sees('What each policy needs')
+    person.choose('Registry', 'ports')
+
+
+def left(person):
+    """A page that was left is signed out, also when the browser has kept it."""
+    person.fill('Name of the value', 'Left')
+    person.script('addEventListener("pageshow", event => { window.kept = event.persisted; })')
+    person.driver.get(person.address + 'errors.html')
+    person.driver.back()
+    person.sees('Your token')
+    judge(person.script('return document.body.textContent').find('acme') < 0, 'the page that was left still shows something')
+    print(f'the page that was left was {"kept by the browser" if person.script("return window.kept === true") else "loaded again"}')
+
+
+def ended(office, person):
+    """A token that ends in mid-form: what was typed is there again for the same account, and for no other."""
+    for number, (account, right) in enumerate([('acme', 'Ended'), ('zephyr', '')]):
+        token = f'short-token-0000000000{number}'
+        office.grant('acme', 'applicant', token, 15)
+        person.sign_in(token)
+        person.sees('Details')
+        begun(person)
+        person.fill('Name of the value', 'Ended')
+        person.fill('Contact', 'Acme')
+        person.until(lambda: 'error' in office.ask('GET', '/requests', token), 'the end of the token')
+        person.click('Send the request')
+        person.status('What you typed is here again once you sign in')
+        person.sign_in(token_of(account))
+        person.sees('What each policy needs')
+        if account == 'zephyr':
+            person.choose('Registry', 'ports')
+        typed = person.control('Name of the value').get_attribute('value')
+        judge(typed == right, f'after {account} signed in the form has {typed!r}')
+        person.sign_out()
