@@ -14,7 +14,7 @@ import { endingBy, entryOf, valuesHeld } from './cases.js';
 export async function requests(app) {
   const rows = await ask('GET', '/requests'), pages = await pagesOf(rows.filter(({ ask }) => ask.kind === 'early')), place = element('div');
   const withdraw = async row => {
-    if (!await sure(`Withdraw the request ${row.reference}? It cannot be made to wait again.`, 'Withdraw')) return;
+    if (!await sure(`Withdraw the request ${row.reference}? You cannot undo this. To ask again, make a new request.`, 'Withdraw')) return;
     await attempt(place, async () => {
       await ask('DELETE', `/requests/${row.reference}`);
       await app.go('requests', `The request ${row.reference} is withdrawn.`);
@@ -26,7 +26,7 @@ export async function requests(app) {
   const soon = dayOf(Date.now() / 1000 + 30 * 86400), { length } = endingBy(valuesHeld(rows, pages), soon);
   const told = `${length === 1 ? '1 of your values expires' : `${length} of your values expire`} by ${soon}. `;
   const greeting = length ? element('p', { class: 'note' }, told, element('a', { href: '#values' }, 'See My values')) : null;
-  return element('div', {}, place, greeting, add, requestTable(rows, actions, 'My requests', 'You have no requests yet. Make one by "New request".', pages));
+  return element('div', {}, place, greeting, add, requestTable(rows, actions, 'My requests', 'You have no requests yet. To make one, choose New request.', pages));
 }
 
 // The pages of the registries in which requests were approved, by name.
@@ -74,12 +74,14 @@ export async function fresh(app) {
     check: () => draft.faults(),
     send: () => draft.send(own, app),
   });
+  Object.assign(draft, { calm: node.calm, allow: node.allow });
   await draft.choose(draft.kind);
-  draft.calm = node.calm;
   for (const name of ['input', 'change']) node.addEventListener(name, () => draft.keep());
   const empty = () => { drafts.delete('request'); app.go('new'); };
   return drafts.has('request') ? element('div', {}, element('p', {}, button('Empty this form', empty, { class: 'plain' })), node) : node;
 }
+
+const noteOf = text => element('p', { class: 'note' }, text);
 
 class Draft {
   constructor(names, own, { kind = 'code', values } = {}) {
@@ -128,7 +130,7 @@ class Draft {
 
   async choose(kind) {
     this.read();
-    this.calm?.();
+    this.calm();
     Object.assign(this, { kind, page: null });
     for (const part of ['top', 'wishes', 'naming', 'evidence']) this.put(part, []);
     this.shape = '';
@@ -141,7 +143,7 @@ class Draft {
   async offerRegistries() {
     const known = this.names.includes(this.values.registry) ? this.values.registry : this.names.length === 1 ? this.names[0] : undefined;
     const options = Object.fromEntries(this.names.map(name => [name, name]));
-    if (!this.names.length) this.put('top', [], element('p', { class: 'note' }, 'The authority has not opened any registry yet.'));
+    if (!this.names.length) this.put('top', [], noteOf('The authority has not opened any registry yet.'));
     else this.put('top', [control('registry', { options, value: known, onchange: () => this.offerWishes() })], this.needs);
     if (known) await this.offerWishes();
   }
@@ -150,16 +152,14 @@ class Draft {
     const { kind } = this, mine = this.own.filter(({ ask: { kind }, state }) => kind === 'early' && state === 'approved');
     await attempt(this.top, async () => { for (const { ask: { registry } } of mine) await this.load(registry); });
     if (kind !== this.kind) return;
-    const entryOf = ({ ask: { registry }, given }) => this.pages.get(registry)?.entries.find(({ value }) => value === Number(given));
     const options = {};
-    for (const one of mine) {
-      const entry = entryOf(one), { registry } = one.ask;
-      const until = entry?.status === 'Expired' ? 'expired on' : 'until';
-      if (entry?.expires) options[`${registry}/${entry.value}`] = `Value ${entry.value} of ${registry}, "${entry.label}", ${until} ${entry.expires}`;
+    for (const { registry, value, label, status, expires } of valuesHeld(mine, this.pages)) {
+      const until = `${status === 'Expired' ? 'expired on' : 'until'} ${expires}`;
+      if (expires) options[`${registry}/${value}`] = `Value ${value} of ${registry}, "${label}", ${until}`;
     }
     const known = options[this.values.allocation] && this.values.allocation, change = { onchange: () => this.refresh() };
     if (Object.keys(options).length) this.put('top', [control('allocation', { options, label: 'Early allocation', value: known, ...change })]);
-    else if (!this.top.hasChildNodes()) this.put('top', [], element('p', { class: 'note' }, 'You have no early allocation.'));
+    else if (!this.top.hasChildNodes()) this.put('top', [], noteOf(`You have no early allocation to ${kind === 'renew' ? 'renew' : 'make permanent'}.`));
   }
 
   async load(registry) {
@@ -181,7 +181,7 @@ class Draft {
   wish(wish) {
     const policies = openPolicies(this.page, this.kind);
     if (!policies.length) {
-      this.put('wishes', [], element('p', { class: 'note' }, 'Nobody can ask for such a value of this registry: no policy of it allows that.'));
+      this.put('wishes', [], noteOf(`No range of this registry allows ${this.kind === 'early' ? 'early allocations' : 'requests'}.`));
       return;
     }
     const options = { least: { title: 'The lowest free value' }, value: { title: 'A value that I choose' } };
@@ -206,6 +206,8 @@ class Draft {
   refresh() {
     const values = this.read();
     if (this.isOfMine()) this.page = this.pages.get(values.registry) ?? null;
+    const isAsked = this.kind === 'code' || this.kind === 'early';
+    this.allow(this.parts.top.length > 0 && (!isAsked || !this.page || this.parts.wishes.length > 0));
     const entry = this.page?.entries.find(({ value }) => value === Number(values.value));
     this.values.renewed = values.renewed = Boolean(this.isOfMine() && entry?.renewed);
     const policy = policyOf(this.kind, values, this.page), { needed, optional } = evidenceFor(this.kind, policy, values.renewed);
@@ -233,7 +235,7 @@ class Draft {
     if (twin) throw new Told(`You have asked for just this already: request ${twin} is waiting. You need not send it again.`);
     await ask('PUT', `/requests/${values.reference}`, body);
     drafts.delete('request');
-    await app.go('requests', `Your request ${values.reference} arrived. It waits for a clerk. Look here again to see what is decided.`);
+    await app.go('requests', `Request ${values.reference} is received. A clerk will decide. You get no message, so come back to this page.`);
   }
 }
 
@@ -253,7 +255,7 @@ export async function agents(app) {
     app.open(`Requests of ${account}`, app => requestTable(rows, actions(app), `Requests of ${account}`, 'There are no requests.'));
   });
   const add = form({
-    title: 'Let an account read my requests', verb: 'Let it read', controls: [control('agent')], key: 'agent',
+    title: 'Add an agent', verb: 'Add', controls: [control('agent')], key: 'agent',
     send: async ({ agent }) => {
       await set(agent, true);
       await app.go('agents', `${agent} can now read your requests.`);
@@ -261,7 +263,7 @@ export async function agents(app) {
   });
   const mine = table({
     caption: 'Agents who may read my requests', columns: ['Account'], rows: names, empty: 'Nobody else may read your requests.',
-    cells: name => [name], act: name => button('Stop', () => stop(name), { 'aria-label': `Stop ${name} from reading` }),
+    cells: name => [name], act: name => button('Remove', () => stop(name), { 'aria-label': `Remove ${name}` }),
   });
   const others = table({
     caption: 'Accounts whose requests I may read', columns: ['Account'], rows: principals, empty: 'No account has named you as its agent.',
@@ -295,11 +297,11 @@ export async function blocks() {
     input.checked = row.private;
     row.private = (await ask('PUT', `/holdings/${row.block}`, { private: wanted })).private;
     input.checked = row.private;
-    say(`The public ${row.private ? 'no longer sees' : 'now sees'} who holds ${row.block}.`);
+    say(`The public ${row.private ? 'no longer sees' : 'sees'} who holds ${row.block} at the next publication, usually within minutes.`);
   });
   const about = 'The public always sees that a block is assigned. If you keep it private, the public sees neither your organization nor its address.';
   return element('div', {}, place, element('p', {}, about), table({
     quiet: true, caption: 'My blocks', columns: ['Block', 'Size', 'Organization', 'Address'], acts: 'Private', act: toggle, rows,
-    cells: row => [row.block, row.size, row.organization, row.address], empty: 'You have no blocks. Ask for one by "New request".',
+    cells: row => [row.block, row.size, row.organization, row.address], empty: 'You have no blocks. To ask for one, choose New request.',
   }));
 }

@@ -1,6 +1,6 @@
 // What clerks do: decide requests, define registries, add prefixes, hold allocations, and hand out tokens.
-import { Refusal, ask } from './office.js';
-import { attempt, button, control, copyable, details, element, focusOn, form, say, sure } from './dom.js';
+import { Refusal, ask, ownDigest } from './office.js';
+import { Told, attempt, button, control, copyable, details, element, focusOn, form, say, sure } from './dom.js';
 import { table } from './list.js';
 import {
   CAPABILITIES, COUNTS, POLICIES, STATES, dayOf, endOf, faultOf, grantOf, hexOf, inWords, opinionsOf, outcome, rangesOf, rowsOf,
@@ -13,7 +13,7 @@ import { faultInWords } from './errors.js';
 /** The requests that wait, each with its experts and what they recommend. */
 export async function waiting(app) {
   const rows = await ask('GET', '/desk/pending');
-  return requestTable(app, rows, { caption: 'Requests that wait', empty: 'No request waits.', last: ['Experts', opinionsOf] });
+  return requestTable(app, rows, { caption: 'Waiting requests', empty: 'No request waits.', last: ['Experts', opinionsOf] });
 }
 
 /** All requests. */
@@ -135,6 +135,7 @@ export async function registries(app) {
   return element('div', {}, list, definition(app));
 }
 
+const EXAMPLE = '0,99,expert-review,a note or nothing';
 const HELD = 'An early allocation that is held does not expire until it is released.';
 const words = treatment => (treatment === 'reserved' ? 'Reserved' : POLICIES[treatment]?.title ?? treatment);
 
@@ -185,10 +186,10 @@ function definition(app) {
     file = bytes ? { bytes, ...rangesOf(new TextDecoder().decode(bytes)) } : null;
     if (file && !file.fault) most.input.value = file.ranges.at(-1).hi;
     preview.replaceChildren();
-    if (file?.fault) preview.append(element('p', { class: 'problem' }, faultInWords(file.fault)));
+    if (file?.fault) preview.append(element('p', { class: 'problem' }, faultInWords(file.fault, file.ranges)));
     if (file) preview.append(rangeTable('Ranges in this file', file.ranges));
   };
-  const hint = 'The first line is lo,hi,treatment,note. Each other line is a range: its first and last value, its policy or "reserved", and a note or nothing.';
+  const hint = `The first line is lo,hi,treatment,note. Each other line is a range, for example ${EXAMPLE}`;
   const chooser = control('file', { type: 'file', label: 'Range file (CSV)', hint, onchange: choose });
   chooser.input.setAttribute('accept', '.csv,text/csv,text/plain');
   const name = control('name');
@@ -206,7 +207,7 @@ function definition(app) {
 function fileFault(file, max) {
   if (!file) return 'Choose a file.';
   if (file.bytes.byteLength > 65536) return 'The file is larger than 65,536 bytes.';
-  if (file.fault) return faultInWords(file.fault);
+  if (file.fault) return faultInWords(file.fault, file.ranges);
   return file.ranges.at(-1).hi === max ? null : 'The last range of the file does not end at the largest value.';
 }
 
@@ -218,21 +219,21 @@ export async function pool(app) {
   const add = form({
     title: 'Add a prefix', verb: 'Add', controls: [control('prefix')],
     send: async ({ prefix }) => {
-      if (!await sure(`Add ${prefix.toUpperCase()}? A prefix cannot be taken away again.`, 'Add')) return;
+      if (!await sure(`Add ${prefix.toUpperCase()}? A prefix cannot be removed.`, 'Add')) return;
       await ask('PUT', `/desk/pool/${prefix}`);
       await app.go('pool', `Blocks can now be cut from ${prefix.toUpperCase()}.`);
     },
   });
-  const empty = 'There are no prefixes yet, so no block can be given.';
+  const empty = 'There are no prefixes yet, so no block can be assigned.';
   return element('div', {}, table({ caption: 'Prefixes that blocks are cut from', columns: ['Prefix'], rows, cells: prefix => [prefix], empty }), add);
 }
 
 // ---- Tokens
 
-/** A form that grants a token, the list of all tokens, and a form that takes away one that the clerk has. */
+/** A form that grants a token, the list of all tokens, and a form that revokes one that the clerk has. */
 export async function tokens(app) {
   const shown = element('div'), list = element('div');
-  const fill = async () => list.replaceChildren(tokenTable(app, await ask('GET', '/desk/tokens')));
+  const fill = async () => list.replaceChildren(tokenTable(app, await ask('GET', '/desk/tokens'), await ownDigest()));
   await fill();
   return element('div', {}, grant(app, shown, () => attempt(list, fill)), shown, list, revocation(app));
 }
@@ -271,33 +272,40 @@ function show(app, place, token, { account, kind, until }) {
 }
 
 function revocation(app) {
-  const field = control('token', { type: 'password', hint: 'If you have the token itself.' });
+  const field = control('token', { type: 'password', hint: 'Paste the token that you want to revoke.' });
   return form({
-    title: 'Take a token away', verb: 'Take it away', controls: [field],
+    title: 'Revoke a token', verb: 'Revoke', look: 'stop', controls: [field],
     send: async ({ token }) => {
-      await ask('PUT', '/desk/revoke', { token });
+      await ask('PUT', '/desk/revoke', { token }).catch(notOwn);
       field.input.value = '';
-      await app.go('tokens', 'The token works no longer.');
+      await app.go('tokens', 'The token is revoked.');
     },
   });
 }
 
-// All tokens, each with a button that takes it away, and one that takes away all of its account.
-function tokenTable(app, rows) {
-  const place = element('div'), now = Date.now() / 1000;
-  const take = (account, question, path) => async () => {
-    if (!await sure(`${question} This cannot be undone.`, 'Take away')) return;
+function notOwn(error) {
+  throw error.error === 'own' ? new Told('You are signed in with this token, so you cannot revoke it here.') : error;
+}
+
+// All tokens, each with a button that revokes it, and the first of several of an account with one that revokes them all.
+function tokenTable(app, rows, own) {
+  const place = element('div'), now = Date.now() / 1000, isOwn = ({ digest }) => digest === own;
+  const revoke = (account, question, path) => async () => {
+    if (!await sure(`${question} You cannot undo this.`, 'Revoke', { stop: true })) return;
     await attempt(place, async () => {
-      const { length } = await ask('DELETE', path);
-      const said = ['Nothing was left to take away.', `The token of ${account} works no longer.`];
-      await app.go('tokens', said[length] ?? `${length} tokens of ${account} work no longer.`);
+      const { length } = await ask('DELETE', path).catch(notOwn);
+      const said = ['Nothing was left to revoke.', `The token of ${account} is revoked.`];
+      await app.go('tokens', said[length] ?? `${length} tokens of ${account} are revoked.`);
     });
   };
-  const actions = ({ account, digest }) => element('div', { class: 'row' },
-    button('Take away', take(account, `Take away the token ${digest} of ${account}?`, `/desk/tokens/${digest}`), { 'aria-label': `Take away ${digest} of ${account}` }),
-    button('Take away all', take(account, `Take away all tokens of ${account}?`, `/desk/accounts/${account}`), { 'aria-label': `Take away all tokens of ${account}`, class: 'plain' }));
-  const cells = row => [row.account, CAPABILITIES[row.kind] ?? row.kind, endOf(row, now), row.digest], about = 'The office keeps no tokens. It knows each by a digest, which begins as shown here.';
-  const list = table({ caption: 'All tokens', columns: ['Account', 'Kind', 'Valid through', 'Digest'], rows, cells, act: actions, empty: 'There are no tokens.' });
+  const one = ({ account, digest }) => button('Revoke', revoke(account, `Revoke the token ${digest} of ${account}?`, `/desk/tokens/${digest}`),
+    { 'aria-label': `Revoke ${digest} of ${account}`, class: 'stop plain' });
+  const all = account => button(`Revoke all of ${account}`, revoke(account, `Revoke all tokens of ${account}?`, `/desk/accounts/${account}`), { class: 'stop plain' });
+  const of = account => rows.filter(row => row.account === account), hasAll = row => of(row.account)[1] && of(row.account)[0] === row && !of(row.account).some(isOwn);
+  const act = row => element('div', { class: 'row' }, isOwn(row) ? null : one(row), hasAll(row) ? all(row.account) : null);
+  const cells = row => [row.account, CAPABILITIES[row.kind] ?? row.kind, endOf(row, now), row.digest + (isOwn(row) ? ' (you)' : '')];
+  const about = "Tokens are not stored. The first 12 digits of a token's SHA-256 tell them apart.";
+  const list = table({ caption: 'All tokens', columns: ['Account', 'Kind', 'Valid through', 'Digest'], rows, cells, act, empty: 'There are no tokens.' });
   return element('div', {}, list, element('p', {}, about), place);
 }
 

@@ -44,8 +44,7 @@ export function focusOn(node) {
 
 /** The sentence for what went wrong, with a link to the list of errors where it is one of the office's. */
 export function troubleOf(error) {
-  if (error instanceof Lost) return ['The office does not answer. Whether it got your request is not known; sending the same again is safe. Try again in a minute.'];
-  if (error instanceof Told) return [error.message];
+  if (error instanceof Lost || error instanceof Told) return [error.message];
   if (!(error instanceof Refusal)) return ['Something went wrong on this page. Reload it and sign in again.'];
   const about = { href: `errors.html#${error.error}`, target: '_blank', rel: 'noopener' };
   const link = /^[a-z]+$/.test(error.error) ? [' ', element('a', about, `About this error (${error.error})`)] : [];
@@ -122,7 +121,8 @@ export function choice(legend, name, options, value, onchange) {
 
 /**
  * A form. `controls` gives its controls, `check` the faults of its values by field, and `send` does what it is for; what `send` throws is
- * shown beside the field to which it belongs, or above the form. `calm` hides what is shown above. `look` is the class of its button. What was typed
+ * shown beside the field to which it belongs, or above the form. `calm` hides what is shown above, and `allow` its button if
+ * nothing can be sent. `look` is the class of its button. What was typed
  * is kept under `key` until it is sent; `send` gives false if it was not.
  */
 export function form({ title, controls, parts, verb, check, send, autocomplete = 'off', look, key }) {
@@ -158,9 +158,10 @@ export function form({ title, controls, parts, verb, check, send, autocomplete =
   };
   problem.setAttribute('tabindex', '-1');
   const keep = () => { if (key) drafts.set(key, values()); };
+  const actions = element('p', { class: 'actions' }, submit);
   const node = element('form', { novalidate: true, method: 'post', autocomplete, onsubmit: act, oninput: keep, onchange: keep },
-    title ? element('h3', {}, title) : null, problem, parts ?? now().map(one => one.node), element('p', { class: 'actions' }, submit));
-  node.calm = () => { problem.hidden = true; };
+    title ? element('h3', {}, title) : null, problem, parts ?? now().map(one => one.node), actions);
+  Object.assign(node, { calm: () => { problem.hidden = true; }, allow: isAble => { actions.hidden = !isAble; } });
   if (drafts.has(key)) now().forEach(one => one.set(drafts.get(key)[one.name] ?? ''));
   return node;
 }

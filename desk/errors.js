@@ -1,4 +1,5 @@
 // Every error of the office as a sentence that says what to do. Nothing here touches the document or the network.
+import { POLICIES } from './forms.js';
 
 /** The errors by their names, in the order in which the office names the first. */
 export const ERRORS = {
@@ -14,7 +15,7 @@ export const ERRORS = {
   field: 'One part of what was sent is missing or malformed. Correct it and send it again.',
   ranges: 'The range file has a fault. Correct the file and choose it again.',
   clock: 'The clock of the office is wrong. Nothing can be done until the authority sets it. Please tell them.',
-  token: 'This token is unknown, has expired or was taken away. Check that you copied all of it, or ask the authority for another.',
+  token: 'This token is unknown, has expired or was revoked. Check that you copied all of it, or ask the authority for another.',
   kind: 'This token is for another kind of work. Sign in with your token for this one.',
   ref: 'You have used this reference for another request. Look at it in your list, or choose another reference.',
   request: 'There is no such request among those that you may see. Go back to the list and reload it.',
@@ -32,8 +33,8 @@ export const ERRORS = {
   taken: 'Somebody has this value already. Choose another, or ask for the lowest free one.',
   exhausted: 'Nothing is free: every value under this policy is taken, or no block of this size is left. Ask the authority for more room.',
   advice: 'An expert must recommend this request first. Assign an expert and wait for the advice.',
-  own: 'This cannot be your own account or token. An applicant cannot be its own expert or agent, and you cannot take away the token that you are signed in with.',
-  several: 'The digests of several tokens begin with these digits, so none was taken away. Give more digits.',
+  own: 'This is your own account or token. An applicant cannot be its own expert or agent, and no token can revoke itself.',
+  several: 'The digests of several tokens begin with these digits, so none was revoked. Give more digits.',
   holding: 'You hold no such block. Reload the list of your blocks.',
   exists: 'This exists already with other content. Choose another name for the registry, or another token.',
   bits: 'This prefix is for group or local addresses, so no blocks can be cut from it. The second digit must be 0, 4, 8 or C.',
@@ -80,16 +81,13 @@ const EVIDENCE = {
   director: 'An early allocation needs the approval of an area director.',
 };
 
-// The faults of a range file, as sentences; `#` stands for the row, counted from 1 below the header.
+// The faults of a range file, as sentences; `#` stands for the row, counted from 1 below the header, and `@` for what is wrong in it.
 const ROWS = {
   columns: 'Row # does not have four fields.',
   number: 'Row # has a first or last value that is not a whole number of 0 to 4294967295.',
-  treatment: 'Row # names no policy, and not "reserved".',
-  text: 'The note of row # is longer than 200 characters, or has some that cannot be kept.',
-};
-const ORDER = {
-  order: 'Row # ends before it begins.',
-  gap: 'Between row # and the one before it values are missing. The first row must begin at 0.',
+  treatment: `Row #: @ is not one of the words. Write ${Object.keys(POLICIES).join(', ')} or reserved.`,
+  text: 'The note of row # has @. Use at most 200 characters, ASCII only.',
+  order: 'Row # ends before it begins.', gap: 'Values before row # are in no row. The first row must begin at 0.',
   overlap: 'Row # begins before the previous row has ended.',
 };
 const WHOLE = {
@@ -99,11 +97,14 @@ const WHOLE = {
   end: 'The last range does not end at the largest value.',
 };
 
-/** The fault of a range file as a sentence. */
-export function faultInWords(fault) {
-  const [word, place, part] = fault.split(' ');
-  const sentence = WHOLE[fault] ?? (word === 'row' ? ROWS[part] : ORDER[word]);
-  return sentence ? sentence.replace('#', Number(place) + 1) : `The fault is: ${fault}.`;
+/** The fault of a range file as a sentence; `ranges` are those of the file, if they are known. */
+export function faultInWords(fault, ranges = []) {
+  const [word, place, part] = fault.split(' '), at = Number(place), { lo, treatment, note = '' } = ranges[at] ?? {};
+  const from = at ? ranges[at - 1]?.hi + 1 : 0;
+  if (word === 'gap' && lo !== undefined) return `${lo - 1 > from ? `Values ${from} to ${lo - 1} are` : `Value ${from} is`} in no row.`;
+  const odd = part === 'text' ? [...note].find(letter => letter < ' ' || letter > '~') ?? (note && `${note.length} characters`) : treatment;
+  const sentence = WHOLE[fault] ?? ROWS[word === 'row' ? part : word];
+  return sentence ? sentence.replace('#', at + 1).replace('@', () => (odd ? `"${odd}"` : 'something')) : `The fault is: ${fault}.`;
 }
 
 /** An error of the office as one or two sentences that say what to do. */
@@ -111,6 +112,7 @@ export function inWords(error, item) {
   const more = { field: FORMS[item], evidence: EVIDENCE[item], ranges: item && faultInWords(item) };
   const about = Object.hasOwn(more, error) ? more[error] : undefined;
   if (about) return about;
+  if (error === 'status 403') return 'Clerks can use the desk only from the office\'s network.';
   return Object.hasOwn(ERRORS, error) ? ERRORS[error] : `The office refused this: ${error}. Ask the authority what it means.`;
 }
 

@@ -5,7 +5,7 @@ export const POLICIES = {
   'private-use': { title: 'Private Use', section: '4.1', says: 'Anyone may use these values for themselves. None of them is assigned.' },
   'experimental-use': { title: 'Experimental Use', section: '4.2', says: 'These values are for experiments. None of them is assigned.' },
   'hierarchical-allocation': { title: 'Hierarchical Allocation', section: '4.3', says: 'Others assign these values. You cannot ask for one here.' },
-  'first-come-first-served': { title: 'First Come First Served', section: '4.4', items: ['contact'], says: 'The authority needs to know whom to contact, and nothing else.' },
+  'first-come-first-served': { title: 'First Come First Served', section: '4.4', items: ['contact'], says: 'You only need to name a contact.' },
   'expert-review': { title: 'Expert Review', section: '4.5', items: ['contact'], says: 'A designated expert must recommend your request before it can be approved.' },
   'specification-required': { title: 'Specification Required', section: '4.6', items: ['contact', 'specification'], says: 'A public specification must describe the value, and a designated expert must recommend your request.' },
   'rfc-required': { title: 'RFC Required', section: '4.7', items: ['contact', 'rfc'], says: 'An RFC of any stream must describe the value.' },
@@ -24,8 +24,8 @@ const TRACKS = { standards: 'Standards Track', bcp: 'Best Current Practice', inf
 export const KINDS = {
   code: { title: 'A value', says: 'A permanent value of a registry.' },
   early: { title: 'An early allocation', says: 'A value for one year, while its specification is still an Internet-Draft (RFC 7120).' },
-  renew: { title: 'Another year', says: 'A renewal of an early allocation that you have.' },
-  permanent: { title: 'A permanent value in place of an early one', says: 'An early allocation that you have becomes permanent.' },
+  renew: { title: 'Renew an early allocation', says: 'An early allocation that you have lasts another year.' },
+  permanent: { title: 'Make an early allocation permanent', says: 'An early allocation that you have does not expire any more.' },
   block: { title: 'A block of MAC addresses', says: 'Addresses for your devices: MA-L, MA-M or MA-S.' },
 };
 
@@ -36,8 +36,8 @@ export const CAPABILITIES = { applicant: 'Applicant', expert: 'Expert', clerk: '
 
 /** What the office counts, as the page says it. */
 export const COUNTS = {
-  registries: 'Registries', entries: 'Entries', temporary: 'Temporary entries', expired: 'Expired entries', held: 'Entries that are held',
-  prefixes: 'Prefixes', blocks: 'Blocks that were given', agents: 'Agents', capabilities: 'Tokens', valid: 'Tokens that are valid',
+  registries: 'Registries', entries: 'Entries', temporary: 'Temporary entries', expired: 'Expired entries', held: 'Held entries',
+  prefixes: 'Prefixes', blocks: 'Assigned blocks', agents: 'Agents', capabilities: 'Tokens', valid: 'Valid tokens',
 };
 
 const MARKS = ['stable', 'interest', 'will_be_rfc'];
@@ -66,9 +66,9 @@ export const FIELDS = {
   organization: { label: 'Organization', hint: `As it should be listed with the block. ${PLAIN}` },
   address: { label: 'Address of the organization', hint: `On one line. ${PLAIN}` },
   reference: { label: 'Your reference', form: 'name', hint: 'Your own short name for this request: small letters, digits and hyphens. You can keep this one.' },
-  agent: { label: 'Account of the agent', form: 'name', hint: 'Check the spelling: the office does not check whether the account exists.' },
+  agent: { label: 'Account of the agent', form: 'name', hint: 'This account gets to read your requests. Check the spelling.' },
   account: { label: 'Account', form: 'name', hint: 'Small letters, digits and hyphens, at most 32.' },
-  expert: { label: 'Account of the expert', form: 'name', hint: 'Check the spelling: the office does not check whether the account exists.' },
+  expert: { label: 'Account of the expert', form: 'name', hint: 'This account gets to read the request, and cannot be removed. Check the spelling.' },
   name: { label: 'Name of the registry', form: 'name', hint: 'Small letters, digits and hyphens, at most 32.' },
   max: { label: 'Largest value', form: 'number', hint: 'The last range must end here.' },
   prefix: { label: 'Prefix', form: 'prefix', hint: 'Six hexadecimal digits, for example 001A2B.' },
@@ -91,6 +91,8 @@ const FORMS = {
   text: [/^[ -~]{1,200}$/, 'Use letters without accents, digits and punctuation.'],
 };
 
+const SPELLED = { ä: 'ae', ö: 'oe', ü: 'ue', Ä: 'Ae', Ö: 'Oe', Ü: 'Ue', ß: 'ss', é: 'e', è: 'e', á: 'a', ñ: 'n', ø: 'oe', å: 'aa' };
+
 /** What is wrong with the text of a field, as a sentence; null if nothing is. An empty field is wrong only where it is needed. */
 export function faultOf(name, text, needed = true) {
   const field = FIELDS[name], form = field.form ?? 'text';
@@ -100,7 +102,7 @@ export function faultOf(name, text, needed = true) {
   const [pattern, sentence] = FORMS[form];
   if (pattern.test(text)) return form === 'number' && Number(text) > 4294967295 ? 'The largest value that a registry can have is 4294967295.' : null;
   const odd = form === 'text' ? [...text].find(letter => letter < ' ' || letter > '~') : undefined;
-  return odd === undefined ? sentence : `"${odd}" cannot be kept. ${sentence}`;
+  return odd === undefined ? sentence : `"${odd}" is not possible here.${SPELLED[odd] ? ` Write "${SPELLED[odd]}", for example.` : ` ${sentence}`}`;
 }
 
 /** The range of a registry in which a value lies, if one does. */
@@ -206,10 +208,15 @@ export function noteOn(kind, values, page) {
   const isLeast = values.wish === 'least' && (kind === 'code' || kind === 'early');
   const fault = isLeast ? null : valueFault(kind, values, page);
   if (fault) return fault;
-  const { title, section, says } = POLICIES[policy], free = isLeast ? ` ${freeUnder(page, policy)} values are free.` : '';
+  const { title, section, says } = POLICIES[policy], free = isLeast ? ` ${freeInWords(page, policy)}` : '';
   const expert = policy === 'specification-required' ? ' A designated expert must recommend your request.' : '';
   const years = { early: `An early allocation lasts one year.${expert}`, renew: 'A renewal adds one year.' };
   return `${title} (RFC 8126, section ${section}): ${years[kind] ?? says}${free}`;
+}
+
+function freeInWords(page, policy) {
+  const free = freeUnder(page, policy), lowest = `the lowest is ${leastFree(page, policy)} now.`;
+  return free === 0 ? 'No value is free under this policy.' : `${free === 1 ? '1 value is' : `${free} values are`} free: ${lowest}`;
 }
 
 /** Under which policy a request falls, as far as its values say so. */
@@ -252,8 +259,8 @@ export const hexOf = bytes => [...bytes].map(byte => byte.toString(16).padStart(
 /** The day of a number of seconds, in UTC. */
 export const dayOf = seconds => new Date(seconds * 1000).toISOString().slice(0, 10);
 
-/** The last day of a capability, or when it ended if it has. */
-export const endOf = ({ until }, now) => (until > now ? dayOf(until - 1) : `ended ${dayOf(until)}`);
+/** The last day of a capability, or when it expired if it has. */
+export const endOf = ({ until }, now) => (until > now ? dayOf(until - 1) : `Expired on ${dayOf(until)}`);
 
 /** What each expert of a request recommends. */
 export function opinionsOf({ experts, advice }) {
@@ -262,10 +269,10 @@ export function opinionsOf({ experts, advice }) {
 
 /** An ask in a few words. */
 export function inWords(ask) {
-  const least = ask.least && `the lowest free value under ${POLICIES[ask.least]?.title ?? ask.least}`;
   if (ask.kind === 'block') return `Block ${ask.size} for ${ask.organization}`;
-  const what = { code: '', early: 'Early allocation: ', renew: 'Another year: ', permanent: 'Permanent value in place of the early one: ' }[ask.kind] ?? '';
-  const value = `${least ?? `value ${ask.value}`} of ${ask.registry}${ask.label === undefined ? '' : `, "${ask.label}"`}`;
+  const what = { early: 'Early allocation: ', renew: 'Renewal: ', permanent: 'Make permanent: ' }[ask.kind] ?? '';
+  const policy = ask.least ? ` (${POLICIES[ask.least]?.title ?? ask.least})` : '', label = ask.label === undefined ? '' : `, "${ask.label}"`;
+  const value = `${ask.least ? 'lowest free value' : `value ${ask.value}`} of ${ask.registry}${policy}${label}`;
   return what + (what ? value : value[0].toUpperCase() + value.slice(1));
 }
 
@@ -276,7 +283,7 @@ export function rowsOf(ask) {
     const value = ask[name];
     if (value === undefined || (name === 'address' && ask.kind !== 'block')) continue;
     if (name === 'rfc') rows.push(['RFC', `RFC ${value.number}, stream ${STREAMS[value.stream] ?? value.stream}, ${TRACKS[value.track] ?? value.track}`]);
-    else if (name === 'least') rows.push(['Value', `The lowest free value under ${POLICIES[value]?.title ?? value}`]);
+    else if (name === 'least') rows.push(['Value', `Lowest free value (${POLICIES[value]?.title ?? value})`]);
     else rows.push(MARKS.includes(name) ? ['Statement', FIELDS[name].label] : [FIELDS[name].label, String(value)]);
   }
   return rows;

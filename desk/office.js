@@ -1,4 +1,5 @@
 // Asks the office. The token is kept here and nowhere else.
+import { hexOf } from './forms.js';
 
 let token = null, caller = 0;
 let tell = () => {};
@@ -22,12 +23,20 @@ export class Gone extends Error {}
 export const carry = text => { token = text; caller += 1; };
 export const carries = () => token !== null;
 
+/** The digits by which the office lists the token in use, if the browser can tell them. */
+export async function ownDigest() {
+  const digest = await crypto.subtle?.digest('SHA-256', new TextEncoder().encode(token));
+  return digest && hexOf(new Uint8Array(digest)).slice(0, 12);
+}
+
 /** Where to say what is happening to a request: it is given a sentence, or an empty text once an answer is there. */
 export const tellBy = listener => { tell = listener; };
 
 /** What to do once the token does not work any more. */
 export const endBy = listener => { end = listener; };
 
+const LOST = 'The office does not answer. Whether it got your request is not known; sending the same again is safe. Try again in a minute.';
+const BUSY = 'Too many requests came from your network. Nothing was done. Try again in a minute.';
 const PAUSES = [500, 1500, 4000, 8000];
 const SLOW = 4000, PATIENCE = 40000;
 const rest = time => new Promise(done => { setTimeout(done, time); });
@@ -82,9 +91,10 @@ export async function ask(method, path, body) {
     const isPassing = !answer || answer.status < 300 || [429, 502, 503, 504].includes(answer.status);
     if (!isPassing || tries === PAUSES.length) {
       speak('');
-      throw isPassing ? new Lost() : new Refusal(answer.status, answer.status === 413 ? 'large' : `status ${answer.status}`);
+      throw isPassing ? new Lost(answer?.status === 429 ? BUSY : LOST) : new Refusal(answer.status, answer.status === 413 ? 'large' : `status ${answer.status}`);
     }
-    speak(`${answer ? 'The office is not reachable' : 'The connection broke'}. Sending the same request again (${tries + 2} of ${PAUSES.length + 1}).`);
+    const why = !answer ? 'The connection broke' : answer.status === 429 ? 'Too many requests from your network' : 'The office is not reachable';
+    speak(`${why}. Trying again (${tries + 2} of ${PAUSES.length + 1}).`);
     await rest(PAUSES[tries]);
     if (own !== caller) throw new Gone();
   }

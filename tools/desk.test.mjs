@@ -99,8 +99,8 @@ test('texts are printable ASCII, 1 to 200', () => {
   assert.equal(forms.faultOf('label', printable), null);
   assert.equal(forms.faultOf('label', 'x'.repeat(200)), null);
   assert.match(forms.faultOf('label', 'x'.repeat(201)), /201/);
-  assert.match(forms.faultOf('label', 'M\u00fcller'), /^"\u00fc" cannot be kept/);
-  assert.match(forms.faultOf('label', 'a\tb'), /cannot be kept/);
+  assert.equal(forms.faultOf('label', 'M\u00fcller'), '"\u00fc" is not possible here. Write "ue", for example.');
+  assert.match(forms.faultOf('label', 'a\tb'), /is not possible here\. Use letters without accents/);
   assert.equal(forms.faultOf('label', '', false), null);
   assert.notEqual(forms.faultOf('reference', 'a/b'), null);
 });
@@ -118,7 +118,7 @@ test('tokens, references and days', () => {
 
 test('what clerks list of tokens and waiting requests, and what they count', () => {
   assert.equal(forms.endOf({ until: 1800000000 }, 1799999999), '2027-01-15');
-  assert.equal(forms.endOf({ until: 1800000000 }, 1800000000), 'ended 2027-01-15');
+  assert.equal(forms.endOf({ until: 1800000000 }, 1800000000), 'Expired on 2027-01-15');
   assert.equal(forms.endOf({ until: 1799971200 }, 0), '2027-01-14');
   const answers = name => [...read(`crates/reg_cli/transcripts/${name}.txt`).matchAll(/^< 200 (\[\{.*\]|\{"agents".*\})$/gm)].map(([, body]) => JSON.parse(body));
   const [waiting] = answers('waiting').filter(rows => rows.some(({ advice }) => advice?.length === 2));
@@ -143,7 +143,11 @@ test('what a policy says, how much is free, and which is offered first', () => {
   assert.match(forms.noteOn('code', wish(3), PAGE), /taken: Three/);
   assert.match(forms.noteOn('code', wish(250), PAGE), /reserved/);
   assert.equal(forms.noteOn('code', wish(''), PAGE), '');
-  assert.match(forms.noteOn('code', { ...wish(''), wish: 'least', least: 'iesg-approval' }, PAGE), /9 values are free/);
+  const free = page => forms.noteOn('code', { ...wish(''), wish: 'least', least: 'iesg-approval' }, page).split(': ').slice(1).join(': ');
+  assert.match(free(PAGE), / 9 values are free: the lowest is 61 now\.$/);
+  const few = taken => ({ max: 1, ranges: [range(0, 1, 'iesg-approval')], entries: Array.from({ length: taken }, (_, value) => ({ value })) });
+  assert.match(free(few(1)), / 1 value is free: the lowest is 1 now\.$/);
+  assert.match(free(few(2)), / No value is free under this policy\.$/);
 });
 
 const SOME = { code: { contact: 'C', kind: 'code', label: 'L', registry: 'codes' }, draft: { ...EARLY, label: 'L', registry: 'codes' } };
@@ -285,6 +289,13 @@ test('each item that an error can name has a sentence', () => {
   for (const item of [...evidence, 'contact', 'specification', 'rfc', 'stream', 'track', 'minute']) assert.notEqual(errors.inWords('evidence', item), errors.ERRORS.evidence, item);
   for (const fault of ['header', 'empty', 'too-many', 'end', 'row 1 columns', 'row 1 number', 'row 1 treatment', 'row 1 text', 'order 1', 'gap 1', 'overlap 1']) assert.doesNotMatch(errors.faultInWords(fault), /fault is|#/, fault);
   assert.match(errors.faultInWords('row 1 number'), /Row 2/);
+  const told = rows => { const { fault, ranges } = forms.rangesOf(`lo,hi,treatment,note\n${rows.join('\n')}\n`); return errors.faultInWords(fault, ranges); };
+  assert.match(told(['0,1,Expert Review,']), /^Row 1: "Expert Review" is not one of the words\. Write private-use, .* or reserved\.$/);
+  assert.match(told(['0,1,reserved,M\u00fcll']), /^The note of row 1 has "\u00fc"\./);
+  assert.match(told([`0,1,reserved,${'x'.repeat(201)}`]), /^The note of row 1 has "201 characters"\./);
+  assert.equal(told(['0,99,reserved,', '120,130,reserved,']), 'Values 100 to 119 are in no row.');
+  assert.equal(told(['1,99,reserved,']), 'Value 0 is in no row.');
+  assert.equal(errors.inWords('status 403'), "Clerks can use the desk only from the office's network.");
 });
 
 test('errors belong to fields', () => {

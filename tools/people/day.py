@@ -59,18 +59,17 @@ def requests(office, alice, token):
     alice.sign_in(token)
     alice.sees('You have no requests yet.')
     alice.click('New request')
-    alice.sees('100 values are free.')
-    alice.tick('Another year')
-    alice.sees('You have no early allocation.')
-    alice.click('Send the request')
-    alice.sees('This cannot be sent yet.')
+    alice.sees('100 values are free')
+    alice.tick('Renew an early allocation')
+    alice.sees('You have no early allocation to renew.')
+    judge('Send the request' not in alice.text(), 'there is a button that sends nothing')
     alice.tick('A value')
-    alice.sees('100 values are free.')
+    alice.sees('100 values are free')
     alice.tick('A value that I choose')
     alice.fill('Value', '200')
     alice.sees('Standards Action (RFC 8126')
     alice.tick('The lowest free value')
-    alice.sees('100 values are free.')
+    alice.sees('100 values are free')
     # (the stream that Standards Action chose is no part of this request)
     alice.click('Send the request')
     alice.sees('2 fields need your attention')
@@ -78,7 +77,7 @@ def requests(office, alice, token):
     alice.fill('Name of the value', 'Blue')
     alice.fill('Contact', 'Alice <alice@example.org>')
     alice.click('Send the request')
-    alice.status('arrived. It waits for a clerk.')
+    alice.status('is received. A clerk will decide.')
     chosen(alice)
     early(alice)
     alice.go('New request')
@@ -87,7 +86,7 @@ def requests(office, alice, token):
     alice.fill('Organization', 'Acme, Inc.')
     alice.fill('Address of the organization', '1 Road, Town')
     alice.click('Send the request')
-    alice.status('arrived')
+    alice.status('is received.')
     told = office.ask('GET', '/requests', token)
     judge(sorted(row[0] for row in alice.rows('My requests')) == sorted(one['reference'] for one in told), 'the references are others')
     judge(sorted(one['ask']['kind'] for one in told) == ['block', 'code', 'code', 'code', 'early'], f'the office has {told}')
@@ -108,7 +107,7 @@ def chosen(alice):
             alice.fill('Number of the RFC', '9999')
             alice.choose('Status of the RFC', 'Standards Track')
         alice.click('Send the request')
-        alice.status('arrived')
+        alice.status('is received.')
 
 
 def early(alice):
@@ -124,7 +123,7 @@ def early(alice):
     alice.fill('Approval of the working group chairs', 'Chair, 2 May')
     alice.fill('Approval of the area director', 'Director, 3 May')
     alice.click('Send the request')
-    alice.status('arrived')
+    alice.status('is received.')
 
 
 def twice(office, alice, token, told):
@@ -197,7 +196,7 @@ def results(office, alice, token, clerk):
     early_value = [entry for entry in office.ask('GET', '/registries/codes')['entries'] if 'expires' in entry]
     judge(len(early_value) == 1, f'the early allocations are {early_value}')
     hold(office, clerk, early_value[0])
-    for kind, verb in [('Another year', 'renew'), ('A permanent value in place of an early one', 'permanent')]:
+    for kind, verb in [('Renew an early allocation', 'renew'), ('Make an early allocation permanent', 'permanent')]:
         alice.go('New request')
         alice.tick(kind)
         alice.sees(f'Value {early_value[0]["value"]} of codes')
@@ -214,7 +213,7 @@ def results(office, alice, token, clerk):
             alice.fill('Number of the RFC', '9998')
             alice.choose('Status of the RFC', 'Best Current Practice')
         alice.click('Send the request')
-        alice.status('arrived')
+        alice.status('is received.')
     kinds = {one['ask']['kind'] for one in office.ask('GET', '/requests', token)}
     judge(kinds == {'code', 'early', 'block', 'renew', 'permanent'}, f'the kinds are {kinds}')
     withdrawn(office, alice, token)
@@ -260,7 +259,7 @@ def agents(office, alice, tokens):
         return
     alice.go('Agents')
     alice.fill('Account of the agent', 'bob')
-    alice.click('Let it read')
+    alice.click('Add')
     alice.status('bob can now read your requests.')
     judge(office.ask('GET', '/agents', tokens['alice']) == ['bob'], 'bob is no agent')
     alice.sign_out()

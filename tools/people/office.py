@@ -18,8 +18,12 @@ TOP = pathlib.Path(__file__).resolve().parent.parent.parent
 CLERK = 'clerk-token-0000000001'
 
 
+# What the relay answers in place of the office: as the office that cannot save, and as proxies do.
+SAID = {'storage': (503, 'application/json', '{"error":"storage"}'), 'busy': (429, 'text/html', '<h1>429</h1>'), 'foreign': (403, 'text/html', '<h1>403</h1>')}
+
+
 class Relay(socketserver.ThreadingTCPServer):
-    """Hands each connection on to the office. As told by `mode` it is slow, loses answers, cannot be reached, or says that the office cannot save."""
+    """Hands each connection on to the office. As told by `mode` it is slow, loses answers, cannot be reached, or answers itself."""
     daemon_threads, allow_reuse_address = True, True
 
     def __init__(self, office):
@@ -47,9 +51,9 @@ class Handed(socketserver.BaseRequestHandler):
             return
         if mode == 'slow':
             time.sleep(6)
-        if mode == 'storage':
-            body = '{"error":"storage"}'
-            head = f'HTTP/1.1 503 Said\r\nContent-Type: application/json\r\nContent-Length: {len(body)}\r\nConnection: close\r\n\r\n'
+        if mode in SAID:
+            status, kind, body = SAID[mode]
+            head = f'HTTP/1.1 {status} Said\r\nContent-Type: {kind}\r\nContent-Length: {len(body)}\r\nConnection: close\r\n\r\n'
             self.request.sendall((head + body).encode())
             return
         answer = offices.exchange(server.office, data, seconds=None)

@@ -50,15 +50,15 @@ def in_lists(office, clerk):
     clerk.go('Waiting')
     waiting = office.ask('GET', '/desk/pending', CLERK)
     clerk.sees(f'{len(waiting)} in all')
-    search = clerk.named('input', 'Search: Requests that wait')
+    search = clerk.named('input', 'Search: Waiting requests')
     for text, right in [('kind', 0), ('FIRST COME FIRST SERVED', sum(row['ask'].get('least') == 'first-come-first-served' for row in waiting)), ('oceanic', 3)]:
         search.clear()
         search.send_keys(text)
-        clerk.until(lambda: len(clerk.rows('Requests that wait')) == right, f'{right} rows with {text}')
+        clerk.until(lambda: len(clerk.rows('Waiting requests')) == right, f'{right} rows with {text}')
     clerk.sees(f'3 found, {len(waiting)} in all')
-    order = clerk.named('select', 'Order: Requests that wait')
+    order = clerk.named('select', 'Order: Waiting requests')
     [one for one in order.find_elements('css selector', 'option') if one.text == 'By Reference, last first'][0].click()
-    listed = lambda: [row[1] for row in clerk.rows('Requests that wait')]
+    listed = lambda: [row[1] for row in clerk.rows('Waiting requests')]
     clerk.until(lambda: listed() == ['o-2', 'o-1', 'o-0'], 'the order')
     for back in (lambda: clerk.click('Back to the list'), clerk.driver.back):
         clerk.click('Open o-1 of oceanic')
@@ -109,6 +109,11 @@ def clerks_tasks(office, clerk):
     clerk.click('Next waiting request')
     clerk.until(lambda: 'Waiting' in clerk.script('return document.querySelector("main dl").textContent'), 'the next that waits')
     expiring(office, clerk)
+    office.relay.mode = ['foreign']
+    clerk.named('nav a', 'Waiting').click()
+    clerk.sees("Clerks can use the desk only from the office's network.")
+    clerk.click('Try again')
+    clerk.sees('in all')
 
 
 def too_early(office, clerk):
@@ -209,7 +214,7 @@ def again(office, person):
         person.click('Ask again with these data')
         person.until(lambda: person.control('Number of the RFC').get_attribute('value') == '9999', 'the data')
         person.click('Send the request')
-        person.status('arrived')
+        person.status('is received.')
     told = office.ask('GET', '/requests', token_of('acme'))
     same = [one['reference'] for one in told if one['ask'] == next(one['ask'] for one in told if one['reference'] == 'again')]
     judge(len(same) == 2, f'the same ask has the references {same}')
@@ -234,7 +239,7 @@ def slow(office, person):
     person.click('Send the request')
     person.go('Agents')
     person.fill('Account of the agent', 'zo')
-    person.status('arrived')
+    person.status('is received.')
     judge(person.script('return [document.querySelector("h2").textContent, document.activeElement.value]') == ['Agents', 'zo'], 'a slow answer leads away')
     begun(person)
     judge(person.control('Name of the value').get_attribute('value') == '', 'what was sent is still in the form')

@@ -27,7 +27,7 @@ def hostile(office, alice, xan, clerk):
         alice.fill('Contact', text)
         alice.fill('Your reference', f'h-{place}')
         alice.click('Send the request')
-        alice.status('arrived')
+        alice.status('is received.')
         judge(office.ask('GET', f'/requests/h-{place}', 'mallory-token-00000001')['ask']['label'] == text, f'the office has another text than {text}')
         office.ask('PUT', f'/desk/experts/mallory/h-{place}/xan', CLERK)
     xan.go('Requests to review')
@@ -35,7 +35,7 @@ def hostile(office, alice, xan, clerk):
     office.grant('xan', 'expert', XAN)
     xan.sign_in(XAN)
     clerk.go('Waiting')
-    for person, caption, column in [(alice, 'My requests', 1), (xan, 'Requests assigned to me', 2), (clerk, 'Requests that wait', 2)]:
+    for person, caption, column in [(alice, 'My requests', 1), (xan, 'Requests assigned to me', 2), (clerk, 'Waiting requests', 2)]:
         shown = {row[column - 1]: row[column] for row in person.until(lambda: person.rows(caption), caption)}
         for place, text in enumerate(HOSTILE):
             judge(f'"{text}"' in shown.get(f'h-{place}', ''), f'{caption}: {text} is shown as {shown.get(f"h-{place}")!r}')
@@ -76,12 +76,12 @@ def by_keys(office, alice):
     press('Kim')
     reach('Send the request')
     press(Keys.ENTER)
-    alice.status('arrived')
+    alice.status('is received.')
     [told] = office.ask('GET', '/requests', 'kim-token-000000000001')
     judge(told['ask']['label'] == 'By keys' and alice.script('return document.activeElement.localName') == 'h2', 'the keyboard does not do')
     reach(f'Withdraw {told["reference"]}')
     press(Keys.ENTER)
-    alice.sees('It cannot be made to wait again.')
+    alice.sees('You cannot undo this.')
     press(Keys.ESCAPE)
     reach('Sign out')
     press(Keys.ENTER)
@@ -101,7 +101,7 @@ def begun(office, alice, label, *modes):
 
 def arrived(office, alice, label, sent):
     """The request is made once, and was sent so often."""
-    alice.status('arrived')
+    alice.status('is received.')
     made = [row for row in office.ask('GET', '/requests', 'dora-token-00000000001') if row['ask']['label'] == label]
     puts = [line for line in office.relay.log if line.startswith('PUT /requests/')]
     judge(len(made) == 1 and len({*puts}) == 1 and len(puts) == sent, f'{label}: {len(made)} requests, sent {puts}')
@@ -113,7 +113,7 @@ def broken(office, alice):
     alice.sign_in('dora-token-00000000001')
     label = begun(office, alice, 'Lost', 'lost')
     alice.click('Send the request')
-    alice.status('Sending the same request again')
+    alice.status('Trying again (2 of 5).')
     arrived(office, alice, label, 2)
     label = begun(office, alice, 'Slow', 'slow')
     alice.click('Send the request')
@@ -129,10 +129,14 @@ def broken(office, alice):
     alice.sees('The office does not answer.')
     alice.click('Send the request')
     arrived(office, alice, label, 6)
+    label = begun(office, alice, 'Busy', 'busy', 'busy')
+    alice.click('Send the request')
+    alice.status('Too many requests from your network. Trying again (2 of 5).')
+    arrived(office, alice, label, 3)
     label = begun(office, alice, 'Cut')
     alice.driver.set_network_conditions(offline=True, latency=0, throughput=0)
     alice.click('Send the request')
-    alice.status('The connection broke. Sending the same request again (2 of 5).')
+    alice.status('The connection broke. Trying again (2 of 5).')
     alice.driver.delete_network_conditions()
     arrived(office, alice, label, 1)
     alice.sign_out()
@@ -141,7 +145,7 @@ def broken(office, alice):
 def ends(office, alice):
     """A token that is none, one that ends, and an hour without use."""
     alice.sign_in('nobody-has-this-token-1')
-    alice.sees('This token is unknown, has expired or was taken away.')
+    alice.sees('This token is unknown, has expired or was revoked.')
     alice.fill('Your token', 'short')
     alice.click('Sign in')
     alice.sees('A token has 16 to 64')
@@ -223,8 +227,8 @@ def many(office, clerk):
     clerk.sign_out()
 
 
-def taken_away(office, clerk):
-    """A clerk sees all tokens, takes one away, and all of an account. A cancelled question, and the clerk's own token, change nothing."""
+def revoked(office, clerk):
+    """A clerk sees all tokens, revokes one, and all of an account. A cancelled question, and the clerk's own token, change nothing."""
     digest = lambda token: hashlib.sha256(token.encode()).hexdigest()[:12]
     for number, kind in enumerate(('applicant', 'expert', 'applicant')):
         office.grant('gus', kind, f'gus-token-00000000000{number}')
@@ -232,27 +236,28 @@ def taken_away(office, clerk):
     clerk.go('Tokens')
     told = same_tokens(office, clerk, 'at first')
     first = digest('gus-token-000000000000')
-    clerk.click(f'Take away {first} of gus')
+    clerk.click(f'Revoke {first} of gus')
     clerk.click('Cancel')
-    for name, path in [(f'Take away {digest(CLERK)} of clerk', f'tokens/{digest(CLERK)}'), ('Take away all tokens of clerk', 'accounts/clerk')]:
-        clerk.click(name)
-        clerk.click('Take away')
-        clerk.until(lambda: f'DELETE /desk/{path}' in office.relay.log, path)
-        clerk.sees('This cannot be your own account or token.')
+    names = clerk.script('return [...document.querySelectorAll("main button")].map(one => one.getAttribute("aria-label") ?? one.textContent)')
+    judge(f'Revoke {digest(CLERK)} of clerk' not in names and names.count('Revoke all of gus') == 1, f'the buttons are {names}')
+    judge('Revoke all of old' not in names and len(names) == len({*names}), 'buttons that do different things have one name')
+    clerk.fill('Token', CLERK)
+    clerk.click('Revoke')
+    clerk.sees('You are signed in with this token, so you cannot revoke it here.')
     judge(same_tokens(office, clerk, 'after refusals') == told, 'a token went that should stay')
-    clerk.click(f'Take away {first} of gus')
-    clerk.click('Take away')
-    clerk.status('The token of gus works no longer.')
+    clerk.click(f'Revoke {first} of gus')
+    clerk.click('Revoke')
+    clerk.status('The token of gus is revoked.')
     judge(same_tokens(office, clerk, 'without one') == [one for one in told if one['digest'] != first], 'another token went')
     judge(office.ask('GET', '/requests', 'gus-token-000000000000') == {'error': 'token'}, 'the token still works')
-    clerk.click('Take away all tokens of gus')
-    clerk.click('Take away')
-    clerk.status('2 tokens of gus work no longer.')
+    clerk.click('Revoke all of gus')
+    clerk.click('Revoke')
+    clerk.status('2 tokens of gus are revoked.')
     judge(same_tokens(office, clerk, 'without an account') == [one for one in told if one['account'] != 'gus'], 'other tokens went')
     office.ask('DELETE', '/desk/accounts/old', CLERK)
-    clerk.click('Take away all tokens of old')
-    clerk.click('Take away')
-    clerk.status('Nothing was left to take away.')
+    clerk.click(f'Revoke {digest("old-token-000000000001")} of old')
+    clerk.click('Revoke')
+    clerk.status('Nothing was left to revoke.')
     same_tokens(office, clerk, 'at last')
 
 
@@ -263,8 +268,7 @@ def without_scripts(clerk):
     shown = clerk.driver.find_element('css selector', 'main').text
     judge('This page needs JavaScript.' in shown and len(links) == 1, f'without scripts the page says {shown!r}')
     clerk.driver.execute_cdp_cmd('Emulation.setScriptExecutionDisabled', {'value': False})
-    for name in ('apply.txt', 'errors.html#taken', 'openapi.yaml'):
+    for name, text in [('apply.html', 'Ask the authority for a token.'), ('apply.txt', 'curl'), ('errors.html#taken', 'Somebody has this value already.'), ('openapi.yaml', '')]:
         with contextlib.suppress(Exception):
             clerk.driver.get(clerk.address + name)
-        if name != 'openapi.yaml':
-            judge('curl' in clerk.text() if name == 'apply.txt' else 'Somebody has this value already.' in clerk.text(), f'{name} is not readable')
+        judge(text in clerk.text(), f'{name} is not readable')
