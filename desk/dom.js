@@ -142,7 +142,7 @@ export function form({ title, controls, parts, verb, check, send, autocomplete =
     if (busy) return;
     const faults = check ? check(values()) : faultsIn(now());
     const bad = now().filter(one => faults[one.name]);
-    if (bad.length) return show([attention(bad)], faults);
+    if (bad.length) return show(attention(bad), faults);
     if (Object.values(faults).some(Boolean)) return show(['This cannot be sent yet. Read the notes in the form.']);
     show([]);
     busy = true;
@@ -166,9 +166,12 @@ export function form({ title, controls, parts, verb, check, send, autocomplete =
   return node;
 }
 
+// Which fields are at fault, each with a link to it. The address stays, since it names the section.
 function attention(bad) {
-  const names = bad.map(one => one.label.replace(/[.:].*$/, '')).join(', ');
-  return `${bad.length === 1 ? 'One field needs' : `${bad.length} fields need`} your attention: ${names}.`;
+  const go = input => event => { event.preventDefault(); input.focus(); };
+  const link = ({ input, label }) => element('a', { href: `#${input.id}`, onclick: go(input) }, label.replace(/[.:].*$/, ''));
+  const links = bad.flatMap(one => [', ', link(one)]).slice(1);
+  return [`${bad.length === 1 ? 'One field needs' : `${bad.length} fields need`} your attention: `, ...links, '.'];
 }
 
 function faultsIn(controls) {

@@ -11,7 +11,7 @@ export async function queue(app) {
   const advised = ({ advice }) => (advice ? `${advice.verdict === 'for' ? 'For' : 'Against'}: ${advice.text}` : '');
   const open = row => app.open(`Request ${row.reference} of ${row.account}`, app => review(app, row));
   const cells = row => [row.account, row.reference, inWords(row.ask), STATES[row.state] ?? row.state, advised(row)];
-  const act = row => button(verb(row), () => open(row), { 'aria-label': `Open ${row.reference} of ${row.account}` });
+  const act = row => button(verb(row), () => open(row), { 'aria-label': `${verb(row)}: ${row.reference} of ${row.account}` });
   const columns = ['Account', 'Reference', 'Request', 'State', 'My advice'];
   return table({ quiet: true, caption: 'Requests assigned to me', columns, rows, cells, act, states: STATES, empty: 'Nothing is assigned to you.' });
 }

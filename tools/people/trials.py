@@ -7,6 +7,7 @@ import subprocess
 import time
 
 from people.compared import same_tokens
+from people.everybody import focus_stays
 from people.office import CLERK
 from people.person import devtools, judge, narrow
 
@@ -215,6 +216,7 @@ def many(office, clerk):
     clerk.sees(f'101 to 200 of {total}')
     clerk.named('input', 'Search: All requests').send_keys('m-04321')
     clerk.until(lambda: [row[1] for row in clerk.rows('All requests')] == ['m-04321'], 'the row that is searched for')
+    focus_stays(clerk)
     clerk.go('Waiting')
     clerk.sees(f'1 to 100 of {len(office.ask("GET", "/desk/pending", CLERK))}')
     longest = clerk.script('return window.longest')
