@@ -4,15 +4,14 @@ import { Told, attempt, button, choice, control, details, drafts, element, form,
 import { table } from './list.js';
 import {
   KINDS, POLICIES, STATES, askOf, dayOf, easiest, evidenceFor, faultsOf, freeUnder, hexOf, inWords, noteOn, openPolicies, optionsFor, outcome, policyOf,
-  rowsOf, valuesOf, waitingTwin,
+  rowsOf, valuesOf, waitingFirst, waitingTwin,
 } from './forms.js';
 import { endingBy, entryOf, valuesHeld } from './cases.js';
 
-// ---- Requests
-
 /** The caller's own requests, and which values expire soon. */
 export async function requests(app) {
-  const rows = await ask('GET', '/requests'), pages = await pagesOf(rows.filter(({ ask }) => ask.kind === 'early')), place = element('div');
+  const rows = waitingFirst(await ask('GET', '/requests')), place = element('div');
+  const pages = await pagesOf(rows.filter(row => row.ask.kind === 'early'));
   const withdraw = async row => {
     if (!await sure(`Withdraw the request ${row.reference}? You cannot undo this. To ask again, make a new request.`, 'Withdraw')) return;
     await attempt(place, async () => {
@@ -26,7 +25,8 @@ export async function requests(app) {
   const soon = dayOf(Date.now() / 1000 + 30 * 86400), { length } = endingBy(valuesHeld(rows, pages), soon);
   const told = `${length === 1 ? '1 of your values expires' : `${length} of your values expire`} by ${soon}. `;
   const greeting = length ? element('p', { class: 'note' }, told, element('a', { href: '#values' }, 'See My values')) : null;
-  return element('div', {}, place, greeting, add, requestTable(rows, actions, 'My requests', 'You have no requests yet. To make one, choose New request.', pages));
+  const empty = 'You have no requests yet. To make one, choose New request.';
+  return element('div', {}, place, greeting, add, requestTable(rows, actions, 'My requests', empty, pages));
 }
 
 // The pages of the registries in which requests were approved, by name.
@@ -58,11 +58,11 @@ function requestTable(rows, act, caption, empty, pages = new Map()) {
 
 /** A request in all its parts. */
 export function requestDetails(row, pages = new Map()) {
-  const told = { pending: 'Waiting: nothing is decided yet.', approved: `Approved. ${outcome(row, entryOf(row, pages))}.`, declined: `Declined. ${outcome(row)}`, withdrawn: 'Withdrawn by the applicant.' };
+  const result = outcome(row, entryOf(row, pages)), told = {
+    pending: 'Waiting: nothing is decided yet.', approved: `Approved. ${result}.`, declined: `Declined. ${result}`, withdrawn: 'Withdrawn by the applicant.',
+  };
   return details([['State', told[row.state] ?? row.state], ['Reference', row.reference], ...rowsOf(row.ask)]);
 }
-
-// ---- A new request
 
 /** A form for a new request. Its reference stays the same until the office has answered, so one ask never has two. */
 export async function fresh(app) {
@@ -71,8 +71,7 @@ export async function fresh(app) {
   const node = form({
     controls: () => draft.controls(), verb: 'Send the request',
     parts: [draft.kinds, draft.top, draft.wishes, draft.note, draft.naming, draft.evidence, draft.last],
-    check: () => draft.faults(),
-    send: () => draft.send(own, app),
+    check: () => draft.faults(), send: () => draft.send(own, app),
   });
   Object.assign(draft, { calm: node.calm, allow: node.allow });
   await draft.choose(draft.kind);
@@ -81,6 +80,7 @@ export async function fresh(app) {
   return drafts.has('request') ? element('div', {}, element('p', {}, button('Empty this form', empty, { class: 'plain' })), node) : node;
 }
 
+const NEEDS = { renew: 'renew', permanent: 'make permanent' };
 const noteOf = text => element('p', { class: 'note' }, text);
 
 class Draft {
@@ -95,9 +95,7 @@ class Draft {
     this.put('last', [control('reference', { value: this.values.reference })]);
   }
 
-  controls() {
-    return Object.values(this.parts).flat();
-  }
+  controls() { return Object.values(this.parts).flat(); }
 
   put(part, controls, ...more) {
     this.read();
@@ -118,9 +116,7 @@ class Draft {
     drafts.set('request', { kind: this.kind, values: { ...this.values } });
   }
 
-  isOfMine() {
-    return this.kind === 'renew' || this.kind === 'permanent';
-  }
+  isOfMine() { return this.kind === 'renew' || this.kind === 'permanent'; }
 
   faults() {
     const faults = faultsOf(this.kind, this.read(), this.page);
@@ -159,7 +155,7 @@ class Draft {
     }
     const known = options[this.values.allocation] && this.values.allocation, change = { onchange: () => this.refresh() };
     if (Object.keys(options).length) this.put('top', [control('allocation', { options, label: 'Early allocation', value: known, ...change })]);
-    else if (!this.top.hasChildNodes()) this.put('top', [], noteOf(`You have no early allocation to ${kind === 'renew' ? 'renew' : 'make permanent'}.`));
+    else if (!this.top.hasChildNodes()) this.put('top', [], noteOf(`You have no early allocation to ${NEEDS[kind]}.`));
   }
 
   async load(registry) {
@@ -239,8 +235,6 @@ class Draft {
   }
 }
 
-// ---- Agents
-
 /** Who may read the caller's requests, and whose the caller may read. */
 export async function agents(app) {
   const names = await ask('GET', '/agents'), principals = await ask('GET', '/principals'), place = element('div');
@@ -272,12 +266,11 @@ export async function agents(app) {
   return element('div', {}, place, element('p', {}, 'An agent sees your requests as you do. It cannot change anything.'), mine, add, others);
 }
 
-// ---- Values and blocks
-
 /** The values that the caller's account holds, and when each expires. */
 export async function values(app) {
   const rows = await ask('GET', '/requests'), held = valuesHeld(rows, await pagesOf(rows));
-  const renew = row => button('Renew', () => askFor(app, 'renew', { allocation: `${row.registry}/${row.value}` }), { 'aria-label': `Renew value ${row.value} of ${row.registry}` });
+  const renew = ({ registry, value }) => button('Renew', () => askFor(app, 'renew', { allocation: `${registry}/${value}` }),
+    { 'aria-label': `Renew value ${value} of ${registry}` });
   return table({
     quiet: true, caption: 'My values', columns: ['Registry', 'Value', 'Name', 'Status', 'Expires'], rows: held, empty: 'You hold no values yet.',
     cells: ({ registry, value, label, status, held, expires }) => [registry, String(value), label, held ? 'Held' : status, expires ?? ''],

@@ -1,4 +1,4 @@
-// What an approval would do, what stands in its way, who else wants the same, and what approvals gave. Nothing here touches the document or the network.
+// What an approval would do, what stands in its way, who else wants the same, and what approvals gave. Nothing here needs a page.
 import { POLICIES, leastFree, policyOf } from './forms.js';
 
 const isNew = ({ kind }) => kind === 'code' || kind === 'early';

@@ -8,8 +8,6 @@ import {
 import { adviceLacking, byExpiry, effectOf, endingBy, expertsAmong, lossOf, nextWaiting, noteLine, policyFor, rivalsOf } from './cases.js';
 import { faultInWords } from './errors.js';
 
-// ---- Requests
-
 /** The requests that wait, each with its experts and what they recommend. */
 export async function waiting(app) {
   const rows = await ask('GET', '/desk/pending');
@@ -31,10 +29,7 @@ function requestTable(app, rows, { last: [title, told], ...texts }) {
   return table({ ...texts, columns, rows, cells, act, quiet: true });
 }
 
-// ---- A case
-
-// Opens a request of a list with its evidence, its experts and their advice. The list has `rows`, of which `seen` were listed in this order. `before` is
-// shown above the request.
+// Opens a request of a list, which has `rows`, of which `seen` were listed in this order. `before` is shown above the request.
 async function openCase(app, listed, list, { message, before } = {}) {
   const { account, reference } = listed;
   await app.open(`Request ${reference} of ${account}`, async app => {
@@ -45,8 +40,8 @@ async function openCase(app, listed, list, { message, before } = {}) {
     const told = [['Applicant', account], ['Reference', reference], ['State', state], ...result, ...rowsOf(row.ask)];
     const next = nextWaiting(list.seen, row), go = (one, more) => openCase(app, one, list, more);
     const onward = next ? button('Next waiting request', () => go(next), { class: row.state === 'pending' ? 'plain' : undefined }) : null;
-    const parts = row.state === 'pending' ? decision({ row, page, rows: list.rows, listed, next, onward, go }) : element('p', { class: 'actions' }, onward);
-    return element('div', {}, before, details(told), experts(row), parts);
+    const ways = row.state === 'pending' ? decision({ row, page, rows: list.rows, listed, next, onward, go }) : null;
+    return element('div', {}, before, details(told), experts(row), ways ?? element('p', { class: 'actions' }, onward));
   }, message);
 }
 
@@ -99,11 +94,15 @@ function noteCard(row) {
 // Experts are those who have an expert's token. Another account is asked about first, since it gets to read the request.
 function assignment(listed, path, go) {
   const field = control('expert'), names = element('datalist', { id: 'experts' });
-  const known = ask('GET', '/desk/tokens').then(rows => expertsAmong(rows, Date.now() / 1000, listed.account)).catch(() => []);
-  known.then(accounts => names.replaceChildren(...accounts.map(value => element('option', { value }))));
+  const load = async () => {
+    const accounts = expertsAmong(await ask('GET', '/desk/tokens').catch(() => []), Date.now() / 1000, listed.account);
+    names.replaceChildren(...accounts.map(value => element('option', { value })));
+    return accounts;
+  };
   field.input.setAttribute('list', 'experts');
+  field.input.addEventListener('focus', load, { once: true });
   const assign = async ({ expert }) => {
-    const isKnown = (await known).includes(expert);
+    const isKnown = (await load()).includes(expert);
     const question = `${expert} has no expert's token. It would get to read this request, and cannot be removed. Is the spelling right?`;
     if (!isKnown && !await sure(question, `Assign ${expert}`)) return false;
     await ask('PUT', `/desk/experts/${path}/${expert}`);
@@ -124,8 +123,6 @@ function refusal({ account, reference }, path, next, done) {
   });
 }
 
-// ---- Registries
-
 /** The registries, each with its ranges and early allocations, and a form for a new one. */
 export async function registries(app) {
   const names = await ask('GET', '/registries');
@@ -135,7 +132,6 @@ export async function registries(app) {
   return element('div', {}, list, definition(app));
 }
 
-const EXAMPLE = '0,99,expert-review,a note or nothing';
 const HELD = 'An early allocation that is held does not expire until it is released.';
 const words = treatment => (treatment === 'reserved' ? 'Reserved' : POLICIES[treatment]?.title ?? treatment);
 
@@ -179,8 +175,8 @@ function earlyTable(caption, rows, place, again, quiet) {
 // A new registry from a CSV file, after a look at its ranges.
 function definition(app) {
   const preview = element('div', { role: 'status' });
+  const name = control('name'), most = control('max');
   let file = null;
-  const most = control('max');
   const choose = async event => {
     const chosen = event.target.files[0], bytes = chosen && await chosen.arrayBuffer();
     file = bytes ? { bytes, ...rangesOf(new TextDecoder().decode(bytes)) } : null;
@@ -189,17 +185,18 @@ function definition(app) {
     if (file?.fault) preview.append(element('p', { class: 'problem' }, faultInWords(file.fault, file.ranges)));
     if (file) preview.append(rangeTable('Ranges in this file', file.ranges));
   };
-  const hint = `The first line is lo,hi,treatment,note. Each other line is a range, for example ${EXAMPLE}`;
+  const hint = 'The first line is lo,hi,treatment,note. Each other line is a range, for example 0,99,expert-review,its note';
   const chooser = control('file', { type: 'file', label: 'Range file (CSV)', hint, onchange: choose });
   chooser.input.setAttribute('accept', '.csv,text/csv,text/plain');
-  const name = control('name');
   return form({
-    title: 'Define a registry', verb: 'Define this registry', controls: [name, chooser, most], parts: [name.node, chooser.node, preview, most.node], key: 'define',
+    title: 'Define a registry', verb: 'Define this registry', controls: [name, chooser, most], key: 'define',
+    parts: [name.node, chooser.node, preview, most.node],
     check: values => ({ name: faultOf('name', values.name), max: faultOf('max', values.max), file: fileFault(file, Number(values.max)) }),
     send: async ({ name, max }) => {
-      if (!await sure(`Define ${name} with ${file.ranges.length} ranges, 0 to ${max}? The ranges of a registry cannot be changed afterwards.`, 'Define')) return;
+      const question = `Define ${name} with ${file.ranges.length} ranges, 0 to ${max}? You cannot change the ranges afterwards.`;
+      if (!await sure(question, 'Define')) return false;
       await ask('PUT', `/desk/registries/${name}/${max}`, file.bytes);
-      await app.go('registries', `The registry ${name} is defined.`);
+      return app.go('registries', `The registry ${name} is defined.`);
     },
   });
 }
@@ -210,8 +207,6 @@ function fileFault(file, max) {
   if (file.fault) return faultInWords(file.fault, file.ranges);
   return file.ranges.at(-1).hi === max ? null : 'The last range of the file does not end at the largest value.';
 }
-
-// ---- Prefixes
 
 /** The prefixes that blocks are cut from. */
 export async function pool(app) {
@@ -228,8 +223,6 @@ export async function pool(app) {
   return element('div', {}, table({ caption: 'Prefixes that blocks are cut from', columns: ['Prefix'], rows, cells: prefix => [prefix], empty }), add);
 }
 
-// ---- Tokens
-
 /** A form that grants a token, the list of all tokens, and a form that revokes one that the clerk has. */
 export async function tokens(app) {
   const shown = element('div'), list = element('div');
@@ -241,7 +234,7 @@ export async function tokens(app) {
 function grant(app, shown, fill) {
   let made = null;
   const node = form({
-    title: 'Give somebody a token', verb: 'Make a token',
+    title: 'Give somebody a token', verb: 'Make a token', key: 'grant',
     controls: [control('account'), control('kind'), control('until', { type: 'date', value: dayOf(Date.now() / 1000 + 365 * 86400) })],
     send: async values => {
       made ??= hexOf(crypto.getRandomValues(new Uint8Array(16)));
@@ -267,7 +260,8 @@ function show(app, place, token, { account, kind, until }) {
   const hide = () => { place.replaceChildren(); app.go('tokens', 'The token is hidden.'); };
   const about = `${CAPABILITIES[kind]}, valid through ${until}. Hand it to ${account} so that nobody else sees it, with the address of this page,`
     + ` ${location.origin}${location.pathname}. The page shows the token only now. If it is lost, revoke it below and make another.`;
-  place.replaceChildren(element('section', { class: 'card' }, title, element('p', {}, about), copyable(token, 'token', button('Done, hide it', hide, { class: 'plain' }))));
+  const done = button('Done, hide it', hide, { class: 'plain' });
+  place.replaceChildren(element('section', { class: 'card' }, title, element('p', {}, about), copyable(token, 'token', done)));
   focusOn(title);
 }
 
@@ -283,9 +277,8 @@ function revocation(app) {
   });
 }
 
-function notOwn(error) {
-  throw error.error === 'own' ? new Told('You are signed in with this token, so you cannot revoke it here.') : error;
-}
+const OWN = 'You are signed in with this token, so you cannot revoke it here.';
+const notOwn = error => { throw error.error === 'own' ? new Told(OWN) : error; };
 
 // All tokens, each with a button that revokes it, and the first of several of an account with one that revokes them all.
 function tokenTable(app, rows, own) {
@@ -300,16 +293,16 @@ function tokenTable(app, rows, own) {
   };
   const one = ({ account, digest }) => button('Revoke', revoke(account, `Revoke the token ${digest} of ${account}?`, `/desk/tokens/${digest}`),
     { 'aria-label': `Revoke ${digest} of ${account}`, class: 'stop plain' });
-  const all = account => button(`Revoke all of ${account}`, revoke(account, `Revoke all tokens of ${account}?`, `/desk/accounts/${account}`), { class: 'stop plain' });
-  const of = account => rows.filter(row => row.account === account), hasAll = row => of(row.account)[1] && of(row.account)[0] === row && !of(row.account).some(isOwn);
-  const act = row => element('div', { class: 'row' }, isOwn(row) ? null : one(row), hasAll(row) ? all(row.account) : null);
+  const all = account => button(`Revoke all of ${account}`, revoke(account, `Revoke all tokens of ${account}?`, `/desk/accounts/${account}`),
+    { class: 'stop plain' });
+  const of = account => rows.filter(row => row.account === account);
+  const isFirst = row => { const [first, second] = of(row.account); return first === row && second && !of(row.account).some(isOwn); };
+  const act = row => element('div', { class: 'row' }, isOwn(row) ? null : one(row), isFirst(row) ? all(row.account) : null);
   const cells = row => [row.account, CAPABILITIES[row.kind] ?? row.kind, endOf(row, now), row.digest + (isOwn(row) ? ' (you)' : '')];
   const about = "Tokens are not stored. The first 12 digits of a token's SHA-256 tell them apart.";
   const list = table({ caption: 'All tokens', columns: ['Account', 'Kind', 'Valid through', 'Digest'], rows, cells, act, empty: 'There are no tokens.' });
   return element('div', {}, list, element('p', {}, about), place);
 }
-
-// ---- Counts
 
 /** How much the office has at this moment, and how many requests wait. */
 export async function counts() {

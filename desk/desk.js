@@ -4,7 +4,7 @@ import * as clerk from './clerk.js';
 import * as expert from './expert.js';
 import { LOADING, button, control, drafts, element, focusOn, form, say, trouble } from './dom.js';
 import { forgetPlaces } from './list.js';
-import { Gone, Refusal, ask, carries, carry, endBy, tellBy } from './office.js';
+import { Gone, ask, carries, carry, endBy, tellBy } from './office.js';
 
 const SECTIONS = {
   applicant: {
@@ -20,8 +20,6 @@ const SECTIONS = {
 const HOUR = 3600000, LOOK = 10000;
 const main = document.getElementById('main'), sections = document.getElementById('sections'), who = document.getElementById('who');
 let kind = null, own = {}, used = 0, shown = 0, place = '', scrolled = 0, isHere = true, last = { names: [] };
-
-// ---- Sections
 
 // Shows a view. Of two that are on their way the later one stays.
 async function view(title, make, { message = '', back, scroll } = {}) {
@@ -75,6 +73,7 @@ function arrive() {
   place = here();
   if (!kind || !isElsewhere) return;
   if (before !== after) forgetPlaces();
+  document.querySelectorAll('dialog').forEach(dialog => dialog.close());
   draw('', before === after ? scrolled : undefined);
 }
 
@@ -87,24 +86,13 @@ function draw(message, scroll) {
 }
 
 // A link to the section that is open changes no address, so it would do nothing.
-function again(name) {
-  if (location.hash !== `#${name}`) return;
-  forgetPlaces();
-  draw();
-}
+const again = name => { if (location.hash === `#${name}`) { forgetPlaces(); draw(); } };
 
-// ---- Signing in and out
-
-// Which kind of work a token is for, and the requests that tell its account from another. There are three kinds, so one that is for neither of two is
-// for the third.
+// Which of three kinds of work a token is for, and the requests that tell its account from another.
 async function callerOf() {
   for (const [kind, path] of [['applicant', '/requests'], ['expert', '/queue']]) {
-    try {
-      const rows = await ask('GET', path);
-      return { kind, names: rows.map(({ account, reference }) => `${account}/${reference}`) };
-    } catch (error) {
-      if (!(error instanceof Refusal) || error.error !== 'kind') throw error;
-    }
+    const rows = await ask('GET', path).catch(error => { if (error.error !== 'kind') throw error; });
+    if (rows) return { kind, names: rows.map(({ account, reference }) => `${account}/${reference}`) };
   }
   return { kind: 'clerk', names: [] };
 }
@@ -125,7 +113,7 @@ function signIn(message = '') {
         const caller = await callerOf();
         if (isAnother(caller)) drafts.clear();
         last = caller;
-        kind = caller.kind;
+        ({ kind } = caller);
         own = SECTIONS[kind];
       } catch (error) {
         carry(null);
@@ -161,20 +149,18 @@ function signOut(message, isAgain = false) {
   shown += 1;
   document.querySelectorAll('dialog').forEach(dialog => dialog.remove());
   document.querySelectorAll('input').forEach(input => { input.value = ''; });
-  who.replaceChildren();
-  sections.replaceChildren();
+  for (const node of [who, sections]) node.replaceChildren();
   sections.hidden = true;
   forgetPlaces();
   if (!isAgain) {
     drafts.clear();
+    last = { names: [] };
     if (isHere) history.replaceState(null, '', location.pathname);
   }
   // The engine keeps the last text that a pattern was tried on.
   /^/.test('');
   signIn(message);
 }
-
-// ---- The page
 
 function isIdle() {
   if (!kind && Date.now() - used > HOUR) drafts.clear();
@@ -188,9 +174,9 @@ endBy(() => {
 });
 addEventListener('pagehide', () => {
   isHere = false;
-  if (kind) signOut('You were signed out, because you left this page.');
+  if (kind || drafts.size) signOut('You were signed out, because you left this page.');
 });
-addEventListener('pageshow', () => { isHere = true; });
+addEventListener('pageshow', event => { isHere = true; if (event.persisted) history.replaceState(null, '', location.pathname); });
 addEventListener('hashchange', arrive);
 addEventListener('popstate', () => { if (!kind && location.hash) history.replaceState(null, '', location.pathname); else arrive(); });
 for (const name of ['pointerdown', 'keydown', 'focusin']) addEventListener(name, () => { isIdle(); used = Date.now(); }, true);

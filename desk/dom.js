@@ -5,10 +5,8 @@ import { Gone, Lost, Refusal } from './office.js';
 
 /** Something that the page itself finds wrong, as a sentence. */
 export class Told extends Error {}
-
 /** What is said while a view is on its way. */
 export const LOADING = 'Loading.';
-
 /** What was typed and not sent yet, by the key of its form. It goes with the token. */
 export const drafts = new Map();
 
@@ -37,10 +35,7 @@ export function say(text) {
 }
 
 /** Moves the focus to a node that is no control. */
-export function focusOn(node) {
-  node.setAttribute('tabindex', '-1');
-  node.focus();
-}
+export const focusOn = node => { node.setAttribute('tabindex', '-1'); node.focus(); };
 
 /** The sentence for what went wrong, with a link to the list of errors where it is one of the office's. */
 export function troubleOf(error) {
@@ -64,8 +59,6 @@ export async function attempt(place, act) {
     return undefined;
   }
 }
-
-// ---- Fields
 
 /** A labelled control with its hint and a place for its fault. */
 export function control(name, { options, value, onchange, type, optional = false, ...more } = {}) {
@@ -91,8 +84,7 @@ export function control(name, { options, value, onchange, type, optional = false
     mark: sentence => {
       fault.textContent = sentence ?? '';
       fault.hidden = !sentence;
-      input.toggleAttribute('aria-invalid', Boolean(sentence));
-      if (sentence) input.setAttribute('aria-invalid', 'true');
+      if (sentence) input.setAttribute('aria-invalid', 'true'); else input.removeAttribute('aria-invalid');
     },
   };
 }
@@ -111,8 +103,8 @@ export function choice(legend, name, options, value, onchange) {
   const group = element('fieldset', { class: 'choice' }, element('legend', {}, legend));
   for (const [key, { title, says }] of Object.entries(options)) {
     const id = `field-${count += 1}`;
-    const described = { 'aria-describedby': says && `${id}-hint` };
-    const input = element('input', { type: 'radio', id, name, value: key, checked: key === value, onchange: () => onchange(key), ...described });
+    const is = { checked: key === value, 'aria-describedby': says && `${id}-hint` };
+    const input = element('input', { type: 'radio', id, name, value: key, onchange: () => onchange(key), ...is });
     const hint = says ? element('p', { id: `${id}-hint`, class: 'hint' }, says) : null;
     group.append(element('div', { class: 'field check' }, input, element('label', { for: id }, title), hint));
   }
@@ -184,18 +176,12 @@ function faultNamed(error, controls) {
   return controls.some(one => one.name === name) ? { [name]: inWords(error.error, error.item) } : {};
 }
 
-// ---- Parts of a page
-
 /** Rows of a name and a text. */
 export const details = rows => element('dl', {}, rows.map(([name, text]) => element('div', {}, element('dt', {}, name), element('dd', {}, text))));
-
 /** A state as a word with a mark of its own. */
 export const badge = (state, text) => element('span', { class: `badge ${state}` }, text);
 
-/**
- * Asks before something that cannot be undone. Gives `yes`, or `more` for a second way to go on, or an empty text. What declines or revokes is a
- * `stop`.
- */
+/** Asks before something that cannot be undone: `yes`, `more` for a second way to go on, or an empty text. `stop` is for what declines or revokes. */
 export function sure(question, verb, { stop = false, more } = {}) {
   return new Promise(done => {
     const close = answer => () => dialog.close(answer);

@@ -51,14 +51,10 @@ const FORMS = {
   organization: TEXT, address: TEXT, reason: TEXT, text: TEXT,
   stable: MARK, interest: MARK, will_be_rfc: MARK, private: MARK, reads: MARK, held: MARK,
   value: 'Ask either for a value, a whole number of 0 to 4294967295, or for the lowest free one.',
-  max: 'Use a whole number of 0 to 4294967295.',
-  least: 'Choose a policy.',
+  max: 'Use a whole number of 0 to 4294967295.', least: 'Choose a policy.',
   rfc: 'An RFC needs its number, 1 to 99999, its stream and its status.',
-  kind: 'Choose one of the kinds.',
-  size: 'Choose MA-L, MA-M or MA-S.',
-  block: 'A block has 6, 7 or 9 hexadecimal digits.',
-  prefix: 'Use six hexadecimal digits: 0 to 9, A to F.',
-  verdict: 'Choose for or against.',
+  kind: 'Choose one of the kinds.', size: 'Choose MA-L, MA-M or MA-S.', verdict: 'Choose for or against.',
+  block: 'A block has 6, 7 or 9 hexadecimal digits.', prefix: 'Use six hexadecimal digits: 0 to 9, A to F.',
   token: 'A token has 16 to 64 letters, digits, hyphens, dots, underscores and tildes.',
   until: 'Use a number of seconds, 0 to 32503680000.',
   digits: 'Use 8 to 64 of the digits 0 to 9 and a to f.',
@@ -67,14 +63,11 @@ const FORMS = {
 
 // The items that `evidence` names, as sentences.
 const EVIDENCE = {
-  policy: 'No value is assigned under this policy.',
-  contact: 'The policy asks whom to contact about the value.',
+  policy: 'No value is assigned under this policy.', contact: 'The policy asks whom to contact about the value.',
   specification: 'The policy asks for a public specification.',
-  rfc: 'The policy asks for an RFC.',
-  stream: 'The policy asks for an RFC of the IETF stream.',
+  rfc: 'The policy asks for an RFC.', stream: 'The policy asks for an RFC of the IETF stream.',
   track: 'The policy asks for a Standards Track or Best Current Practice RFC.',
-  minute: 'The policy asks for IESG minutes.',
-  draft: 'An early allocation needs an Internet-Draft.',
+  minute: 'The policy asks for IESG minutes.', draft: 'An early allocation needs an Internet-Draft.',
   stable: 'An early allocation needs a stable specification.',
   interest: 'An early allocation needs enough interest, or a risk of contention.',
   chair: 'An early allocation needs the approval of the working group chairs.',
@@ -91,10 +84,8 @@ const ROWS = {
   overlap: 'Row # begins before the previous row has ended.',
 };
 const WHOLE = {
-  header: 'The first line must be: lo,hi,treatment,note',
-  empty: 'The file has no ranges.',
-  'too-many': 'The file has more than 64 ranges.',
-  end: 'The last range does not end at the largest value.',
+  header: 'The first line must be: lo,hi,treatment,note', empty: 'The file has no ranges.',
+  'too-many': 'The file has more than 64 ranges.', end: 'The last range does not end at the largest value.',
 };
 
 /** The fault of a range file as a sentence; `ranges` are those of the file, if they are known. */
@@ -110,8 +101,7 @@ export function faultInWords(fault, ranges = []) {
 /** An error of the office as one or two sentences that say what to do. */
 export function inWords(error, item) {
   const more = { field: FORMS[item], evidence: EVIDENCE[item], ranges: item && faultInWords(item) };
-  const about = Object.hasOwn(more, error) ? more[error] : undefined;
-  if (about) return about;
+  if (Object.hasOwn(more, error) && more[error]) return more[error];
   if (error === 'status 403') return 'Clerks can use the desk only from the office\'s network.';
   return Object.hasOwn(ERRORS, error) ? ERRORS[error] : `The office refused this: ${error}. Ask the authority what it means.`;
 }

@@ -2,11 +2,11 @@
 import { ask } from './office.js';
 import { button, control, details, element, form } from './dom.js';
 import { table } from './list.js';
-import { STATES, VERDICTS, faultOf, inWords, rowsOf } from './forms.js';
+import { STATES, VERDICTS, faultOf, inWords, rowsOf, waitingFirst } from './forms.js';
 
 /** The requests that are assigned to the caller. */
 export async function queue(app) {
-  const rows = await ask('GET', '/queue');
+  const rows = waitingFirst(await ask('GET', '/queue'));
   const verb = row => (row.state !== 'pending' ? 'Details' : row.advice ? 'Change advice' : 'Give advice');
   const advised = ({ advice }) => (advice ? `${advice.verdict === 'for' ? 'For' : 'Against'}: ${advice.text}` : '');
   const open = row => app.open(`Request ${row.reference} of ${row.account}`, app => review(app, row));

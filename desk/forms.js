@@ -40,9 +40,7 @@ export const COUNTS = {
   prefixes: 'Prefixes', blocks: 'Assigned blocks', agents: 'Agents', capabilities: 'Tokens', valid: 'Valid tokens',
 };
 
-const MARKS = ['stable', 'interest', 'will_be_rfc'];
-const PLAIN = 'At most 200 characters, without accents.';
-
+const MARKS = ['stable', 'interest', 'will_be_rfc'], PLAIN = 'At most 200 characters, without accents.';
 /** The fields of all forms, by the name of the member or of the part of the path. */
 export const FIELDS = {
   registry: { label: 'Registry', form: 'name' },
@@ -91,7 +89,7 @@ const FORMS = {
   text: [/^[ -~]{1,200}$/, 'Use letters without accents, digits and punctuation.'],
 };
 
-const SPELLED = { ä: 'ae', ö: 'oe', ü: 'ue', Ä: 'Ae', Ö: 'Oe', Ü: 'Ue', ß: 'ss', é: 'e', è: 'e', á: 'a', ñ: 'n', ø: 'oe', å: 'aa' };
+const SPELLED = { ä: 'ae', ö: 'oe', ü: 'ue', Ä: 'Ae', Ö: 'Oe', Ü: 'Ue', ß: 'ss', é: 'e', è: 'e', á: 'a', ñ: 'n', ø: 'oe' };
 
 /** What is wrong with the text of a field, as a sentence; null if nothing is. An empty field is wrong only where it is needed. */
 export function faultOf(name, text, needed = true) {
@@ -102,16 +100,15 @@ export function faultOf(name, text, needed = true) {
   const [pattern, sentence] = FORMS[form];
   if (pattern.test(text)) return form === 'number' && Number(text) > 4294967295 ? 'The largest value that a registry can have is 4294967295.' : null;
   const odd = form === 'text' ? [...text].find(letter => letter < ' ' || letter > '~') : undefined;
-  return odd === undefined ? sentence : `"${odd}" is not possible here.${SPELLED[odd] ? ` Write "${SPELLED[odd]}", for example.` : ` ${sentence}`}`;
+  if (odd === undefined) return sentence;
+  return `"${odd}" is not possible here. ${SPELLED[odd] ? `Write "${SPELLED[odd]}", for example.` : sentence}`;
 }
 
 /** The range of a registry in which a value lies, if one does. */
 export const rangeOf = (page, value) => page.ranges.find(({ lo, hi }) => lo <= value && value <= hi);
 
 /** Whether a kind of request can be made under a policy. */
-export function isOpen(kind, policy) {
-  return kind === 'early' || kind === 'renew' ? EARLY.includes(policy) : Boolean(POLICIES[policy]?.items);
-}
+export const isOpen = (kind, policy) => (kind === 'early' || kind === 'renew' ? EARLY.includes(policy) : Boolean(POLICIES[policy]?.items));
 
 /** How many values under a policy have no entry. */
 export function freeUnder(page, policy) {
@@ -130,15 +127,10 @@ export function leastFree(page, policy) {
 }
 
 /** The policies of a registry under which a kind of request can be made, each once. */
-export function openPolicies(page, kind) {
-  return [...new Set(page.ranges.map(({ treatment }) => treatment))].filter(policy => isOpen(kind, policy));
-}
+export const openPolicies = (page, kind) => [...new Set(page.ranges.map(({ treatment }) => treatment))].filter(policy => isOpen(kind, policy));
 
 /** Under which policy the least values are offered first: the one that asks for least. */
-export function easiest(policies) {
-  const order = Object.keys(POLICIES);
-  return [...policies].sort((one, other) => order.indexOf(one) - order.indexOf(other))[0];
-}
+export const easiest = policies => Object.keys(POLICIES).find(policy => policies.includes(policy));
 
 /** The fields of evidence that a kind of request asks for under a policy, and those that it may add; none as long as the policy is not known. */
 export function evidenceFor(kind, policy, renewed = false) {
@@ -169,8 +161,7 @@ export function fieldsOf(kind, wish) {
 
 /** What is wrong with the values of a request, as a sentence for each field at fault. `page` is that of its registry, if there is one. */
 export function faultsOf(kind, values, page) {
-  const { needed, optional } = evidenceFor(kind, policyOf(kind, values, page), values.renewed), faults = {};
-  const own = fieldsOf(kind, values.wish);
+  const { needed, optional } = evidenceFor(kind, policyOf(kind, values, page), values.renewed), faults = {}, own = fieldsOf(kind, values.wish);
   for (const name of [...own, ...needed, ...optional, 'reference']) {
     const isNeeded = !optional.includes(name), text = values[name] ?? '';
     const fault = name === 'least' ? (text ? null : 'Choose one.')
@@ -178,8 +169,8 @@ export function faultsOf(kind, values, page) {
         : faultOf(name, text, isNeeded);
     if (fault) faults[name] = fault;
   }
-  const rfc = ['rfc-number', 'rfc-stream', 'rfc-track'];
-  if (rfc.some(name => values[name])) rfc.filter(name => optional.includes(name) && !values[name]).forEach(name => { faults[name] = 'An RFC needs its number, its stream and its status.'; });
+  const rfc = ['rfc-number', 'rfc-stream', 'rfc-track'], lacking = rfc.filter(name => optional.includes(name) && !values[name]);
+  if (rfc.some(name => values[name])) lacking.forEach(name => { faults[name] = 'An RFC needs its number, its stream and its status.'; });
   const value = valueFault(kind, values, page);
   if (own.includes('value') && !faults.value && value) faults.value = value;
   return faults;
@@ -237,16 +228,17 @@ export function askOf(kind, values, page) {
   }
   const number = [...needed, ...optional].includes('rfc-number') && values['rfc-number'];
   if (number) ask.rfc = { number: Number(number), stream: values['rfc-stream'], track: values['rfc-track'] };
-  return sorted(ask);
+  return Object.fromEntries(Object.keys(ask).sort().map(name => [name, ask[name]]));
 }
-
-const sorted = members => Object.fromEntries(Object.keys(members).sort().map(name => [name, members[name]]));
 
 /** The reference under which the same ask waits already, if one does. */
 export function waitingTwin(ask, requests) {
   const text = JSON.stringify(ask);
   return requests.find(request => request.state === 'pending' && JSON.stringify(request.ask) === text)?.reference;
 }
+
+/** Requests with those that wait first. */
+export const waitingFirst = rows => [...rows].sort((one, other) => (other.state === 'pending') - (one.state === 'pending'));
 
 /** The grant that a form's values spell; `until` is the midnight (UTC) that ends the day. */
 export function grantOf({ account, kind, until }, token) {
@@ -255,17 +247,14 @@ export function grantOf({ account, kind, until }, token) {
 
 /** Random bytes as a token, or as the end of a reference. */
 export const hexOf = bytes => [...bytes].map(byte => byte.toString(16).padStart(2, '0')).join('');
-
 /** The day of a number of seconds, in UTC. */
 export const dayOf = seconds => new Date(seconds * 1000).toISOString().slice(0, 10);
-
 /** The last day of a capability, or when it expired if it has. */
 export const endOf = ({ until }, now) => (until > now ? dayOf(until - 1) : `Expired on ${dayOf(until)}`);
 
 /** What each expert of a request recommends. */
-export function opinionsOf({ experts, advice }) {
-  return experts.map(expert => `${expert}: ${advice.find(one => one.expert === expert)?.verdict ?? 'no advice yet'}`).join('; ');
-}
+export const opinionsOf = ({ experts, advice }) => experts
+  .map(expert => `${expert}: ${advice.find(one => one.expert === expert)?.verdict ?? 'no advice yet'}`).join('; ');
 
 /** An ask in a few words. */
 export function inWords(ask) {
@@ -298,8 +287,7 @@ export function valuesOf({ rfc, ...ask }) {
 /** What became of a request, in words; `entry` is the one that it gave or changed, if that is known. */
 export function outcome({ ask, state, given, reason }, entry) {
   if (state === 'declined') return reason === undefined ? '' : `Reason: ${reason}`;
-  if (state !== 'approved') return '';
-  if (given === undefined) return '';
+  if (state !== 'approved' || given === undefined) return '';
   if (ask.kind === 'block') return `Block ${given}`;
   const ends = entry?.expires && !entry.held ? `${entry.status === 'Expired' ? 'expired' : 'expires'} on ${entry.expires}` : 'for one year';
   return `Value ${given}${{ renew: `, ${ends}`, permanent: ', permanent', early: `, ${ends}` }[ask.kind] ?? ''}`;

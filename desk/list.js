@@ -1,16 +1,13 @@
 // Lists: how many rows there are, a search in what is seen, an order, 100 rows at a time. Where somebody was in a list is kept.
 import { badge, button, element, select } from './dom.js';
 
-const SHOWN = 100, MANY = 10;
-const { compare } = new Intl.Collator('en', { numeric: true }), places = new Map();
-
+const SHOWN = 100, MANY = 10, { compare } = new Intl.Collator('en', { numeric: true }), places = new Map();
 /** Forgets where somebody was in each list. */
 export const forgetPlaces = () => places.clear();
 
 /**
- * A list of rows. `cells` gives the texts of a row by column; a column State has marks. `act` gives the controls of a row, under the title `acts`; it
- * is also given a function that tells the rows in the order in which they are listed. Where `states` has words, one can choose among them. A `quiet`
- * caption is only heard, for a list that is all of its section.
+ * A list of rows. `cells` gives the texts of a row by column, with marks for State. `act` gives its controls, under the title `acts`; it is also given
+ * a function that tells the rows as they are listed. Where `states` has words, one can choose among them. A `quiet` caption is only heard.
  */
 export function table({ caption, columns, rows, cells, act, acts = 'Actions', empty, states, quiet = false }) {
   const lines = rows.map(row => ({ row, texts: cells(row) })), seen = () => found(lines, at).map(({ row }) => row);
@@ -21,7 +18,8 @@ export function table({ caption, columns, rows, cells, act, acts = 'Actions', em
   const head = element('thead', { role: 'rowgroup' }, element('tr', { role: 'row' }, titles));
   const frame = element('table', { role: 'table' }, element('caption', { class: 'heard' }, caption), head, body);
   const move = step => () => { at.page += step; draw(); frame.scrollIntoView({ block: 'start' }); };
-  const before = button('Previous page', move(-1)), after = button('Next page', move(1)), pages = element('p', { class: 'actions' }, before, after);
+  const before = button('Previous page', move(-1)), after = button('Next page', move(1));
+  const pages = element('p', { class: 'actions' }, before, after);
   function draw() {
     const all = found(lines, at), last = Math.max(Math.ceil(all.length / SHOWN) - 1, 0);
     at.page = Math.min(Math.max(at.page, 0), last);
@@ -67,8 +65,9 @@ function tools(caption, columns, states, at, draw) {
   const change = name => ({ target }) => { Object.assign(at, { [name]: target.value, page: 0 }); draw(); };
   const menu = (name, what, options) => select({ 'aria-label': `${what}: ${caption}`, onchange: change(name) }, options, at[name]);
   const orders = columns.flatMap((name, place) => [[`up ${place}`, `By ${name}`], [`down ${place}`, `By ${name}, last first`]]);
-  const search = element('input', { type: 'search', autocomplete: 'off', 'aria-label': `Search: ${caption}`, placeholder: 'Search', oninput: change('text') });
-  search.value = at.text;
+  const search = element('input', {
+    type: 'search', autocomplete: 'off', 'aria-label': `Search: ${caption}`, placeholder: 'Search', oninput: change('text'), value: at.text,
+  });
   return element('div', { class: 'tools', role: 'search' }, states ? menu('state', 'State', { '': 'All states', ...states }) : null, search,
     menu('order', 'Order', { '': 'Usual order', ...Object.fromEntries(orders) }));
 }

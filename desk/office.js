@@ -15,7 +15,6 @@ export class Refusal extends Error {
 
 /** No answer came, however often the request was sent. */
 export class Lost extends Error {}
-
 /** The caller signed out meanwhile, so nobody waits for the answer. */
 export class Gone extends Error {}
 
@@ -31,10 +30,8 @@ export async function ownDigest() {
 
 /** Where to say what is happening to a request: it is given a sentence, or an empty text once an answer is there. */
 export const tellBy = listener => { tell = listener; };
-
 /** What to do once the token does not work any more. */
 export const endBy = listener => { end = listener; };
-
 const LOST = 'The office does not answer. Whether it got your request is not known; sending the same again is safe. Try again in a minute.';
 const BUSY = 'Too many requests came from your network. Nothing was done. Try again in a minute.';
 const PAUSES = [500, 1500, 4000, 8000];
@@ -91,7 +88,8 @@ export async function ask(method, path, body) {
     const isPassing = !answer || answer.status < 300 || [429, 502, 503, 504].includes(answer.status);
     if (!isPassing || tries === PAUSES.length) {
       speak('');
-      throw isPassing ? new Lost(answer?.status === 429 ? BUSY : LOST) : new Refusal(answer.status, answer.status === 413 ? 'large' : `status ${answer.status}`);
+      if (isPassing) throw new Lost(answer?.status === 429 ? BUSY : LOST);
+      throw new Refusal(answer.status, answer.status === 413 ? 'large' : `status ${answer.status}`);
     }
     const why = !answer ? 'The connection broke' : answer.status === 429 ? 'Too many requests from your network' : 'The office is not reachable';
     speak(`${why}. Trying again (${tries + 2} of ${PAUSES.length + 1}).`);

@@ -140,6 +140,9 @@ def twice(office, alice, token, told):
         alice.click('Send the request')
         alice.sees(says)
     judge(len(office.ask('GET', '/requests', token)) == len(told), 'one ask has two references')
+    alice.go('New request')
+    alice.click('Empty this form')
+    alice.until(lambda: 'Empty this form' not in alice.text(), 'the empty form')
     alice.go('My requests')
 
 
@@ -252,7 +255,7 @@ def private(office, alice, token):
     judge(alice.rows('My blocks')[0][:4] == [held['block'], held['size'], held['organization'], held['address']], 'the block is another')
     for wanted in (True, False):
         alice.named('input', f'Keep the holder of {held["block"]} private').click()
-        alice.status('no longer sees' if wanted else 'now sees')
+        alice.status('The public no longer sees' if wanted else 'The public sees')
         judge(office.ask('GET', '/holdings', token)[0]['private'] == wanted, f'private is not {wanted}')
 
 

@@ -1,7 +1,7 @@
 """What must hold for everybody: the reader's own colours, the keyboard, narrow screens."""
 from people.office import CLERK
 from people.person import judge, narrow
-from people.tasks import token_of
+from people.tasks import token_of, within
 
 # Whether the button's name begins with what is seen of it, for each button and link.
 NAMES = '''return [...document.querySelectorAll('button, a')].filter(one => one.checkVisibility() && one.hasAttribute('aria-label'))
@@ -72,3 +72,8 @@ def everybody(office, clerk, person):
     judge(person.script(NAMES) == [], f'names do not begin with what is seen: {person.script(NAMES)}')
     person.sign_out()
     by_name_and_role(clerk)
+    [held] = office.ask('GET', '/holdings', token_of('acme'))
+    with within(clerk, 1, 'who holds a block'):
+        clerk.go('All requests')
+        clerk.named('input', 'Search: All requests').send_keys(held['block'])
+        clerk.until(lambda: [row[0] for row in clerk.rows('All requests')] == ['acme'], 'the holder')

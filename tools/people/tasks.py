@@ -6,7 +6,7 @@ from lib import office as offices
 from people.office import CLERK
 from people.person import judge
 
-RANGES = 'lo,hi,treatment,note\n0,999,first-come-first-served,\n1000,1999,expert-review,\n2000,2999,standards-action,\n3000,3000,first-come-first-served,\n3001,9999,reserved,\n'
+RANGES = 'lo,hi,treatment,note\n0,999,first-come-first-served,\n1000,1999,expert-review,\n2000,2999,standards-action,\n3000,3000,first-come-first-served,\n3001,3099,specification-required,\n3100,9999,reserved,\n'
 EARLY = {'chair': 'wg', 'director': 'ad', 'draft': 'draft-x-00', 'interest': True, 'kind': 'early', 'registry': 'ports', 'stable': True}
 
 
@@ -33,12 +33,14 @@ def asks(office, account, reference, **more):
 def prepared(office):
     """A registry with a contested value, several requests that wait, and early allocations."""
     offices.ask(office.port, 'PUT', '/desk/registries/ports/9999', CLERK, RANGES)
-    for account, kind in [('acme', 'applicant'), ('zephyr', 'applicant'), ('oceanic', 'applicant'), ('moduya', 'expert')]:
+    for account, kind in [('acme', 'applicant'), ('zephyr', 'applicant'), ('oceanic', 'applicant'), ('zz', 'applicant'), ('moduya', 'expert')]:
         office.grant(account, kind, token_of(account))
     for account in ('acme', 'zephyr'):
         asks(office, account, 'p-843', value=843)
     for number in range(3):
         asks(office, 'oceanic', f'o-{number}', least='first-come-first-served')
+    for number in range(6):
+        asks(office, 'zz', f'z-{number}', value=700 + number)
     asks(office, 'acme', 'x-1', value=1000, specification='https://example.org/spec, 2nd edition')
     for account in ('acme', 'zephyr'):
         asks(office, account, 'early', **EARLY, contact=None, least='standards-action')
@@ -109,11 +111,35 @@ def clerks_tasks(office, clerk):
     clerk.click('Next waiting request')
     clerk.until(lambda: 'Waiting' in clerk.script('return document.querySelector("main dl").textContent'), 'the next that waits')
     expiring(office, clerk)
+    tokens_of_others(clerk)
     office.relay.mode = ['foreign']
     clerk.named('nav a', 'Waiting').click()
     clerk.sees("Clerks can use the desk only from the office's network.")
     clerk.click('Try again')
     clerk.sees('in all')
+
+
+def tokens_of_others(clerk):
+    """A token for a new applicant, handed over with the address of the page, and its end. The list is found by the account."""
+    with within(clerk, 3, 'a token for a new applicant'):
+        clerk.go('Tokens')
+        clerk.fill('Account', 'newcomer')
+        clerk.choose('Kind', 'Applicant')
+        clerk.click('Make a token')
+        clerk.sees('The token of newcomer')
+    judge(clerk.address in clerk.text(), 'the address of the page is not said')
+    clerk.click('Copy')
+    clerk.click('Done, hide it')
+    clerk.status('The token is hidden.')
+    digest = next(row[3] for row in clerk.rows('All tokens') if row[0] == 'newcomer')
+    with within(clerk, 2, 'revoke a token'):
+        clerk.click(f'Revoke {digest} of newcomer')
+        looks = clerk.script('return [...document.querySelectorAll("dialog .stop")].map(one => getComputedStyle(one).backgroundColor)')
+        clerk.click('Revoke')
+        clerk.status('The token of newcomer is revoked.')
+    judge(looks == ['rgb(179, 38, 30)'], f'what revokes is {looks} and not red')
+    clerk.go('Counts')
+    clerk.sees('Waiting requests')
 
 
 def too_early(office, clerk):
@@ -123,6 +149,7 @@ def too_early(office, clerk):
     clerk.click('Approve')
     clerk.status('No expert is assigned.')
     judge(clerk.script('return document.querySelector("dialog") === null') and not any('approve' in line for line in office.relay.log), 'Approve does something without advice')
+    clerk.control('Account of the expert').click()
     offered = clerk.until(lambda: clerk.script('return [...document.querySelectorAll("#experts option")].map(one => one.value)'), 'the experts')
     judge('moduya' in offered and 'acme' not in offered, f'the experts to choose from are {offered}')
     clerk.fill('Account of the expert', 'moduyaa')
@@ -185,8 +212,11 @@ def expiring(office, clerk):
 
 def applicants_tasks(office, person):
     """What an applicant does: what it holds, a declined request again, and nothing typed that is lost."""
-    person.sign_in(token_of('acme'))
-    person.sees('Details')
+    greeted(person)
+    with within(person, 1, 'sign in'):
+        person.sign_in(token_of('acme'))
+        person.sees('Details')
+    asking(office, person)
     with within(person, 1, 'when my values end'):
         person.go('My values')
     entries = [entry for entry in office.ask('GET', '/registries/ports')['entries'] if entry['assignee'] == 'acme']
@@ -202,6 +232,69 @@ def applicants_tasks(office, person):
     slow(office, person)
     left(person)
     ended(office, person)
+
+
+def greeted(person):
+    """Fifteen days before the end of an early allocation, by the browser's clock, its holder is told."""
+    person.script('window.skip = 350 * 86400000')
+    person.sign_in(token_of('acme'))
+    person.sees('1 of your values expires by 20')
+    person.click('See My values')
+    person.until(lambda: person.rows('My values'), 'the values')
+    person.sign_out()
+    person.script('window.skip = 0')
+
+
+def asking(office, person):
+    """The lowest free value, a value that is taken, a text that is not possible, and a withdrawal."""
+    with within(person, 3, 'ask for the lowest free value'):
+        begun(person)
+        person.sees('values are free: the lowest is ')
+        person.fill('Name of the value', 'Plain')
+        person.fill('Contact', 'Acme')
+        person.click('Send the request')
+        person.status('is received. A clerk will decide.')
+    reference = next(one['reference'] for one in office.ask('GET', '/requests', token_of('acme')) if one['ask'].get('label') == 'Plain')
+    judge(person.rows('My requests')[0][0] == reference, 'what waits does not come first')
+    with within(person, 2, 'withdraw'):
+        person.click(f'Withdraw {reference}')
+        person.click('Withdraw')
+        person.status('is withdrawn.')
+    with within(person, 4, 'ask under Specification Required'):
+        begun(person)
+        person.choose('Policy', 'Specification Required (99 free)')
+        person.sees('a designated expert must recommend your request.')
+        person.fill('Name of the value', 'Suite')
+        person.fill('Contact', 'Acme')
+        person.fill('Specification', 'https://example.org/suite')
+        person.click('Send the request')
+        person.status('is received.')
+    begun(person)
+    person.tick('A value that I choose')
+    person.fill('Value', '843')
+    person.sees('Value 843 is taken: acme p-843.')
+    person.fill('Name of the value', 'M\u00fcnchen')
+    person.click('Send the request')
+    person.sees('"\u00fc" is not possible here. Write "ue", for example.')
+    person.go('New request')
+    person.click('Empty this form')
+
+
+def experts_tasks(office, person):
+    """An expert's first request: those that wait come first, and the filter is kept after the advice."""
+    asks(office, 'zephyr', 'x-2', value=1001)
+    office.ask('PUT', '/desk/experts/zephyr/x-2/moduya', CLERK)
+    person.sign_in(token_of('moduya'))
+    person.sees('Requests to review')
+    judge([row[1] for row in person.rows('Requests assigned to me')] == ['x-2', 'x-1'], 'what waits does not come first')
+    with within(person, 3, 'advise on a request'):
+        person.click('Give advice: x-2 of zephyr')
+        person.choose('Your recommendation', 'Against: I do not recommend approval')
+        person.fill('Your advice', 'Too vague')
+        person.click('Send my advice')
+        person.status('is recorded')
+    judge(person.rows('Requests assigned to me')[0][4] == 'Against: Too vague', 'the advice is not in the list')
+    person.sign_out()
 
 
 def again(office, person):

@@ -161,6 +161,7 @@ def ends(office, alice):
     for before, after in [(3_500_000, 'My requests'), (3_700_000, 'Your token')]:
         if before == 3_500_000:
             alice.sign_in('fay-token-000000000001')
+            alice.go('My requests')
             alice.sees('You have no requests yet.')
         alice.script('window.skip += arguments[0]', before)
         time.sleep(11)
