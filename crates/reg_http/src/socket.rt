@@ -197,7 +197,8 @@ impl<C: Read + Drop> Socket<C> {
                     return readiness;
                 }
             }
-            match self.stream.write(self.left()) {
+            let at = self.at.min(self.bytes.len());
+            match self.stream.write(&self.bytes[at..]) {
                 Ok(0) => return Readiness::Broken,
                 Ok(count) => {
                     self.at = self.at.saturating_add(count);
