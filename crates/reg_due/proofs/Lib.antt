@@ -1,3 +1,4 @@
 pub mod Asked
+mod DueEntries
 pub mod Growing
 pub mod Ordered

@@ -1,3 +1,4 @@
 pub mod Allocation
-pub mod Table
 pub mod Asking
+pub mod Laws
+pub mod Table

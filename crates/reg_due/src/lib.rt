@@ -3,4 +3,5 @@
 
 pub mod allocation;
 pub mod asking;
+pub mod laws;
 pub mod table;
