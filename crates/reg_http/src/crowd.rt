@@ -160,6 +160,7 @@ impl<C: Clock, F: Front + Drop> Crowd<'_, C, F> {
         }
         if self.left == 0 {
             self.listener = None;
+            self.is_knocked = false;
         }
     }
 
@@ -217,6 +218,9 @@ impl<C: Clock, F: Front + Drop> Peers for Crowd<'_, C, F> {
 
     fn next<L: LineLog>(&mut self, log: &mut L) -> Option<CrowdReader<F::Content>> {
         for _ in 0..u64::MAX {
+            if self.listener.is_none() && self.hall.is_asked_no_more() {
+                return None;
+            }
             self.go_round(log).ok()?;
             if let Some((at, socket)) = self.hall.take_turn() {
                 let registry = self.poll.registry();
@@ -227,8 +231,6 @@ impl<C: Clock, F: Front + Drop> Peers for Crowd<'_, C, F> {
                         read: 0,
                     });
                 }
-            } else if self.listener.is_none() && self.hall.is_asked_no_more() {
-                return None;
             } else if self.is_knocked && !self.has_room() {
                 self.make_way(log);
             }
