@@ -283,7 +283,7 @@ class Year:
         self.judge_same('pending', self.expect(command('/desk/pending')).strip(), str(self.books.waiting))
         self.judge_same('check', counted.get('pending'), self.books.waiting)
         days = [self.books.day - datetime.timedelta(ago) for ago in range(KEPT + 1)]
-        self.judge_same('copies', sorted(str(path.relative_to(self.root / COPIES)) for path in (self.root / COPIES).rglob('*') if path.is_file()),
+        self.judge_same('copies', sorted(str(path.relative_to(self.root / COPIES)) for path in (self.root / COPIES).rglob('*.db')),
                         sorted(f'{day}/office.db' for day in days if day >= EVE))
 
     # ---- What is done once in a while

@@ -122,7 +122,8 @@ def judge_files(office, site):
         tally.judge(len(page) <= 4 * len(listed) + 65_536, f'{name}.html has {len(page)} bytes, its listing {len(listed)}')
     tally.judge(files['blocks.csv'] == office.listing(None).encode(), 'blocks.csv is no listing')
     for path in site.rglob('*'):
-        tally.judge(path.stat().st_mode & 0o777 == (0o755 if path.is_dir() else 0o644), f'{path} has another mode')
+        mode = 0o755 if path.is_dir() else 0o600 if path.name == '.lock' else 0o644
+        tally.judge(path.stat().st_mode & 0o777 == mode, f'{path} has another mode')
     pages.judge_changes(tally, site, records)
     pages.judge_feed(tally, site, records, 'Registries')
 
@@ -337,7 +338,7 @@ def judge_rivals(office, site):
     """Another run in the same folder is refused while one is at work; and a folder that goes away is a fault, or was published before."""
     folder, gone = office.folder / 'rivals', office.folder / 'gone'
     folder.mkdir()
-    lock = os.open(folder, os.O_RDONLY)
+    lock = os.open(folder / '.lock', os.O_WRONLY | os.O_CREAT, 0o600)
     fcntl.flock(lock, fcntl.LOCK_EX)
     office.stops(office.file, folder)
     office.tally.judge(not contents(folder), f'a second run left {sorted(contents(folder))}')

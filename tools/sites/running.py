@@ -76,13 +76,18 @@ class Program:
 
 # ---- Files
 
+def files_below(folder):
+    """Each file below a folder, but for that of its lock."""
+    return [path for path in folder.rglob('*') if path.is_file() and path.name != '.lock']
+
+
 def contents(folder):
-    return {str(path.relative_to(folder)): path.read_bytes() for path in folder.rglob('*') if path.is_file()}
+    return {str(path.relative_to(folder)): path.read_bytes() for path in files_below(folder)}
 
 
 def marks(folder):
     """When and where each file was written."""
-    return {str(path.relative_to(folder)): (path.stat().st_ino, path.stat().st_mtime_ns) for path in folder.rglob('*') if path.is_file()}
+    return {str(path.relative_to(folder)): (path.stat().st_ino, path.stat().st_mtime_ns) for path in files_below(folder)}
 
 
 def others(first, second):

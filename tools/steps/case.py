@@ -60,11 +60,11 @@ class Case:
     def __init__(self, program, folder):
         self.program, self.folder = program, pathlib.Path(folder)
 
-    def run(self, words, given=b'', **streams):
-        """What the program gives: the exit status, standard output and standard error."""
+    def run(self, words, given=b'', before=(), **streams):
+        """What the program gives, after these words: the exit status, standard output and standard error."""
         words = ['' if word == "''" else word for word in words.split(' ')] if words else []
         streams = {'input': given, 'stdout': subprocess.PIPE, 'stderr': subprocess.PIPE, **streams}
-        ran = subprocess.run([self.program, *words], cwd=self.folder, timeout=60, **streams)
+        ran = subprocess.run([*before, self.program, *words], cwd=self.folder, timeout=60, **streams)
         return ran.returncode, ran.stdout, ran.stderr
 
     def path(self, file):

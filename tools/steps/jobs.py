@@ -15,6 +15,8 @@ TOP = pathlib.Path(__file__).resolve().parent.parent.parent
 CRATE, SITE = TOP / 'crates/reg_cli', TOP / 'docs/reference/SITE.md'
 # The bytes of a file that SQLite locks: its pending, reserved and shared locks.
 LOCK_START, LOCK_BYTES = 1 << 30, 512
+# How much memory a program has that is not to read what is too large.
+LITTLE_KILOBYTES = 200_000
 # Where a file of a site says at which moment it was made.
 MADE = re.compile(rb'<time>[^<]*</time>|"moment":"[^"]*"|(?m:^[0-9a-f]{64}  index\.(html|json)\n)')
 # What opens an office.
@@ -193,14 +195,23 @@ def agree(case, folder, given, wanted):
     is_done(case, f'verify {folder}', b'', ran.stdout)
 
 
-def is_locked(case, folder_and_words, given, wanted):
-    folder, _, words = folder_and_words.partition(' ')
-    held = os.open(case.path(folder), os.O_RDONLY)
+def while_locked(case, name_and_words, given, wanted, is_so):
+    """It is so with these words while another has a lock of the file or folder of this name."""
+    name, _, words = name_and_words.partition(' ')
+    held = os.open(case.path(name), os.O_RDONLY)
     try:
         fcntl.flock(held, fcntl.LOCK_EX | fcntl.LOCK_NB)
-        is_undone(case, words, given, wanted)
+        is_so(case, words, given, wanted)
     finally:
         os.close(held)
+
+
+def is_locked(case, file_and_words, given, wanted):
+    while_locked(case, file_and_words, given, wanted, is_undone)
+
+
+def is_free(case, folder_and_words, given, wanted):
+    while_locked(case, folder_and_words, given, wanted, is_done)
 
 
 def is_done_under(case, mask_and_words, given, wanted):
@@ -208,9 +219,25 @@ def is_done_under(case, mask_and_words, given, wanted):
     wants(case.run(words, given, umask=int(mask, 8)), (0, wanted, b''), words)
 
 
+def is_undone_in_little(case, words, given, wanted):
+    limited = ('sh', '-c', f'ulimit -v {LITTLE_KILOBYTES}; exec "$0" "$@"')
+    wants(case.run(words, given, before=limited), (1, b'', wanted), words)
+
+
+def make_pipe(case, name, given, wanted):
+    case.path(name).unlink(missing_ok=True)
+    os.mkfifo(case.path(name))
+
+
 def make_link(case, name_and_target, given, wanted):
     name, _, target = name_and_target.partition(' ')
     case.path(name).symlink_to(target)
+
+
+def make_sparse(case, file_and_size, given, wanted):
+    file, _, size = file_and_size.partition(' ')
+    with open(case.path(file), 'wb') as made:
+        made.truncate(int(size))
 
 
 def is_held(case, file_and_words, given, wanted):
@@ -239,4 +266,5 @@ def are_private(case, files, given, wanted):
 def are_public(case, folder, given, wanted):
     top = case.path(folder)
     for path in (top, *top.rglob('*')):
-        wants(oct(path.stat().st_mode & 0o777), '0o755' if path.is_dir() else '0o644', path.relative_to(case.folder))
+        mode = '0o755' if path.is_dir() else '0o600' if path.name == '.lock' else '0o644'
+        wants(oct(path.stat().st_mode & 0o777), mode, path.relative_to(case.folder))

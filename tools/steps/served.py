@@ -1,13 +1,17 @@
 """Steps in which an office is served, or a peer answers."""
 import contextlib
 import datetime
+import functools
 import itertools
 import json
+import os
+import pty
 import re
 import socket
 import subprocess
 import threading
 import time
+import tty
 from concurrent.futures import ThreadPoolExecutor
 
 from lib import office
@@ -70,8 +74,10 @@ def request_of(client):
     return heard
 
 
-def met(case, words, answer, is_endless=False):
+def met(case, words, answer, run=None, is_endless=False):
     """What the program sends to a peer that gives this answer, or gives it without end, at PORT of its words, and what the program gives."""
+    run = run or case.run
+
     def meet(held):
         held.settimeout(60)
         with held.accept()[0] as client:
@@ -85,7 +91,7 @@ def met(case, words, answer, is_endless=False):
 
     with listener() as held, ThreadPoolExecutor(1) as peers:
         meeting = peers.submit(meet, held)
-        return case.run(words.replace('PORT', str(held.getsockname()[1]))), meeting.result()
+        return run(words.replace('PORT', str(held.getsockname()[1]))), meeting.result()
 
 
 def is_misled(case, words, given, wanted):
@@ -96,6 +102,31 @@ def is_flooded(case, words, given, wanted):
     begun = time.monotonic()
     wants(met(case, words, given, is_endless=True)[0], (1, b'', wanted), words)
     wants(time.monotonic() - begun < 10, True, f'{words}, which ends within ten seconds')
+
+
+def read_to_end(terminal):
+    """What is written to a terminal until nobody has it open any more, which is an error of the system's."""
+    text = b''
+    with contextlib.suppress(OSError):
+        while piece := os.read(terminal, 65536):
+            text += piece
+    os.close(terminal)
+    return text
+
+
+def shown(case, words):
+    """What a terminal is sent that is the program's standard output and standard error."""
+    terminal, program = pty.openpty()
+    tty.setraw(program)
+    with ThreadPoolExecutor(1) as readers:
+        sent = readers.submit(read_to_end, terminal)
+        case.run(words, stdout=program, stderr=program)
+        os.close(program)
+        return sent.result()
+
+
+def is_shown(case, words, given, wanted):
+    wants(met(case, words, given, functools.partial(shown, case))[0], wanted, words)
 
 
 def sends(case, words, given, wanted):

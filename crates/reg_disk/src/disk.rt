@@ -2,7 +2,9 @@
 ghost use Rattle.std.specs.Prelude.{◌≡◌, [], ◌∷◌, ◌++◌, Some, IfOk, IfSome, OnOk, option_map};
 ghost use Rattle.reg_disk.specs.Disk.{Created, DoesOneStep, Kept, NamesKept, Removed, Renamed};
 
+use crate::folder::MOST_READ_BYTES;
 use crate::modes::{READ_BY_ALL, create_file};
+use reg_source::regular::{is_longer, open_regular};
 use reg_source::unpublished::{Unpublished, unread, unwritten};
 use std::fs;
 use std::fs::{Files, OpenFile};
@@ -43,7 +45,7 @@ pub trait Disk {
             (λ reader. Self.Reader.remaining reader ≡ Some (held self.now name.now)) };
 
     /// The file that has a name, from its beginning on; none where no file has it. `Read` where it cannot
-    /// be opened.
+    /// be opened, and `Large` where it is known to have more than 268,435,456 bytes.
     fn find(&self, name: &str) -> Result<Option<Self::Reader>, Unpublished>
         ensures { Tells → IfOk result (λ reader. option_map Self.Reader.remaining reader
             ≡ option_map Some (found self.now name.now)) };
@@ -91,11 +93,14 @@ impl<H: Files> Disk for SystemDisk<'_, H> {
     type Draft = H::File;
 
     fn open(&self, name: &str) -> Option<H::File> {
-        fs::open(self.rt, name).ok()
+        open_regular(self.rt, name).ok()
     }
 
     fn find(&self, name: &str) -> Result<Option<H::File>, Unpublished> {
-        match fs::open(self.rt, name) {
+        if is_longer(self.rt, name, MOST_READ_BYTES) {
+            return Err(Unpublished::Large);
+        }
+        match open_regular(self.rt, name) {
             Ok(file) => Ok(Some(file)),
             Err(error) => match error.kind() {
                 ErrorKind::NotFound => Ok(None),

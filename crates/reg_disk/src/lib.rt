@@ -4,5 +4,6 @@
 pub mod directory;
 pub mod disk;
 pub mod folder;
+pub mod lock;
 pub mod modes;
 pub mod replacement;

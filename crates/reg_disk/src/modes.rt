@@ -4,6 +4,9 @@ use std::io::ErrorKind;
 use std::os::unix::fs::{DirBuilderExt, OpenOptionsExt, PermissionsExt};
 use std::{fs, io};
 
+/// Its owner reads and writes a file, and nobody else.
+pub const OWNER_ALONE: u32 = 0o600;
+
 /// Its owner writes a file, and everybody reads it.
 pub const READ_BY_ALL: u32 = 0o644;
 

@@ -4,36 +4,21 @@ ghost use Rattle.std.specs.Fs.{metadata_mode};
 ghost use Rattle.std.specs.Io.KnownBytes.{Appends};
 ghost use Rattle.reg_files.specs.Access.{log_reader_warning, reader_warning};
 
+use reg_disk::modes::{OWNER_ALONE, create_file};
 use std::alloc::Global;
-use std::fs::{Metadata, OpenOptions, Permissions};
+use std::fs::Metadata;
 use std::io::Write;
-use std::os::unix::fs::{OpenOptionsExt, PermissionsExt};
+use std::os::unix::fs::PermissionsExt;
 use std::rt::Files;
 use std::{fs, io};
-
-/// Its owner reads and writes a file, and nobody else.
-const OWNER_ALONE: u32 = 0o600;
 
 /// Others than the owner read a file.
 const READ_BY_OTHERS: u32 = 0o044;
 
-/// A new file at a path, for its owner alone. There is no moment at which others may read it, whatever
-/// the umask of the process is.
-pub fn create_private<H: Files>(rt: &H, path: &str) -> io::Result<H::File> {
-    let file = OpenOptions::new()
-        .write(true)
-        .create_new(true)
-        .mode(OWNER_ALONE)
-        .open(rt, path)?;
-    // A umask may have taken the owner's own rights away.
-    fs::OpenFile::set_permissions(&file, Permissions::from_mode(OWNER_ALONE))?;
-    Ok(file)
-}
-
 /// Makes the file at a path, empty, for its owner alone, where there is none; what is there stays as
 /// it is. Its log is then made with the same mode by what opens the file.
 pub fn make_private<H: Files>(rt: &H, path: &str) -> io::Result<()> {
-    match create_private(rt, path) {
+    match create_file(rt, path, OWNER_ALONE) {
         Ok(file) => {
             drop(file);
             Ok(())

@@ -1,6 +1,6 @@
 //! The file system, where new files are their owner's alone.
-use crate::access::create_private;
 use reg_disk::disk::{Disk, SystemDisk};
+use reg_disk::modes::{OWNER_ALONE, create_file};
 use reg_source::unpublished::{Unpublished, unwritten};
 use std::fs;
 
@@ -38,7 +38,7 @@ impl Disk for PrivateDisk<'_> {
     }
 
     fn create(&mut self, name: &str) -> Result<fs::File, Unpublished> {
-        create_private(self.rt, name).map_err(unwritten)
+        create_file(self.rt, name, OWNER_ALONE).map_err(unwritten)
     }
 
     fn add(&self, draft: &mut fs::File, bytes: &[u8]) -> Result<(), Unpublished> {

@@ -1,5 +1,5 @@
 //! Where copies of offices are put.
-ghost use Rattle.std.specs.Prelude.{◌≡◌, ◌∷◌, ◌++◌, IfOk, MatchOption, MatchResult};
+ghost use Rattle.std.specs.Prelude.{◌≡◌, ◌≢◌, ◌∷◌, ◌++◌, IfOk, MatchOption, MatchResult, OnOk, codes};
 ghost use Rattle.std.specs.Path.{HasNoSlash, slash};
 ghost use Rattle.reg_disk.specs.Names.{names_by};
 ghost use Rattle.reg_files.specs.Copies.{AreNamesIn};
@@ -7,9 +7,10 @@ ghost use Rattle.reg_files.specs.Copies.{AreNamesIn};
 use crate::explained;
 use crate::private_disk::PrivateDisk;
 use reg_disk::disk::Disk;
+use reg_disk::lock::{LOCK_NAME, locked};
 use reg_disk::replacement::Names;
 use reg_program::faults::{JobFailure, Undone};
-use reg_program::publishing::{locked, undone};
+use reg_program::publishing::undone;
 use reg_sql::trouble::Trouble;
 use std::alloc::{AllocError, Global};
 use std::os::unix::fs::MetadataExt;
@@ -42,7 +43,8 @@ pub trait Places {
 
     /// Opens the place of a copy of the office in the file at a path: in the folder at a path, which is
     /// made where it is not there, under the file's own name. `Write` where the folder is the office's
-    /// own or cannot be used, where another job writes there, or where what has that name is in use.
+    /// own or cannot be used, where another job writes there, or where what has that name is in use or locks
+    /// the folder.
     fn open(&self, path: &str, folder: &str) -> Result<Target<Self::Given>, Undone>
         ensures { MatchResult result
             (λ target. Opened self.now path.now folder.now (names_by target.names) target.disk)
@@ -85,9 +87,10 @@ fn target_of<'a>(
         return Err(Undone::Fault(JobFailure::Write));
     }
     let names = Names::within(alloc, folder, name)?;
+    refuse_lock(alloc, name)?;
     refuse_own(rt, alloc, own, folder)?;
     refuse_used(rt, alloc, names.place.as_str())?;
-    match locked(rt, folder) {
+    match locked(rt, alloc, folder) {
         Ok(lock) => {
             let disk = PrivateDisk::of(rt, lock);
             Ok(Target { names, disk })
@@ -102,6 +105,16 @@ fn split(path: &str) -> Option<(&str, &str)>
         HasNoSlash parts.1.now × (path.now ≡ parts.0.now ++ slash ∷ parts.1.now)) }
 {
     path.rsplit_once('/')
+}
+
+// Refuses the name of the file by which folders are locked.
+fn refuse_lock(alloc: Global, name: &str) -> Result<(), Undone>
+    ensures { OnOk result (name.now ≢ codes ".lock") }
+{
+    if name == LOCK_NAME {
+        return Err(unwritten(alloc, "the folder is locked by a file of that name")?);
+    }
+    Ok(())
 }
 
 // Refuses the folder in which the office's own file is.

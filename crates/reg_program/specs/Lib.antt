@@ -16,6 +16,7 @@ pub mod Revoking
 pub mod Served
 pub mod Serving
 pub mod Tasks
+pub mod Terminal
 pub mod Tokens
 pub mod Undone
 pub mod Verifying

@@ -11,7 +11,7 @@ ghost use Rattle.reg_program.specs.declared.faults.Undone.TheVariants.{Fault};
 
 use crate::asking::{answer_line, print};
 use crate::faults::{JobFailure, Undone};
-use crate::inputs::{register_of, token_of};
+use crate::inputs::{refuse_long, register_of, token_of};
 use crate::tokens::refused_as;
 use reg_core::item::{Item, Segment};
 use reg_core::refusal::Refusal;
@@ -37,6 +37,7 @@ pub fn import<W: Write>(
 {
     let alloc = rt.alloc();
     let token = token_of(rt, alloc, order.clerk.as_str())?;
+    refuse_long(rt, order.register.as_str())?;
     let register = register_of(rt, alloc, order.register.as_str())?;
     let import = importing(alloc, moment, order, token.as_slice())?;
     print_script(alloc, &import, register.as_slice(), output)

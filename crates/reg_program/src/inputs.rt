@@ -1,15 +1,16 @@
 //! Reads files and standard input whole, and the tokens that words of a command line stand for.
-ghost use Rattle.std.specs.Prelude.{◌≡◌, ◌<◌, ◌≤◌, ◌^◌, ◌⊎◌, length, position, IfOk, IfSome, option_map};
+ghost use Rattle.std.specs.Prelude.{◌≡◌, ◌<◌, ◌≤◌, ◌^◌, ◌⊎◌, length, position, IfErr, IfOk, IfSome, option_map};
 ghost use Rattle.std.specs.Io.BufRead.{strip_last};
 ghost use Rattle.std.specs.String.{string_bytes};
 ghost use Rattle.reg_source.specs.Bounded.{AreMore};
 ghost use Rattle.reg_program.specs.Inputs.{AreKnown, HasBytes, HasMore, IsTokenOf, body_in, is_line_feed, line_in, token_in};
 
 use crate::faults::JobFailure;
+use reg_source::regular::{is_longer, open_regular};
 use std::alloc::Global;
+use std::io;
 use std::io::Read;
 use std::rt::Files;
-use std::{fs, io};
 
 /// How many bytes a range file, a body and a token's file have at most.
 pub const MOST_BYTES: usize = 65_536;
@@ -40,6 +41,18 @@ pub fn register_of<H: Files>(rt: &H, alloc: Global, path: &str) -> Result<Vec<u8
     opened_up_to(rt, alloc, path, MOST_REGISTER_BYTES)
 }
 
+/// Refuses a register as `Large` before it is read, where the system says that it has more than 268,435,456
+/// bytes.
+pub fn refuse_long<H: Files>(rt: &H, path: &str) -> Result<(), JobFailure>
+    ensures { IfErr result (λ why. why ≡ JobFailure.Large) }
+{
+    if is_longer(rt, path, MOST_REGISTER_BYTES) {
+        Err(JobFailure::Large)
+    } else {
+        Ok(())
+    }
+}
+
 /// The bytes of the file of notes at a path. `Large` where it has more than 1,048,576, and `Read` where
 /// it cannot be read.
 pub fn notes_of<H: Files>(rt: &H, alloc: Global, path: &str) -> Result<Vec<u8>, JobFailure>
@@ -62,7 +75,7 @@ fn opened_up_to<H: Files>(
     ensures most { IfOk result (λ bytes. length bytes.items ≤ most) }
     ensures large { result ≡ Err JobFailure.Large → HasMore H.File.remaining most }
 {
-    let mut file = fs::open(rt, path).map_err(failure)?;
+    let mut file = open_regular(rt, path).map_err(failure)?;
     let read = up_to(alloc, &mut file, most);
     drop(file);
     read

@@ -22,6 +22,7 @@ pub mod scripts;
 pub mod served;
 pub mod stores;
 pub mod tasks;
+pub mod terminal;
 pub mod tokens;
 pub mod verifying;
 pub mod version;

@@ -12,6 +12,7 @@ use reg_client::peer::Peer;
 use reg_disk::directory::Directory;
 use reg_disk::disk::SystemDisk;
 use reg_disk::folder::Folder;
+use reg_disk::lock::locked;
 use reg_jobs::jobs::SERVED;
 use reg_notes::notes::Notes;
 use reg_pages::portions::Portions;
@@ -21,6 +22,7 @@ use reg_publish::publishing::{Count, publish};
 use reg_site::files::File;
 use reg_source::source::Source;
 use reg_source::unpublished::Unpublished;
+use reg_verify::flaw::plain;
 use std::alloc::{AllocError, Global};
 use std::fs;
 use std::io::{Read, Write};
@@ -69,7 +71,7 @@ impl<'a> Folders for Directories<'a> {
 
     fn open(&self, alloc: Global, path: &str) -> Result<LockedDirectory<'a>, Unpublished> {
         let directory = Directory::open(self.rt, alloc, path)?;
-        let lock = locked(self.rt, path)?;
+        let lock = locked(self.rt, alloc, path)?;
         Ok(LockedDirectory { directory, lock })
     }
 }
@@ -88,18 +90,6 @@ impl Folder for LockedDirectory<'_> {
 
     fn publish<P: Portions>(&mut self, file: File, bytes: &mut P) -> Result<(), Unpublished> {
         self.directory.publish(file, bytes)
-    }
-}
-
-/// Locks a folder, until what is given is dropped. `Write` where it cannot be opened, or another job has
-/// locked it.
-pub fn locked(rt: &HostRuntime, folder: &str) -> Result<fs::File, Unpublished> {
-    let Ok(file) = fs::open(rt, folder) else {
-        return Err(Unpublished::Write);
-    };
-    match file.try_lock() {
-        Ok(()) => Ok(file),
-        Err(_) => Err(Unpublished::Write),
     }
 }
 
@@ -251,10 +241,11 @@ fn explained(alloc: Global, fault: &HistoryFault) -> Result<String, AllocError> 
     }
 }
 
-// What was published of a subject is published no more, or otherwise.
+// What was published of a subject is published no more, or otherwise. Its texts are those of a file that
+// others may have written.
 fn lost(alloc: Global, subject: &Subject) -> Result<String, AllocError> {
-    let registry = subject.registry.as_str();
-    let value = subject.value.as_str();
+    let registry = plain(subject.registry.as_str());
+    let value = plain(subject.value.as_str());
     match subject.class {
         Class::Range => format!(in alloc;
             "range {value} of {registry} was published, and is not in the office as it was"

@@ -3,6 +3,7 @@
 
 pub mod bounded;
 pub mod offices;
+pub mod regular;
 pub mod source;
 pub mod told;
 pub mod unpublished;

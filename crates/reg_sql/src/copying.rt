@@ -10,6 +10,7 @@ use sqlite::Files;
 use sqlite_disk::{Disk, Memory};
 use std::alloc::Global;
 use std::fs;
+use std::fs::Metadata;
 use std::io::{self, ErrorKind, Read};
 use std::os::fd::AsRawFd;
 use std::os::unix::fs::MetadataExt;
@@ -75,16 +76,26 @@ fn copy_of_log(rt: &HostRuntime, path: &str) -> Result<Memory, Trouble>
     }
 }
 
-/// Opens a regular file with one name for reading.
+/// Opens a regular file with one name for reading. What is there is asked before it is opened, since a named
+/// pipe would be waited for.
 pub(crate) fn open_regular(rt: &HostRuntime, path: &str) -> Result<fs::File, Trouble>
     ensures { IfErr result IsOfReading }
 {
+    refuse_special(&fs::metadata(rt, path).map_err(trouble)?)?;
     let file = fs::open(rt, path).map_err(trouble)?;
-    let found = file.metadata().map_err(trouble)?;
+    // Something else may have come there meanwhile.
+    refuse_special(&file.metadata().map_err(trouble)?)?;
+    Ok(file)
+}
+
+// Refuses what is no regular file with one name.
+fn refuse_special(found: &Metadata) -> Result<(), Trouble>
+    ensures { IfErr result IsOfReading }
+{
     if !found.is_file() || found.nlink() != 1 {
         return Err(Trouble::Special);
     }
-    Ok(file)
+    Ok(())
 }
 
 /// Opens it where no other has it open to write it.
@@ -103,6 +114,9 @@ fn open_shared(rt: &HostRuntime, path: &str) -> Result<fs::File, Trouble>
 pub(crate) fn has_hot_journal(rt: &HostRuntime, path: &str) -> Result<bool, Trouble>
     ensures { IfErr result IsOfReading }
 {
+    if is_special(rt, path) {
+        return Err(Trouble::Unreadable);
+    }
     match fs::open(rt, path) {
         Ok(mut journal) => {
             let mut first = [0];
@@ -111,6 +125,14 @@ pub(crate) fn has_hot_journal(rt: &HostRuntime, path: &str) -> Result<bool, Trou
         }
         Err(error) if error.kind() == ErrorKind::NotFound => Ok(false),
         Err(error) => Err(trouble(error)),
+    }
+}
+
+// Whether something else than a regular file is at a path.
+fn is_special(rt: &HostRuntime, path: &str) -> bool {
+    match fs::metadata(rt, path) {
+        Ok(found) => !found.is_file(),
+        Err(_) => false,
     }
 }
 

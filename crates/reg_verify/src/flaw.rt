@@ -178,8 +178,8 @@ fn subject_file(alloc: Global, subject: &Subject) -> Result<String, AllocError>
     }
 }
 
-// A text of printable ASCII as it is; a question mark for any other, since a terminal might obey it.
-fn plain(text: &str) -> &str
+/// A text of printable ASCII as it is; a question mark for any other, since a terminal might obey it.
+pub fn plain(text: &str) -> &str
     ensures { result.now ≡ plain text.now }
 {
     if is_plain(text) { text } else { "?" }

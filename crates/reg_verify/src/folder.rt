@@ -2,9 +2,10 @@
 ghost use Rattle.std.specs.Prelude.{◌≡◌, IfOk, map, option_map, string_bytes};
 
 use reg_source::bounded::read_up_to;
+use reg_source::regular::{is_longer, open_regular};
 use reg_source::unpublished::Unpublished;
 use std::alloc::{AllocError, Global};
-use std::fs::{Files, open, read_dir};
+use std::fs::{Files, read_dir};
 use std::io::{Error, ErrorKind};
 
 /// How many bytes a file has at most.
@@ -66,7 +67,10 @@ impl<H: Files + AllocGlobal + Clone + Drop> Reads for SystemFolder<'_, H> {
     fn read(&self, alloc: Global, place: &str) -> Result<Option<Vec<u8>>, Unread> {
         let folder = self.path;
         let path = format!(in alloc; "{folder}/{place}")?;
-        match open(self.rt, path.as_str()) {
+        if is_longer(self.rt, path.as_str(), MOST_BYTES) {
+            return Err(Unread::Large);
+        }
+        match open_regular(self.rt, path.as_str()) {
             Ok(mut file) => {
                 let bytes = read_up_to(alloc, MOST_BYTES, &mut file);
                 drop(file);
