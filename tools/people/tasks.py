@@ -286,7 +286,7 @@ def experts_tasks(office, person):
     office.ask('PUT', '/desk/experts/zephyr/x-2/moduya', CLERK)
     person.sign_in(token_of('moduya'))
     person.sees('Requests to review')
-    judge([row[1] for row in person.rows('Requests assigned to me')] == ['x-2', 'x-1'], 'what waits does not come first')
+    person.until(lambda: [row[1] for row in person.rows('Requests assigned to me')] == ['x-2', 'x-1'], 'the list with what waits first')
     with within(person, 3, 'advise on a request'):
         person.click('Give advice: x-2 of zephyr')
         person.choose('Your recommendation', 'Against: I do not recommend approval')
