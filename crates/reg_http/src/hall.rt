@@ -181,7 +181,7 @@ impl<'a, C: Clock, F: Front + Drop> Hall<'a, C, F> {
     // Drops a connection whose answer was not taken whole, or which was refused.
     fn drop_at<L: LineLog>(&mut self, at: usize, log: &mut L) {
         if let Some(Some(socket)) = self.sockets.get_mut(at) {
-            if let Some(line) = socket.line.take() {
+            if let Some(line) = socket.take_line() {
                 log.told(LogLine { sent: None, ..line });
             }
         }
@@ -256,7 +256,7 @@ impl<'a, C: Clock, F: Front + Drop> Hall<'a, C, F> {
             return;
         };
         let readiness = socket.take_in(self.alloc);
-        let asked = socket.bytes.len();
+        let asked = socket.asked();
         let is_settled = match readiness {
             Readiness::Done | Readiness::Broken => true,
             Readiness::Blocked | Readiness::Busy => {
@@ -354,12 +354,22 @@ impl<'a, C: Clock, F: Front + Drop> Hall<'a, C, F> {
         log: &mut L,
     ) {
         if line.sent.is_none() {
+            drop(socket);
             log.told(line);
             self.free(at);
-            return;
+        } else {
+            self.begin_answer(registry, at, socket.with_line(line), log);
         }
-        let mut socket = socket;
-        socket.line = Some(line);
+    }
+
+    // Has an answer sent.
+    fn begin_answer<L: LineLog>(
+        &mut self,
+        registry: &Registry,
+        at: usize,
+        socket: Socket<F::Content>,
+        log: &mut L,
+    ) {
         if let Some(place) = self.sockets.get_mut(at) {
             *place = Some(socket);
         }
@@ -414,7 +424,7 @@ impl<'a, C: Clock, F: Front + Drop> Hall<'a, C, F> {
         let Some(Some(socket)) = self.sockets.get_mut(at) else {
             return;
         };
-        let Some(line) = socket.line.take() else {
+        let Some(line) = socket.take_line() else {
             return;
         };
         let is_refused = match &line.sent {

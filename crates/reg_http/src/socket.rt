@@ -102,6 +102,23 @@ impl<C: Read + Drop> Socket<C> {
         &self.bytes[self.at.min(self.bytes.len())..]
     }
 
+    /// How many bytes have come of the request.
+    pub fn asked(&self) -> usize {
+        self.bytes.len()
+    }
+
+    /// The same, of which this line is told once it has ended.
+    pub fn with_line(self, line: LogLine) -> Socket<C> {
+        let mut socket = self;
+        socket.line = Some(line);
+        socket
+    }
+
+    /// The line that is told of it now that it has ended. It is given once.
+    pub fn take_line(&mut self) -> Option<LogLine> {
+        self.line.take()
+    }
+
     /// Has the socket watched for this; with `again`, what it is ready for is reported once more.
     pub fn watch(
         &mut self,
@@ -110,10 +127,11 @@ impl<C: Read + Drop> Socket<C> {
         interest: Interest,
         again: bool,
     ) -> io::Result<()> {
-        match self.watched {
-            None => registry.register(&mut self.stream, Token(token), interest)?,
-            Some(watched) if watched == interest && !again => {}
-            Some(_) => registry.reregister(&mut self.stream, Token(token), interest)?,
+        let watched = self.watched;
+        if watched.is_none() {
+            registry.register(&mut self.stream, Token(token), interest)?;
+        } else if again || watched != Some(interest) {
+            registry.reregister(&mut self.stream, Token(token), interest)?;
         }
         self.watched = Some(interest);
         Ok(())
