@@ -1,5 +1,5 @@
 //! The tests, by what they ask.
 mod exercise;
-mod http;
 mod jobs;
+mod over_http;
 mod sites;

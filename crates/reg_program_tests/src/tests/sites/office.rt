@@ -1,5 +1,5 @@
 //! The office that is published.
-use crate::tests::http::served::CLERK;
+use crate::tests::over_http::served::CLERK;
 use reg_keeper::keeper::Keeper;
 use reg_office::Office;
 use reg_program::scripts::found_and_run;

@@ -1,7 +1,7 @@
 //! A client over loopback that takes nothing of a long answer, and the next one.
 use crate::tests::exercise::{Exercise, over_lists};
-use crate::tests::http::listening::{all_of, assert_counts, client, free_address};
-use crate::tests::http::served::Served;
+use crate::tests::over_http::listening::{all_of, assert_counts, client, free_address};
+use crate::tests::over_http::served::Served;
 use http::StatusCode;
 use reg_http::crowd::crowd_at;
 use reg_http::dates::ClockDates;

@@ -1,6 +1,6 @@
 //! What is asked over HTTP of an office in lists that is new.
 use crate::tests::exercise::{Exercise, over_lists};
-use crate::tests::http::served::Served;
+use crate::tests::over_http::served::Served;
 use reg_keeper::keeper::Keeper;
 use reg_wire::wire_fault::WireFault;
 use std::io::{Read, Write};

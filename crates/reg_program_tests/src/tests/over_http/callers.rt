@@ -1,6 +1,6 @@
 //! A caller whose bytes are all known, at a date that is known.
 use crate::tests::exercise::{Exercise, over_lists};
-use crate::tests::http::served::Served;
+use crate::tests::over_http::served::Served;
 use reg_http::known::{OneCaller, OneDate};
 use reg_http::listener::Connections;
 use reg_keeper::keeper::Keeper;

@@ -1,5 +1,5 @@
 //! An office that is asked over HTTP.
-use crate::tests::http::messages::request;
+use crate::tests::over_http::messages::request;
 use reg_http::dates::Dates;
 use reg_http::listener::{Connections, serve_listener};
 use reg_http::log::LineLog;

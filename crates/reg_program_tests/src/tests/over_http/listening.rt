@@ -1,6 +1,6 @@
 //! A listener on loopback, and its clients.
 use crate::tests::exercise::{Exercise, over_lists};
-use crate::tests::http::served::Served;
+use crate::tests::over_http::served::Served;
 use reg_http::crowd::crowd_at;
 use reg_http::dates::ClockDates;
 use reg_http::front::NoFront;
