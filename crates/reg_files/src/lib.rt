@@ -10,7 +10,7 @@ pub mod private_disk;
 pub mod targets;
 
 use crate::access::{make_private, warn_of_readers};
-use reg_http::crowd::TcpPorts;
+use reg_http::tcp::TcpPorts;
 use reg_http::dates::Dates;
 use reg_program::console::Console;
 use reg_program::faults::{JobFailure, Undone};
