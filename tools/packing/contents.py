@@ -82,7 +82,7 @@ def add_documents(archive, names, text_of_receipt):
     for name in ('README.md', 'CHANGELOG.md', 'CONTRIBUTING.md'):
         archive.add(f'{below}/{name}', TOP / name)
     archive.add_folder(f'{below}/docs', TOP / 'docs')
-    archive.add_folder(f'{below}/examples', PACKAGING / 'examples')
+    archive.link(f'{below}/examples', '../../reg-cli/examples')
     archive.add(f'{below}/copyright', PACKAGING / 'debian/copyright')
     archive.add_packed(f'{below}/changelog.Debian', filled('changelog', names))
     archive.add(f'{below}/receipt', text_of_receipt)
@@ -92,6 +92,7 @@ def add_documents(archive, names, text_of_receipt):
 def add_office(archive):
     """The desk, and what a system needs to keep an office: units, scripts, the user and the folders."""
     archive.add_folder('usr/share/reg-cli/desk', TOP / 'desk')
+    archive.add_folder('usr/share/reg-cli/examples', PACKAGING / 'examples')
     archive.add('usr/share/reg-cli/desk/openapi.yaml', TOP / 'docs/reference/openapi.yaml')
     archive.add('etc/reg-cli/apply.txt', TOP / 'docs/use/APPLYING.md')
     archive.link('usr/share/reg-cli/desk/apply.txt', '/etc/reg-cli/apply.txt')
