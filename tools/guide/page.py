@@ -15,7 +15,7 @@ time.sleep(0.5)
 start = time.monotonic()
 answer = sent('GET /registries HTTP/1.1|Host: registry.example.org||').recv(12)
 print(answer.decode(), 'at once' if time.monotonic() - start < 3 else 'late')"'''
-KILLS = 'for n in $(seq 7); do systemctl kill --signal=KILL registry; sleep 1.3; done; systemctl is-active registry'
+KILLS = 'for n in $(seq 7); do systemctl kill --signal=KILL registry; sleep 1.3; done; systemctl start registry; systemctl is-active registry'
 DEFINE = f'''printf 'lo,hi,treatment,note\\n0,1,reserved,\\n' | curl -s -X PUT -H "Authorization: Bearer $(cat clerk.token)" \\
   --data-binary @- {OFFICE}/desk/registries/later/1'''
 OLDER = f'''set -e; systemctl stop registry; rm {DATABASE}*; sqlite3 {DATABASE} <office-1.sql; touch {DATABASE}-wal
@@ -31,14 +31,14 @@ LATER = 'sqlite3 later.db <office-1.sql; sqlite3 later.db "UPDATE office SET ver
 JOB = "tail -n 1 /etc/cron.d/{} | cut -d' ' -f7- >/tmp/job; runuser -u {} -- sh /tmp/job"
 DUE = 'Registry,Value,Description,Assignee,Expires,Held'
 DAMAGE = f'''systemctl stop registry; mkdir kept; mv {DATABASE}* kept; systemctl reset-failed registry
-install -m 600 -o registry -g registry /usr/local/bin/reg_cli {DATABASE}; systemctl start registry
+install -m 600 -o registry -g registry /usr/bin/reg_cli {DATABASE}; systemctl start registry
 for n in $(seq 100); do systemctl is-failed -q registry && break; sleep 1; done; sleep 2; grep ^fault mail | sort -u'''
 MENDED = f'rm {DATABASE}*; mv kept/* /var/lib/registry; systemctl reset-failed registry; systemctl start registry'
 # What is run before and after a block, by its heading and its place below that.
 BEFORE = {('As a service', 0): [(CERTIFICATE, '')],
           ('Monitoring', 3): [(FORGET, '')],
           ('A proxy with TLS', 4): [(CADDY, '')], ('Upgrade', 0): [(OLDER, '')]}
-AFTER = {('As a service', 3): [(KILLS, 'active'), (f'curl -s {OFFICE}/registries', '[]')],
+AFTER = {('As a service', 2): [(KILLS, 'active'), (f'curl -s {OFFICE}/registries', '[]')],
          ('Publishing', 1): [(f'{JOB.format("registry", "registry")} | wc -l', '0'),
                              (f'systemctl stop registry; {JOB.format("registry", "registry")}; systemctl start registry', 'fault: read')],
          ('Publishing', 4): [(JOB.format('registry-due', 'registry'), DUE)],
@@ -46,7 +46,7 @@ AFTER = {('As a service', 3): [(KILLS, 'active'), (f'curl -s {OFFICE}/registries
                               ('registry-watch | sort -u', 'The office does not answer., fault: not ours'), (MENDED, '')],
          ('A proxy with TLS', 2): [(SLOW, 'HTTP/1.1 200 at once')], ('A proxy with TLS', 4): [(SLOW, 'HTTP/1.1 200 at once')],
          ('Backups', 0): [(DEFINE, '{"defined":"later"}')], ('Backups', 3): [(f'curl -s {OFFICE}/registries', '[]')],
-         ('Upgrade', 0): [(SAME, '6'), (NEWEST, 'version 3, well kept'), (LATER, 'fault: version 4')], ('Upgrade', 1): [(SAME, '6')]}
+         ('Upgrade', 0): [('systemctl start registry', ''), (SAME, '6'), (NEWEST, 'version 3, well kept'), (LATER, 'fault: version 4')], ('Upgrade', 1): [(SAME, '6')]}
 
 def run_page(system):
     """Does what the page says, block by block."""

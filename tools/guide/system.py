@@ -12,12 +12,11 @@ from lib.office import Tally
 TOP = pathlib.Path(__file__).resolve().parent.parent.parent
 PAGE = TOP / 'docs/use/OPERATING.md'
 KEYS = '/etc/letsencrypt/live/registry.example.org'
-DATABASE, OFFICE = '/var/lib/registry/office.db', 'http://127.0.0.1:8080'
-# Lays a folder of memory over the machine's files, and has systemd be the first process there.
+DATABASE, OFFICE = '/var/lib/registry/office.db', 'http://127.0.0.1:880'
+# Lays a folder of memory over the files of a system, and has systemd be the first process there. The package and an older office are in /root.
 BOOT = r'''set -e; mount -t tmpfs tmpfs "$1"; cd "$1"; mkdir u w m
-mount -t overlay overlay -o lowerdir=/,upperdir=u,workdir=w m; cd m
-cp "$2" root/reg_cli; cp "$3/tools/office-1.sql" root/; cp -r "$3/desk" root/
-mkdir -p root/docs/use root/docs/reference; cp "$3"/docs/use/APPLYING.md root/docs/use/; cp "$3"/docs/reference/openapi.yaml root/docs/reference/
+mount -t overlay overlay -o lowerdir="$4",upperdir=u,workdir=w m; cd m
+cp "$2" "$3/tools/office-1.sql" root/
 mount -t tmpfs tmpfs dev -o mode=755; mkdir dev/pts dev/shm; ln -s pts/ptmx dev/ptmx
 mount -t devpts devpts dev/pts -o newinstance,ptmxmode=666
 for n in null zero full random urandom tty; do touch dev/$n; mount --bind /dev/$n dev/$n; done
@@ -37,15 +36,18 @@ FORGET = 'journalctl -q --rotate; journalctl -q --vacuum-time=1s'
 
 
 class System:
-    """systemd in namespaces of its own. `root` is its folder `/`, and `clock` the variables that give its commands another time."""
+    """systemd in namespaces of its own, over the files of this machine or of another folder, with a package in /root.
 
-    def __init__(self, folder, program):
+    `root` is its folder `/`, and `clock` the variables that give its commands another time.
+    """
+
+    def __init__(self, folder, package, below='/'):
         self.tally, self.clock = Tally(), {}
         mounts = [line.split() for line in pathlib.Path('/proc/self/mounts').read_text().splitlines()]
         self.group = pathlib.Path(next(mount[1] for mount in mounts if mount[2] == 'cgroup2')) / f'try-running-{os.getpid()}'
         self.group.mkdir()
         inside = 'exec unshare --pid --fork --mount --uts --ipc --net --cgroup --propagation private "$@"'
-        self.outer = subprocess.Popen(['sh', '-c', f'echo $$ >{self.group}/cgroup.procs; {inside}', 'sh', 'sh', '-c', BOOT, 'sh', folder, program, TOP],
+        self.outer = subprocess.Popen(['sh', '-c', f'echo $$ >{self.group}/cgroup.procs; {inside}', 'sh', 'sh', '-c', BOOT, 'sh', folder, package, TOP, below],
                                       stdin=subprocess.DEVNULL)
         children = pathlib.Path(f'/proc/{self.outer.pid}/task/{self.outer.pid}/children')
         while self.outer.poll() is None and not children.read_text().split():
@@ -68,8 +70,6 @@ class System:
         pattern = '.*'.join(map(re.escape, wanted.split('..'))) if wanted.startswith('..') or wanted.endswith('..') else re.escape(wanted)
         self.tally.judge(status == 0 and (not wanted or re.fullmatch(pattern, got)),
                          f'FAILED: {command}\n  printed {got!r}, {errors!r}, status {status}, in place of {wanted!r}')
-        if re.search('systemctl (enable --now|start|restart) ', command):
-            self.run(f'for n in $(seq 50); do curl -s {OFFICE}/pool && break; sleep 0.1; done')
         return printed
 
     def is_up(self):
@@ -90,6 +90,12 @@ class System:
             for group in [*sorted((path for path in self.group.rglob('*') if path.is_dir()), reverse=True), self.group]:
                 with contextlib.suppress(OSError):
                     group.rmdir()
+
+
+def packaged(program, folder, *words):
+    """The package that tools/package makes of the program, in a folder."""
+    printed = subprocess.run([TOP / 'tools/package', program, folder, *words], capture_output=True, encoding='utf-8', check=True).stdout
+    return pathlib.Path(printed.split()[0])
 
 
 def blocks():
