@@ -13,10 +13,12 @@ TOP = pathlib.Path(__file__).resolve().parent.parent.parent
 PAGE = TOP / 'docs/use/OPERATING.md'
 KEYS = '/etc/letsencrypt/live/registry.example.org'
 DATABASE, OFFICE = '/var/lib/registry/office.db', 'http://127.0.0.1:880'
+# Where mail goes, and the timers. They are started, but not waited for.
+MAIL, TIMERS = '/var/mail/trial', ['registry-publish', 'registry-watch', 'registry-due']
 # Lays a folder of memory over the files of a system, and has systemd be the first process there. The package and an older office are in /root.
 BOOT = r'''set -e; mount -t tmpfs tmpfs "$1"; cd "$1"; mkdir u w m
 mount -t overlay overlay -o lowerdir="$4",upperdir=u,workdir=w m; cd m
-cp "$2" "$3/tools/office-1.sql" root/
+cp "$2" "$3/tools/office-1.sql" "$3/tools/guide/odd.py" root/
 mount -t tmpfs tmpfs dev -o mode=755; mkdir dev/pts dev/shm; ln -s pts/ptmx dev/ptmx
 mount -t devpts devpts dev/pts -o newinstance,ptmxmode=666
 for n in null zero full random urandom tty; do touch dev/$n; mount --bind /dev/$n dev/$n; done
@@ -28,9 +30,13 @@ exec setpriv --bounding-set -sys_time,-sys_module,-sys_rawio,-syslog --inh-caps 
   env -i container=other PATH=/usr/sbin:/usr/bin:/sbin:/bin /lib/systemd/systemd --system --unit=basic.target'''
 KEY = f'''openssl req -x509 -newkey rsa:2048 -nodes -days 90 -subj /CN=registry.example.org -addext subjectAltName=DNS:registry.example.org \\
   -keyout {KEYS}/privkey.pem -out {KEYS}/fullchain.pem 2>&1; chmod 644 {KEYS}/privkey.pem'''
-CERTIFICATE = f'''set -e; echo 127.0.0.1 registry.example.org >>/etc/hosts; mkdir -p {KEYS}; rm -f /etc/nginx/sites-enabled/*
+CERTIFICATE = f'''set -e; echo 127.0.0.1 registry.example.org >>/etc/hosts; mkdir -p {KEYS}
 {KEY}
-printf '#!/bin/sh\\ncat >>/root/mail\\n' >/usr/local/bin/mail; chmod 755 /usr/local/bin/mail'''
+touch {MAIL}; chmod 666 {MAIL}; printf '#!/bin/sh\ncat >>{MAIL}\n' >/usr/local/bin/mail; chmod 755 /usr/local/bin/mail
+for name in {' '.join(TIMERS)}; do
+    mkdir -p /etc/systemd/system/$name.timer.d
+    printf '[Timer]\nOnCalendar=\nOnCalendar=2999-01-01\n' >/etc/systemd/system/$name.timer.d/trial.conf
+done'''
 # What the kills left in the journal is not to be found.
 FORGET = 'journalctl -q --rotate; journalctl -q --vacuum-time=1s'
 
@@ -99,11 +105,7 @@ def packaged(program, folder, *words):
 
 
 def blocks():
-    """Of each block of the page its place, and its commands with what each has to print. A block of another kind is written to its path."""
+    """Of each block of commands of the page its heading and its place below that, and its commands with what each has to print."""
     for part in PAGE.read_text().split('\n## ')[1:]:
-        for place, block in enumerate(re.finditer(r'^```(\w+)\n(.*?)^```', part, re.M | re.S)):
-            path = (re.findall(r'`(/(?:etc|usr/local/sbin)/[^`]+)`', part[:block.start()]) or [''])[-1]
-            kind, text = block.groups()
-            written = [(f"cat >{path} <<'END'\n{text}END", '')]
-            commands = [line.partition(' # ')[::2] for line in text.splitlines()]
-            yield (part.split('\n')[0], place), commands if kind == 'sh' else written
+        for place, block in enumerate(re.findall(r'^```sh\n(.*?)^```', part, re.M | re.S)):
+            yield (part.split('\n')[0], place), [line.partition(' # ')[::2] for line in block.splitlines()]
