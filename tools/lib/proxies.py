@@ -24,6 +24,11 @@ def changed(text, changes):
     return text
 
 
+def parted(text, changes):
+    """Those of the changes that are about a text, and the others."""
+    return {old: new for old, new in changes.items() if old in text}, {old: new for old, new in changes.items() if old not in text}
+
+
 def own_places(folder, office):
     """What the files of both proxies name, and what stands for it here."""
     return {'127.0.0.1:880': f'127.0.0.1:{office}', '/srv/www/registers': f'{folder}/{SITE}', '/usr/share/reg-cli/desk': f'{folder}/{DESK}'}
@@ -36,11 +41,13 @@ def nginx(folder, office, own, changes):
         **own_places(folder, office), '    listen [::]:443 ssl default_server;\n': '', 'listen 443 ': f'listen 127.0.0.1:{own} ',
         'registry.example.org;': 'localhost;', f'{KEYS}/': f'{folder}/', f'access_log {syslog}': f'access_log {folder}/{LOG}',
         f'error_log {syslog}': f'error_log {folder}/error.log'})
-    (folder / 'registry.conf').write_text(changed(server, changes))
+    own_changes, others = parted(server, changes)
+    (folder / 'registry.conf').write_text(changed(server, own_changes))
     [line] = re.findall(r"^sed -i '(.*)' /etc/nginx/nginx.conf", (TOP / 'docs/use/OPERATING.md').read_text(), re.M)
     text = subprocess.run(['sed', line, '/etc/nginx/nginx.conf'], capture_output=True, text=True, check=True).stdout
     kept = ''.join(f'{kind}_temp_path {folder}/{KEPT}/{kind}; ' for kind in ('client_body', 'proxy', 'fastcgi', 'uwsgi', 'scgi'))
     (folder / 'nginx.conf').write_text(changed(text, {
+        **others, 'worker_processes auto;': 'worker_processes 4;',
         '/run/nginx.pid': f'{folder}/pid', '/var/log/nginx/error.log': f'{folder}/error.log', '/var/log/nginx/access.log': f'{folder}/other.log',
         'include /etc/nginx/conf.d/*.conf;': f'{kept}\n', 'include /etc/nginx/sites-enabled/*;': f'include {folder}/registry.conf;'}))
     return ['nginx', '-e', folder / 'error.log', '-p', folder, '-c', folder / 'nginx.conf', '-g', 'daemon off;']
