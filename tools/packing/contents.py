@@ -1,4 +1,4 @@
-"""What the package has: the program with what it needs from the system, the desk, documents, units, and the receipt."""
+"""What the package has: the program with what it needs from the system, the desk, documents, units, the demonstration, and the receipt."""
 import hashlib
 import pathlib
 import re
@@ -103,6 +103,14 @@ def add_office(archive):
     archive.add('usr/lib/tmpfiles.d/reg-cli.conf', PACKAGING / 'system/tmpfiles.conf')
 
 
+def add_demonstration(archive):
+    """The demonstration with its data, below a folder that looks as the tree does."""
+    for name in ('demo', 'lib/office.py'):
+        archive.add(f'usr/share/reg-cli/tools/{name}', TOP / 'tools' / name, 0o755 if name == 'demo' else 0o644)
+    archive.add_folder('usr/share/reg-cli/tools/demonstration', TOP / 'tools/demonstration')
+    archive.link('usr/bin/reg_cli-demo', '../share/reg-cli/tools/demo')
+
+
 def filled(name, names):
     """A file of packaging/debian with its words in @ filled in."""
     return re.sub('@([A-Z]+)@', lambda word: names[word[1].lower()], (PACKAGING / 'debian' / name).read_text())
@@ -117,6 +125,7 @@ def package_of(program, revision, moment):
     add_program(archive, program, names)
     add_documents(archive, names, receipt(program, line, least))
     add_office(archive)
+    add_demonstration(archive)
     names['size'] = str(archive.kilobytes())
     archive.control['control'] = (filled('control', names), 0o644)
     for name in ('preinst', 'postinst', 'prerm', 'postrm'):
