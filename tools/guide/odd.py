@@ -44,12 +44,12 @@ def heads(path):
     yield whole(line) + whole(line.replace('HTTP/1.1', 'HTTP/9'))
 
 
-def send(data, port, by_tls):
+def send(data, port, by_tls, name=NAME):
     """Sends the bytes on a connection of its own, and waits a second at most for what is answered."""
-    with contextlib.suppress(OSError), socket.create_connection((NAME, port), timeout=1) as plain:
+    with contextlib.suppress(OSError), socket.create_connection((name, port), timeout=1) as plain:
         tls = ssl.SSLContext(ssl.PROTOCOL_TLS_CLIENT)
         tls.check_hostname, tls.verify_mode = False, ssl.CERT_NONE
-        with (tls.wrap_socket(plain, server_hostname=NAME) if by_tls else contextlib.nullcontext(plain)) as peer:
+        with (tls.wrap_socket(plain, server_hostname=name) if by_tls else contextlib.nullcontext(plain)) as peer:
             peer.sendall(data)
             peer.recv(65536)
 
