@@ -34,7 +34,22 @@ PACKED = '''for path in /site/changes.csv /registries/codes /requests; do
     curl -s -o /dev/null -D - -H 'Accept-Encoding: gzip' https://registry.example.org$path | grep -ic '^content-encoding: gzip'; done; true'''
 BY_SIX = '''curl -s -k -o /dev/null -w '%{http_code}\\n' 'https://[::1]/registries'; curl -s -o /dev/null -w '%{http_code}\\n' 'http://[::1]/' '''
 
+# An address of IPv6 counts by its network: a second one of the same is refused for what the first asked, and one of another is not.
+NETWORKS = '''for address in 2001:db8::1 2001:db8::2 2001:db8:0:1::1; do ip -6 addr add $address/128 dev lo nodad; done
+curl -s -k -o /dev/null --interface 2001:db8::1 'https://[::1]/registries#[1-300]'
+for address in 2001:db8::2 2001:db8:0:1::1; do
+    curl -s -k -o /dev/null -w '%{http_code}\\n' --interface $address 'https://[::1]/registries#[1-20]' | sort -u | tail -n 1
+done'''
+# Who names another host is sent nowhere else.
+HOSTS = '''for address in https://registry.example.org/ http://registry.example.org/x; do
+    curl -s -o /dev/null -D - -H 'Host: evil.example' $address | tr -d '\\r' | grep ^Location:; done
+curl -s -o /dev/null -D - https://registry.example.org/site/ | grep -c '^Strict-Transport-Security: max-age=31536000' '''
+
 # ---- The service, and the office of the version before
+
+# While the service is stopped nobody without rights can listen in its place, or change the page into which tokens are typed.
+PLACE = '''systemctl stop registry; runuser -u nobody -- python3 -c 'import socket; socket.create_server(("127.0.0.1", 880))' 2>&1 | tail -n 1
+systemctl start registry; runuser -u registry -- find -L /usr/share/reg-cli/desk -writable | wc -l'''
 
 KILLS = 'for n in $(seq 7); do systemctl kill --signal=KILL registry; sleep 1.3; done; systemctl start registry; systemctl is-active registry'
 OLDER = f'''set -e; systemctl stop registry; rm {DATABASE}*; sqlite3 {DATABASE} <office-1.sql; touch {DATABASE}-wal
@@ -97,9 +112,9 @@ BEFORE = {('As a service', 0): [(CERTIFICATE, '')],
           ('Publishing', 3): [with_codes],
           ('Monitoring', 1): [(TIME, ''), (FORGET, '')],
           ('Upgrade', 0): [(OLDER, '')]}
-AFTER = {('As a service', 2): [(KILLS, 'active'), (f'curl -s {OFFICE}/registries', '[]')],
+AFTER = {('As a service', 2): [(KILLS, 'active'), (f'curl -s {OFFICE}/registries', '[]'), (PLACE, 'PermissionError: [Errno 13] Permission denied, 0')],
          ('A proxy with TLS', 1): [(SLOW, 'HTTP/1.1 200 at once'), (ODD, '132, 401, 429, 502'), (FOUND, '0, 0'), (ROOM, 'tmpfs 262144'), (BY_SIX, '200, 301'),
-                                   (SENTENCE, '1')],
+                                   (SENTENCE, '1'), (NETWORKS, '429, 200'), (HOSTS, 'Location: /site/, Location: https://registry.example.org/x, 1')],
          ('A proxy with TLS', 3): [(SLOW, 'HTTP/1.1 200 at once'), (ODD, '132, 401, 502'), (FOUND, '0, 0')],
          ('Publishing', 2): [(MAILED.format('registry-due'), DUE)],
          ('Publishing', 3): [careful_mirror, (PACKED, '1, 1, 0')],
