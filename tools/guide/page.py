@@ -1,7 +1,7 @@
 """The page from its first block to its last, and what is done between the blocks."""
 from guide.losses import DEFINE, losses
 from guide.odd import WORD
-from guide.system import CERTIFICATE, DATABASE, FORGET, KEYS, MAIL, OFFICE, TOP, blocks
+from guide.system import CERTIFICATE, DATABASE, FORGET, KEYS, MAIL, OFFICE, blocks
 
 CADDY = f"systemctl stop nginx; sed -i 's#^registry.example.org {{#&\\n    tls {KEYS}/fullchain.pem {KEYS}/privkey.pem#' /etc/caddy/Caddyfile"
 # One client sends half of a body and waits, and another asks.
@@ -29,7 +29,7 @@ systemctl stop registry; curl -s -o /dev/null -w '%{{http_code}}\\n' {SECRET}; s
 FOUND = f'''journalctl -q --no-pager -o export | grep -ac {WORD}
 grep -rla {WORD} /var/log /var/lib/nginx /var/lib/caddy /srv /tmp | grep -v '^/var/log/journal' | wc -l'''
 ROOM = 'for process in $(pidof nginx); do df --output=fstype,size /proc/$process/root/var/lib/nginx | tail -n 1; done | tr -s " " | sort -u'
-SENTENCE = f'grep -c "Clerks can use the desk only from the office.\'s network" {TOP}/desk/errors.js'
+SENTENCE = 'grep -c "Clerks can use the desk only from the office.\'s network" /usr/share/reg-cli/desk/errors.js'
 PACKED = '''for path in /site/changes.csv /registries/codes /requests; do
     curl -s -o /dev/null -D - -H 'Accept-Encoding: gzip' https://registry.example.org$path | grep -ic '^content-encoding: gzip'; done; true'''
 BY_SIX = '''curl -s -k -o /dev/null -w '%{http_code}\\n' 'https://[::1]/registries'; curl -s -o /dev/null -w '%{http_code}\\n' 'http://[::1]/' '''

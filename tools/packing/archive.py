@@ -23,10 +23,10 @@ class Archive:
         """Puts a text there packed by gzip."""
         self.add(f'{path}.gz', gzip.compress(content.encode(), 9, mtime=0))
 
-    def add_folder(self, path, folder, mode=0o644):
-        """Puts the files of a folder there."""
+    def add_folder(self, path, folder):
+        """Puts the files of a folder there. Those that can be run stay so."""
         for file in sorted(file for file in folder.rglob('*') if file.is_file() and '__pycache__' not in file.parts):
-            self.add(f'{path}/{file.relative_to(folder)}', file, mode)
+            self.add(f'{path}/{file.relative_to(folder)}', file, 0o755 if file.stat().st_mode & 0o100 else 0o644)
 
     def link(self, path, target):
         self.links[path] = target

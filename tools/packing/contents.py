@@ -98,7 +98,7 @@ def add_office(archive):
     archive.link('usr/share/reg-cli/desk/apply.txt', '/etc/reg-cli/apply.txt')
     archive.add('etc/reg-cli/office.conf', PACKAGING / 'system/office.conf')
     archive.add_folder('lib/systemd/system', PACKAGING / 'units')
-    archive.add_folder('usr/lib/reg-cli', PACKAGING / 'scripts', 0o755)
+    archive.add_folder('usr/lib/reg-cli', PACKAGING / 'scripts')
     archive.add('usr/lib/sysusers.d/reg-cli.conf', PACKAGING / 'system/sysusers.conf')
     archive.add('usr/lib/tmpfiles.d/reg-cli.conf', PACKAGING / 'system/tmpfiles.conf')
 
