@@ -18,7 +18,7 @@ MEND = f'cp -p kept/* /var/lib/registry/; rm -r kept'
 RIGHTS = "stat -c '%a %U %n' /var/lib/registry /var/backups/registry /srv/www/registers /usr/share/reg-cli/desk /etc/reg-cli/apply.txt"
 COMPLETED = '''bash -c '. /usr/share/bash-completion/completions/reg_cli; for line in "reg_cli ch" "reg_cli serve --p"; do
 COMP_WORDS=($line); COMP_CWORD=$((${#COMP_WORDS[@]} - 1)); _reg_cli; echo ${COMPREPLY[@]}; done' '''
-MANUAL = "zcat /usr/share/man/man1/reg_cli.1.gz | grep '^.SS ' | cut -c5- | sort | tr '\\n' ' '"
+MANUAL = "zcat /usr/share/man/man1/reg_cli.1.gz | grep '^.SS ' | cut -c5- | sort | xargs"
 RECEIPT = 'grep -c "^sha256   $(sha256sum </usr/lib/reg-cli/program | cut -c-64)$" /usr/share/doc/reg-cli/receipt'
 # What the demonstration prints until it can be looked at, whether its desk is there, and that it ends.
 DEMONSTRATION = '''reg_cli-demo >shown & demo=$!; for n in $(seq 200); do grep -q Ctrl-C shown && break; sleep 0.1; done
