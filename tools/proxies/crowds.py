@@ -21,7 +21,7 @@ TLS = ssl.SSLContext(ssl.PROTOCOL_TLS_CLIENT)
 TLS.check_hostname, TLS.verify_mode = False, ssl.CERT_NONE
 HEADS, READERS = 3200, 200
 # The seconds after which a proxy has given back the connections, and the most that it may hold meanwhile: seconds, and megabytes.
-FREE, MOST = 80, {'wait': 1, 'memory': 250, 'disk': 256}
+FREE, MOST = 80, {'wait': 1, 'memory': 250, 'disk': 128}
 # Without these lines a crowd does harm: what does it, what is replaced in which file, and what is more than it may be.
 BUFFERED = '        buffer_requests\n', '        buffer_requests\n        buffer_responses\n'
 HARMS = [(nginx, 'heads', ('worker_connections 8192', 'worker_connections 768'), 'wait'),
