@@ -12,12 +12,13 @@ from lib.office import Tally
 TOP = pathlib.Path(__file__).resolve().parent.parent.parent
 PAGE = TOP / 'docs/use/OPERATING.md'
 KEYS = '/etc/letsencrypt/live/registry.example.org'
-DATABASE, OFFICE = '/var/lib/registry/office.db', 'http://127.0.0.1:8080'
-# Lays a folder of memory over the machine's files, and has systemd be the first process there.
+DATABASE, OFFICE = '/var/lib/registry/office.db', 'http://127.0.0.1:880'
+# Where mail goes, and the timers. They are started, but not waited for.
+MAIL, TIMERS = '/var/mail/trial', ['registry-publish', 'registry-watch', 'registry-due']
+# Lays a folder of memory over the files of a system, and has systemd be the first process there. The package and an older office are in /root.
 BOOT = r'''set -e; mount -t tmpfs tmpfs "$1"; cd "$1"; mkdir u w m
-mount -t overlay overlay -o lowerdir=/,upperdir=u,workdir=w m; cd m
-cp "$2" root/reg_cli; cp "$3/tools/office-1.sql" root/; cp -r "$3/desk" root/
-mkdir -p root/docs/use root/docs/reference; cp "$3"/docs/use/APPLYING.md root/docs/use/; cp "$3"/docs/reference/openapi.yaml root/docs/reference/
+mount -t overlay overlay -o lowerdir="$4",upperdir=u,workdir=w m; cd m
+cp "$2" "$3/tools/office-1.sql" "$3/tools/guide/odd.py" root/
 mount -t tmpfs tmpfs dev -o mode=755; mkdir dev/pts dev/shm; ln -s pts/ptmx dev/ptmx
 mount -t devpts devpts dev/pts -o newinstance,ptmxmode=666
 for n in null zero full random urandom tty; do touch dev/$n; mount --bind /dev/$n dev/$n; done
@@ -29,23 +30,30 @@ exec setpriv --bounding-set -sys_time,-sys_module,-sys_rawio,-syslog --inh-caps 
   env -i container=other PATH=/usr/sbin:/usr/bin:/sbin:/bin /lib/systemd/systemd --system --unit=basic.target'''
 KEY = f'''openssl req -x509 -newkey rsa:2048 -nodes -days 90 -subj /CN=registry.example.org -addext subjectAltName=DNS:registry.example.org \\
   -keyout {KEYS}/privkey.pem -out {KEYS}/fullchain.pem 2>&1; chmod 644 {KEYS}/privkey.pem'''
-CERTIFICATE = f'''set -e; echo 127.0.0.1 registry.example.org >>/etc/hosts; mkdir -p {KEYS}; rm -f /etc/nginx/sites-enabled/*
+CERTIFICATE = f'''set -e; echo 127.0.0.1 registry.example.org >>/etc/hosts; mkdir -p {KEYS}
 {KEY}
-printf '#!/bin/sh\\ncat >>/root/mail\\n' >/usr/local/bin/mail; chmod 755 /usr/local/bin/mail'''
+touch {MAIL}; chmod 666 {MAIL}; printf '#!/bin/sh\ncat >>{MAIL}\n' >/usr/local/bin/mail; chmod 755 /usr/local/bin/mail
+for name in {' '.join(TIMERS)}; do
+    mkdir -p /etc/systemd/system/$name.timer.d
+    printf '[Timer]\nOnCalendar=\nOnCalendar=2999-01-01\n' >/etc/systemd/system/$name.timer.d/trial.conf
+done'''
 # What the kills left in the journal is not to be found.
 FORGET = 'journalctl -q --rotate; journalctl -q --vacuum-time=1s'
 
 
 class System:
-    """systemd in namespaces of its own. `root` is its folder `/`, and `clock` the variables that give its commands another time."""
+    """systemd in namespaces of its own, over the files of this machine or of another folder, with a package in /root.
 
-    def __init__(self, folder, program):
+    `root` is its folder `/`, and `clock` the variables that give its commands another time.
+    """
+
+    def __init__(self, folder, package, below='/'):
         self.tally, self.clock = Tally(), {}
         mounts = [line.split() for line in pathlib.Path('/proc/self/mounts').read_text().splitlines()]
         self.group = pathlib.Path(next(mount[1] for mount in mounts if mount[2] == 'cgroup2')) / f'try-running-{os.getpid()}'
         self.group.mkdir()
         inside = 'exec unshare --pid --fork --mount --uts --ipc --net --cgroup --propagation private "$@"'
-        self.outer = subprocess.Popen(['sh', '-c', f'echo $$ >{self.group}/cgroup.procs; {inside}', 'sh', 'sh', '-c', BOOT, 'sh', folder, program, TOP],
+        self.outer = subprocess.Popen(['sh', '-c', f'echo $$ >{self.group}/cgroup.procs; {inside}', 'sh', 'sh', '-c', BOOT, 'sh', folder, package, TOP, below],
                                       stdin=subprocess.DEVNULL)
         children = pathlib.Path(f'/proc/{self.outer.pid}/task/{self.outer.pid}/children')
         while self.outer.poll() is None and not children.read_text().split():
@@ -68,8 +76,6 @@ class System:
         pattern = '.*'.join(map(re.escape, wanted.split('..'))) if wanted.startswith('..') or wanted.endswith('..') else re.escape(wanted)
         self.tally.judge(status == 0 and (not wanted or re.fullmatch(pattern, got)),
                          f'FAILED: {command}\n  printed {got!r}, {errors!r}, status {status}, in place of {wanted!r}')
-        if re.search('systemctl (enable --now|start|restart) ', command):
-            self.run(f'for n in $(seq 50); do curl -s {OFFICE}/pool && break; sleep 0.1; done')
         return printed
 
     def is_up(self):
@@ -92,12 +98,14 @@ class System:
                     group.rmdir()
 
 
+def packaged(program, folder, *words):
+    """The package that tools/package makes of the program, in a folder."""
+    printed = subprocess.run([TOP / 'tools/package', program, folder, *words], stdout=subprocess.PIPE, encoding='utf-8', check=True).stdout
+    return pathlib.Path(printed.split()[0])
+
+
 def blocks():
-    """Of each block of the page its place, and its commands with what each has to print. A block of another kind is written to its path."""
+    """Of each block of commands of the page its heading and its place below that, and its commands with what each has to print."""
     for part in PAGE.read_text().split('\n## ')[1:]:
-        for place, block in enumerate(re.finditer(r'^```(\w+)\n(.*?)^```', part, re.M | re.S)):
-            path = (re.findall(r'`(/(?:etc|usr/local/sbin)/[^`]+)`', part[:block.start()]) or [''])[-1]
-            kind, text = block.groups()
-            written = [(f"cat >{path} <<'END'\n{text}END", '')]
-            commands = [line.partition(' # ')[::2] for line in text.splitlines()]
-            yield (part.split('\n')[0], place), commands if kind == 'sh' else written
+        for place, block in enumerate(re.findall(r'^```sh\n(.*?)^```', part, re.M | re.S)):
+            yield (part.split('\n')[0], place), [line.partition(' # ')[::2] for line in block.splitlines()]

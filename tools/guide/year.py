@@ -11,20 +11,21 @@ import subprocess
 import time
 
 from guide.books import DAYS, EVE, FIRST, HOLDERS, UPGRADE, Books, day_of
-from guide.page import BEFORE
-from guide.system import DATABASE, KEY, OFFICE, PAGE, blocks
+from guide.page import BEFORE, take
+from guide.system import DATABASE, KEY, MAIL, OFFICE, PAGE, TIMERS, TOP, blocks
 from sites import history
 from sites.running import contents
 from sites.steps import RANGES
 
 PUBLIC, SITE, COPIES = 'https://registry.example.org', 'srv/www/registers', 'var/backups/registry'
+# Where files have the time of the clock, since the machine gives them its own.
+DATED = [SITE, 'var/lib/registry/site']
 # Each process reads the clock's difference from that of the machine whenever it asks for the time. The journal keeps the machine's time.
 CLOCK = {'LD_PRELOAD': '/usr/$LIB/faketime/libfaketime.so.1', 'FAKETIME_TIMESTAMP_FILE': '/etc/clock', 'FAKETIME_NO_CACHE': '1',
          'FAKETIME_DONT_FAKE_MONOTONIC': '1', 'NO_FAKE_STAT': '1', 'FAKETIME_SKIP_CMDS': 'journalctl'}
 # The blocks that set up an office, by their headings.
-SETUP = {'As a service': range(9), 'A proxy with TLS': [0, 1, 2], 'Publishing': range(9), 'The desk in the browser': range(9),
-         'Monitoring': range(9), 'Backups': [0, 1]}
-# When the lines of cron are run that are due then: the second on the first day of a month, and people send their requests before the last.
+SETUP = {'As a service': range(9), 'A proxy with TLS': [0, 1], 'Publishing': range(3), 'The desk in the browser': range(9), 'Monitoring': range(9)}
+# When the jobs of timers are run that are due then: the second on the first day of a month, and people send their requests before the last.
 MORNING, EVENING = ['04:30', '06:00'], '20:20'
 # The office's own file as the version before left it. It had no agents.
 OLDER = f'runuser -u registry -- sqlite3 {DATABASE} "DROP TABLE agents; UPDATE office SET version = 2"'
@@ -34,8 +35,8 @@ REACHED = re.search(r"`(curl [^`]*cannot be reached[^`]*)`", PAGE.read_text())[1
 # The clients here trust the new certificate alone, so they wait until nginx has it.
 RENEW = f'{KEY}; {HOOK}; for n in $(seq 50); do curl -sf -o /dev/null {PUBLIC}/registries && break; sleep 0.2; done'
 PROCESS = 'systemctl show -p MainPID --value registry'
-# How many days before today have a copy.
-KEPT = 32
+# What each timer of the package says of itself.
+DUE = {name: re.search('OnCalendar=(.*)', (TOP / f'packaging/units/{name}.timer').read_text())[1] for name in TIMERS}
 
 
 def commands(heading, place):
@@ -50,10 +51,21 @@ def command(*parts):
     return found
 
 
-def is_due(fields, moment):
-    """Whether a line of cron with these five fields is due at a moment."""
-    now = [moment.minute, moment.hour, moment.day, moment.month, moment.isoweekday() % 7]
-    return all(field == '*' or (number % int(field[2:]) == 0 if field.startswith('*/') else number == int(field)) for field, number in zip(fields, now))
+def is_due(calendar, moment):
+    """Whether a timer is due at a moment: every some minutes, or on the first day of each month."""
+    every, first = re.fullmatch(r'\*:0/(\d+)', calendar), re.fullmatch(r'\*-\*-01 (\d\d:\d\d)', calendar)
+    return moment.minute % int(every[1]) == 0 if every else f'{moment:%d %H:%M}' == f'01 {first[1]}'
+
+
+def kept(moments, now):
+    """Of the moments of copies, newest first, those that are kept: all of three hours, the last of each hour of a day and of each day of a month."""
+    seen = set()
+    for moment in moments:
+        ago = now - moment
+        form = '%c' if ago <= datetime.timedelta(hours=3) else '%F %H' if ago <= datetime.timedelta(days=1) else '%F'
+        if moment.date() >= now.date() - datetime.timedelta(31) and moment.strftime(form) not in seen:
+            seen.add(moment.strftime(form))
+            yield moment
 
 
 def rows_of(text):
@@ -61,11 +73,11 @@ def rows_of(text):
 
 
 class Year:
-    """The office, its books, the processes that served it with their first days, and how often each line of cron was run."""
+    """The office, its books, the processes that served it with their first days, and how often the job of each timer was run."""
 
     def __init__(self, system):
         self.system, self.root, self.judge = system, system.root, system.tally.judge
-        self.books, self.processes, self.digest, self.moment = Books(), [], '', None
+        self.books, self.processes, self.digest, self.moment, self.copied = Books(), [], '', None, []
         self.ran = collections.Counter()
 
     # ---- The clock
@@ -81,8 +93,8 @@ class Year:
         """Runs a command, and gives the files that it wrote the time of the clock: the machine gave them its own."""
         began = time.time_ns()
         printed = self.system.expect(line, wanted)
-        for top in (self.root / SITE, self.root / COPIES):
-            for path in top.rglob('*'):
+        for top in DATED:
+            for path in (self.root / top).rglob('*'):
                 if path.lstat().st_ctime_ns >= began:
                     os.utime(path, (self.moment.timestamp(),) * 2, follow_symlinks=False)
         return printed
@@ -96,9 +108,10 @@ class Year:
 
     def set_up(self):
         """Sets up the office by the page, on the last day of the year before."""
-        unit = self.root / 'etc/systemd/system/registry.service.d/clock.conf'
-        unit.parent.mkdir()
-        unit.write_text('[Service]\n' + ''.join(f'Environment={name}={value}\n' for name, value in CLOCK.items()))
+        for name in ('registry', *TIMERS):
+            unit = self.root / f'etc/systemd/system/{name}.service.d/clock.conf'
+            unit.parent.mkdir()
+            unit.write_text('[Service]\n' + ''.join(f'Environment={name}={value}\n' for name, value in CLOCK.items()))
         self.system.clock = CLOCK
         self.set_clock(EVE, '09:00')
         for place, block in blocks():
@@ -106,8 +119,9 @@ class Year:
                 for account in (*HOLDERS, 'xan'):
                     self.grant(account, 'expert' if account == 'xan' else 'applicant')
             elif place[1] in SETUP.get(place[0], ()):
-                for line, wanted in (*BEFORE.get(place, ()), *block):
-                    self.expect(line, wanted)
+                for step in (*BEFORE.get(place, ()), *block):
+                    take(self, step)
+        self.copied = [self.moment]
         self.bring_in()
 
     def bring_in(self):
@@ -139,7 +153,7 @@ class Year:
 
     def listed_tokens(self, account):
         """The capabilities of an account, as clerks see them."""
-        told = json.loads(self.expect(command('-H @clerk.head http://127.0.0.1:8080/desk/tokens')))
+        told = json.loads(self.expect(command('-H @clerk.head http://127.0.0.1:880/desk/tokens')))
         return [row for row in told if row['account'] == account]
 
     def judge_token(self, account, status, head=''):
@@ -163,12 +177,12 @@ class Year:
         return found
 
     def take_digits(self, account, listed):
-        line, found = command('-X DELETE http://127.0.0.1:8080/desk/tokens/'), self.valid_one(listed)
+        line, found = command('-X DELETE http://127.0.0.1:880/desk/tokens/'), self.valid_one(listed)
         told = self.expect(re.sub('[0-9a-f]{12}$', found['digest'], line))
         self.judge_same(line, json.loads(told), [found])
 
     def take_account(self, account, listed):
-        line = command('-X DELETE http://127.0.0.1:8080/desk/accounts/')
+        line = command('-X DELETE http://127.0.0.1:880/desk/accounts/')
         told = self.expect(line.replace('alice', account))
         self.judge_same(line, json.loads(told), listed)
 
@@ -195,14 +209,14 @@ class Year:
         self.judge_token('clerk', '401', 'old')
         self.judge_token('clerk', '200')
         self.expect('rm old.head')
-        line = command('-X DELETE http://127.0.0.1:8080/desk/accounts/')
+        line = command('-X DELETE http://127.0.0.1:880/desk/accounts/')
         self.expect(line.replace('alice', 'clerk'), '{"error":"own"}')
 
     # ---- A day
 
     def go(self):
         self.set_clock(EVE, EVENING)
-        self.run_cron()
+        self.run_timers()
         for number in range(DAYS):
             failed = self.system.tally.failed
             try:
@@ -232,24 +246,24 @@ class Year:
     def step(self, text):
         """What is due at a time is run, and the office answers: the probe of the page prints nothing."""
         self.set_clock(self.books.day, text)
-        self.run_cron()
+        self.run_timers()
         status, process = self.expect(f"{REACHED}; curl -s -o /dev/null -w '%{{http_code}}\\n' {PUBLIC}/registries/bits; {PROCESS}").split('\n')[:2]
         self.judge_same('a probe', status, '200')
         if [process] != [last for _, last in self.processes[-1:]]:
             self.processes.append((self.books.day, process))
 
-    def run_cron(self):
-        """Runs the lines of cron that are due, each as its user. They print nothing, except the list of the first of a month."""
-        for path in sorted((self.root / 'etc/cron.d').glob('registry*')):
-            for fields, user, line in re.findall(r'^((?:\S+ ){5})(\S+) (.*)$', path.read_text(), re.M):
-                if is_due(fields.split(), self.moment):
-                    own = line.replace('\\%', '%')
-                    printed = self.expect(f'cd /; runuser -u {user} -- sh -c {shlex.quote(own)}')
-                    self.ran[line] += 1
-                    if ' due ' in line:
-                        self.judge_same('the mail', rows_of(printed), self.books.due(60))
-                    else:
-                        self.judge_same(line, printed, '')
+    def run_timers(self):
+        """Runs the jobs of the timers that are due. They mail nothing, except the list of the first of a month."""
+        for name, calendar in DUE.items():
+            if is_due(calendar, self.moment):
+                mailed = self.expect(f'truncate -s 0 {MAIL}; systemctl start {name}; cat {MAIL}')
+                self.ran[name] += 1
+                if name == 'registry-due':
+                    self.judge_same('the mail', rows_of(mailed), self.books.due(60))
+                else:
+                    self.judge_same(name, mailed, '')
+                if name == 'registry-publish':
+                    self.copied = [*kept([self.moment, *self.copied], self.moment)]
 
     def send(self, lines):
         """Has people send requests by curl, applicants and experts through the proxy, each with their own token."""
@@ -276,15 +290,14 @@ class Year:
 
     def judge_copy(self):
         """The copy of the day is well kept and has what the office counts. Copies of a month are there."""
-        checked = self.expect(command('reg_cli check /var/backups'), 'version 3, well kept, ..')
+        copies = sorted(path.name for path in (self.root / COPIES).glob('2*'))
+        checked = self.expect(f'reg_cli check /{COPIES}/{copies[-1]}/office.db', 'version 3, well kept, ..')
         counted = {word: int(count) for word, count in re.findall(r'^(\w+) (\d+)$', checked, re.M)}
         told = json.loads(self.expect(command('/desk/counts')))
         self.judge_same('counts', told, {word: count for word, count in counted.items() if word in told})
         self.judge_same('pending', self.expect(command('/desk/pending')).strip(), str(self.books.waiting))
         self.judge_same('check', counted.get('pending'), self.books.waiting)
-        days = [self.books.day - datetime.timedelta(ago) for ago in range(KEPT + 1)]
-        self.judge_same('copies', sorted(str(path.relative_to(self.root / COPIES)) for path in (self.root / COPIES).rglob('*.db')),
-                        sorted(f'{day}/office.db' for day in days if day >= EVE))
+        self.judge_same('copies', [name[:16] for name in copies], [f'{moment:%Y-%m-%dT%H-%M}' for moment in reversed(self.copied)])
 
     # ---- What is done once in a while
 
@@ -305,16 +318,17 @@ class Year:
 
     def upgrade(self):
         """The upgrade of the page, from the file that the version before left. Nobody reaches the office meanwhile."""
+        self.expect('systemctl stop registry')
+        self.expect(REACHED, 'The office cannot be reached.')
+        self.expect(OLDER)
         for line, wanted in commands('Upgrade', 0):
-            self.expect(line, wanted.replace('version 1,', 'version 2,'))
-            if line == 'systemctl stop registry':
-                self.expect(REACHED, 'The office cannot be reached.')
-                self.expect(OLDER)
+            self.expect(line, wanted)
+        self.expect('systemctl start registry')
 
     def end_month(self):
         """Each copy is still well kept, the last one is restored, the site verified, also without the program, a mirror made, and logs are rotated."""
-        self.expect(f'for day in /{COPIES}/*; do reg_cli check $day/office.db; done | grep -c "^well kept"', str(len([*(self.root / COPIES).iterdir()])))
-        checked, restored, drill = (line for line, _ in commands('Backups', 2))
+        self.expect(f'for copy in /{COPIES}/2*; do reg_cli check $copy/office.db; done | grep -c "^well kept"', str(len([*(self.root / COPIES).glob('2*')])))
+        checked, restored, drill = (line for line, _ in commands('Backups', 0))
         for path in ('/registries', '/listings/registries/bits', '/listings/registries/codes'):
             self.expect(f'{checked}; {restored}', 'version 3, well kept, ..')
             printed = self.expect(drill.replace('/registries)', f'{path})'))
@@ -326,7 +340,7 @@ class Year:
         """Each public change is in the history with its day, and nothing else."""
         folder = self.root / SITE
         try:
-            records = history.judge_site(folder, {name: data for name, data in contents(folder).items() if not name.startswith('desk/')})
+            records = history.judge_site(folder, contents(folder))
         except (history.Wrong, KeyError, ValueError) as wrong:
             self.judge(False, f'{self.moment}: {type(wrong).__name__}: {wrong}')
             return
@@ -334,7 +348,7 @@ class Year:
         self.judge_same('the history', sorted(recorded), sorted(self.books.changes))
         said, noted = f'verified {len(records)} changes, last {records[-1]["Digest"]}', self.digest and f' --digest {self.digest}'
         self.expect(command('reg_cli verify /srv/www/registers') + noted, said)
-        for line, wanted in commands('How far one machine goes', 0):
+        for line, wanted in commands('Publishing', 3):
             self.expect(line, wanted and said)
         self.digest = records[-1]['Digest'][:16]
 
@@ -342,21 +356,21 @@ class Year:
 
     def lying(self):
         """The files of people and jobs, without those that an office, its site, its copies and its mirror have. The machine may have hidden ones."""
-        tops = ['tmp', 'var/lib/registry', 'etc/cron.d', 'srv']
+        tops = ['tmp', 'var/lib/registry', 'etc/reg-cli', 'srv']
         paths = [*(self.root / 'root').glob('[!.]*'), *(path for top in tops for path in (self.root / top).rglob('*'))]
         names = {str(path.relative_to(self.root)) for path in paths if path.is_file()}
-        return {name for name in names if not name.startswith(('srv/www/registers/', 'srv/mirror/'))}
+        return {name for name in names if not name.startswith(('srv/www/registers/', 'srv/mirror/', 'var/lib/registry/site/'))}
 
     def judge_end(self, before):
         """One stop, one process, and nothing that lies about."""
         self.judge_same('the processes', [day for day, _ in self.processes], [FIRST, UPGRADE])
         often = DAYS * 2 + DAYS // 30 + 1
-        self.judge_same('cron', sorted(self.ran.values()), sorted([often, often, DAYS + 1, DAYS, DAYS // 30]))
+        self.judge_same('the timers', self.ran, {'registry-publish': often, 'registry-watch': often, 'registry-due': DAYS // 30})
         self.judge_same('the new files', sorted(self.lying() - before), [])
         self.judge_same('files that are half written', [str(path) for path in (self.root / SITE).rglob('*.new')], [])
         self.expect(command('NRestarts'), '0')
-        self.expect('ps -u registry -o args=', '/usr/local/bin/reg_cli serve /var/lib/registry/office.db --port 8080 --log')
-        self.expect('systemctl is-active registry nginx; systemctl is-failed registry-alert || true', 'active, active, inactive')
+        self.expect('ps -u registry -o args=', '/usr/bin/reg_cli serve /var/lib/registry/office.db --port 880 --log')
+        self.expect('systemctl is-active registry nginx; systemctl is-failed registry-alert@registry || true', 'active, active, inactive')
         self.judge_history()
 
 

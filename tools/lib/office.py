@@ -67,7 +67,12 @@ class Served(subprocess.Popen):
         self.port = port or free_port()
         words = map(str, [program, 'serve', file, '--port', self.port, *words])
         super().__init__([*words], **{'stdout': subprocess.PIPE, **options})
-        self.line = self.stdout.readline().decode()
+        try:
+            self.line = self.stdout.readline().decode()
+        except BaseException:
+            # (nobody has the process yet to end it)
+            self.kill()
+            raise
 
     def listens(self):
         """Whether it printed that it listens."""

@@ -1,18 +1,18 @@
 """The office that the page in desk/ asks, a relay before it, and a proxy before that."""
 import contextlib
 import json
-import os
 import pathlib
 import re
+import shutil
 import socketserver
 import sqlite3
-import subprocess
 import sys
 import threading
 import time
 
 from lib import office as offices
-from lib.office import Served, free_port, reachable
+from lib import proxies
+from lib.office import Served, free_port
 
 TOP = pathlib.Path(__file__).resolve().parent.parent.parent
 CLERK = 'clerk-token-0000000001'
@@ -96,41 +96,16 @@ class Office:
         self.start()
 
 
-def of_page(kind):
-    return re.search(rf'^```{kind}\n(.*?)^```', (TOP / 'docs/use/OPERATING.md').read_text(), re.S | re.M)[1]
-
-
-def installed(site):
-    """The page is installed by the lines of docs/use/OPERATING.md, in this folder."""
-    part = (TOP / 'docs/use/OPERATING.md').read_text().split('## The desk in the browser')[1].split('\n## ')[0]
-    for line in re.findall(r'^install .*', part, re.M):
-        subprocess.run(['sh', '-c', line.replace('/srv/www/registers', str(site))], cwd=TOP, check=True)
-
-
-def nginx(folder, office, own):
-    temporary = ''.join(f'{kind}_temp_path {folder}/{kind}; ' for kind in ('client_body', 'proxy', 'fastcgi', 'uwsgi', 'scgi'))
-    server = of_page('nginx').replace('443', f'127.0.0.1:{own}').replace('registry.example.org;', 'localhost;').replace('127.0.0.1:8080', f'127.0.0.1:{office}')
-    server = re.sub(r'/etc/letsencrypt/live/registry.example.org/(fullchain|privkey)', rf'{folder}/\1', server).replace('/srv/www/registers', f'{folder}/site')
-    server = server.replace('/var/log/nginx/registry.log', f'{folder}/access.log')
-    (folder / 'nginx.conf').write_text(f'pid {folder}/pid; error_log {folder}/error.log; events {{}}\nuser root;\nhttp {{ include /etc/nginx/mime.types; default_type application/octet-stream; access_log {folder}/access.log;\n{temporary}\n{server}}}\n')
-    return ['nginx', '-e', folder / 'error.log', '-p', folder, '-c', folder / 'nginx.conf', '-g', 'daemon off;']
-
-
-def caddy(folder, office, own):
-    site = f'https://localhost:{own} {{\n    bind 127.0.0.1\n    tls {folder}/fullchain.pem {folder}/privkey.pem'
-    text = of_page('caddy').replace('registry.example.org {', site).replace('/var/log/caddy/registry.log', f'{folder}/access.log').replace('127.0.0.1:8080', f'127.0.0.1:{office}').replace('/srv/www/registers', f'{folder}/site')
-    (folder / 'Caddyfile').write_text(f'{{\n    admin off\n    auto_https disable_redirects\n    storage file_system {folder}\n}}\n{text}')
-    return ['caddy', 'run', '--config', folder / 'Caddyfile', '--adapter', 'caddyfile']
+def installed(desk):
+    """The page is in this folder as the package has it."""
+    desk.mkdir()
+    for path in [*(TOP / 'desk').iterdir(), TOP / 'docs/reference/openapi.yaml']:
+        shutil.copy(path, desk)
+    shutil.copy(TOP / 'docs/use/APPLYING.md', desk / 'apply.txt')
 
 
 @contextlib.contextmanager
 def proxied(proxy, folder, office):
-    own = free_port()
-    subprocess.run(['openssl', 'req', '-x509', '-newkey', 'rsa:2048', '-nodes', '-days', '1', '-subj', '/CN=localhost', '-addext', 'subjectAltName=DNS:localhost',
-                    '-keyout', folder / 'privkey.pem', '-out', folder / 'fullchain.pem'], check=True, capture_output=True)
-    with subprocess.Popen(proxy(folder, office, own), env={**os.environ, 'HOME': str(folder)}, stdout=subprocess.DEVNULL, stderr=subprocess.DEVNULL) as running:
-        reachable(own)
-        try:
-            yield f'https://localhost:{own}/site/desk/'
-        finally:
-            running.terminate()
+    """The address of the page behind a proxy. The published site and the page are in the folder."""
+    with proxies.proxied(proxy, folder, office) as (own, _):
+        yield f'https://localhost:{own}/site/desk/'

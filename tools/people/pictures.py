@@ -1,8 +1,8 @@
-"""Pictures of the pages, in light and dark, 1280 and 390 pixels wide."""
+"""Pictures of the pages: of each in light and dark, 1280 and 390 pixels wide, and those of README."""
 import base64
 
 from people.office import CLERK
-from people.person import judge, narrow
+from people.person import Person, judge, narrow
 
 
 def pictures(person, folder, name):
@@ -70,3 +70,32 @@ def pictures_of_clerk(office, clerk, folder):
     clerk.click('Approve')
     pictures(clerk, folder, 'clerk-question')
     clerk.click('Cancel')
+
+
+# ---- README's
+
+def picture(person, file, width, most):
+    """A picture of the page from its top, so wide and at most so high."""
+    person.driver.execute_cdp_cmd('Emulation.setDeviceMetricsOverride', {'width': width, 'height': 900, 'deviceScaleFactor': 1, 'mobile': False})
+    height = min(most, person.script('return document.documentElement.scrollHeight'))
+    clip = {'x': 0, 'y': 0, 'width': width, 'height': height, 'scale': 1}
+    taken = person.driver.execute_cdp_cmd('Page.captureScreenshot', {'format': 'png', 'captureBeyondViewport': True, 'clip': clip})['data']
+    file.write_bytes(base64.b64decode(taken))
+
+
+def pictures_of_demonstration(said, profiles, folder):
+    """Signs in with each token of a demonstration, and leaves the pictures of README: the desk of the applicant, and the page of a registry."""
+    folder.mkdir(parents=True, exist_ok=True)
+    for kind, heading in (('applicant', 'My requests'), ('expert', 'Requests to review'), ('clerk', 'Waiting')):
+        person = Person(profiles / kind, said['desk'])
+        try:
+            person.sign_in(said[kind])
+            person.until(lambda: person.script('return document.title') == f'{heading} - Demonstration', f'{heading} in the title')
+            picture(person, folder / ('desk.png' if kind == 'applicant' else f'desk-{kind}.png'), 1056, 900)
+            person.quiet(kind)
+            person.driver.get(f'{said["registries"]}registries/ciphers.html')
+            picture(person, folder / 'site.png', 900, 900)
+            person.driver.get(said['registries'])
+            picture(person, folder / 'index.png', 900, 900)
+        finally:
+            person.end()

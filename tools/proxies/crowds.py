@@ -1,0 +1,187 @@
+"""Clients that cost a proxy more than they should, and what they cost it."""
+import contextlib
+import os
+import pathlib
+import socket
+import sqlite3
+import ssl
+import tempfile
+import time
+
+from lib.office import ALICE, CLERK, GRANT, RANGES, ask, begin, served
+from lib.proxies import KEPT, SITE, caddy, nginx, proxied
+
+# Crowds come from the first address, and who wants nothing odd from the second.
+CROWD, HONEST = '127.0.0.1', '127.0.0.3'
+HALF = b'GET /registries HTTP/1.1\r\nHost: localhost\r\nX-Half: '
+HALF_BODY = b'PUT /agents/bob HTTP/1.1\r\nHost: localhost\r\nContent-Length: 9\r\n\r\nhalf'
+# What the system keeps for a reader that does not read.
+ROOM = 4096
+TLS = ssl.SSLContext(ssl.PROTOCOL_TLS_CLIENT)
+TLS.check_hostname, TLS.verify_mode = False, ssl.CERT_NONE
+HEADS, READERS = 3200, 200
+# The seconds after which a proxy has given back the connections, and the most that it may hold meanwhile: seconds, and megabytes.
+FREE, MOST = 80, {'wait': 1, 'memory': 250, 'disk': 128}
+# Without these lines a crowd does harm: what does it, what is replaced in which file, and what is more than it may be.
+BUFFERED = '        buffer_requests\n', '        buffer_requests\n        buffer_responses\n'
+HARMS = [(nginx, 'heads', ('worker_connections 8192', 'worker_connections 768'), 'wait'),
+         (nginx, 'heads', ('    client_header_timeout 10s;\n', '    client_header_timeout 120s;\n'), 'free'),
+         (nginx, 'bodies', ('    client_body_timeout 10s;\n', '    client_body_timeout 120s;\n'), 'free'),
+         (nginx, 'readers', ('    limit_conn registry_connections 32;\n', ''), 'disk'),
+         (nginx, 'readers', ('    send_timeout 10s;\n', '    send_timeout 120s;\n'), 'free'),
+         (caddy, 'heads', ('            read_header 10s\n            read_body 10s\n', ''), 'free'),
+         (caddy, 'bodies', ('            read_body 10s\n', ''), 'free'),
+         (caddy, 'readers', BUFFERED, 'memory'),
+         (caddy, 'files', ('            write 60s\n', ''), 'free')]
+
+
+def connected(port, address, seconds, room=None):
+    """A connection by TLS from an address."""
+    plain = socket.socket()
+    if room:
+        plain.setsockopt(socket.SOL_SOCKET, socket.SO_RCVBUF, room)
+    plain.settimeout(seconds)
+    plain.bind((address, 0))
+    plain.connect(('127.0.0.1', port))
+    return TLS.wrap_socket(plain, server_hostname='localhost')
+
+
+def asks(path, token=''):
+    """The bytes of a request."""
+    head = f'Authorization: Bearer {token}\r\n' if token else ''
+    return f'GET {path} HTTP/1.1\r\nHost: localhost\r\n{head}\r\n'.encode()
+
+
+def crowd(port, count, sent, room=None):
+    """So many connections on which these bytes were sent, or fewer if the proxy takes no more."""
+    peers = []
+    with contextlib.suppress(OSError):
+        for _ in range(count):
+            peers.append(connected(port, CROWD, 10, room))
+            peers[-1].sendall(sent)
+    return peers
+
+
+def waited(port, path='/registries'):
+    """How many seconds an ordinary client waits for its answer, twenty if there is none."""
+    began = time.monotonic()
+    with contextlib.suppress(OSError), connected(port, HONEST, 20) as peer:
+        peer.sendall(asks(path))
+        if b' 200 ' in peer.recv(100):
+            return time.monotonic() - began
+    return 20.0
+
+
+class Watched:
+    """What a proxy holds: the most since it was watched. `process` is its first process, and `folder` the one for its temporary files."""
+
+    def __init__(self, process, folder, port):
+        self.process, self.folder, self.port = process, str(folder), port
+        self.before = self.sockets()
+        self.most = {'memory': 0.0, 'disk': 0.0, 'wait': 0.0}
+
+    def processes(self):
+        children = pathlib.Path(f'/proc/{self.process}/task/{self.process}/children').read_text().split()
+        return [pathlib.Path('/proc', name) for name in [str(self.process), *children]]
+
+    def descriptors(self):
+        """Each open file of the proxy, with what it names."""
+        for own in self.processes():
+            with contextlib.suppress(OSError):
+                for path in (own / 'fd').iterdir():
+                    with contextlib.suppress(OSError):
+                        yield path, os.readlink(path)
+
+    def sockets(self):
+        return sum(name.startswith('socket:') for _, name in self.descriptors())
+
+    def disk(self):
+        """The megabytes of temporary files. They have no names any more."""
+        held = 0
+        for path, name in self.descriptors():
+            if name.startswith(self.folder):
+                with contextlib.suppress(OSError):
+                    held += path.stat().st_blocks
+        return held / 2048
+
+    def memory(self):
+        """The megabytes of memory."""
+        lines = [line for own in self.processes() for line in (own / 'smaps_rollup').read_text().splitlines() if line.startswith('Pss:')]
+        return sum(int(line.split()[1]) for line in lines) / 1024
+
+    def look(self):
+        """Looks once, and asks as an ordinary client."""
+        for what, found in (('wait', waited(self.port)), ('memory', self.memory()), ('disk', self.disk())):
+            self.most[what] = max(self.most[what], found)
+
+    def look_until_free(self, seconds):
+        """Looks on until the proxy has given back its connections. Whether it has within a while."""
+        end = time.monotonic() + seconds
+        while time.monotonic() < end:
+            self.look()
+            if self.sockets() <= self.before + 5:
+                return True
+            time.sleep(1)
+        return False
+
+
+# ---- The crowds
+
+def filled(program, file):
+    """An office in a new file. The answer about the requests of ALICE's token has 5 MB."""
+    begin(program, file)
+    with served(program, file) as port:
+        ask(port, 'PUT', '/desk/registries/codes/65535', CLERK, RANGES)
+        ask(port, 'PUT', '/desk/tokens', CLERK, GRANT)
+    with contextlib.closing(sqlite3.connect(file)) as store, store:
+        rows = [('alice', f'm-{number:05}', 'code', 'codes', number, 'x' * 190, 'x' * 190, 'withdrawn') for number in range(10000)]
+        store.executemany('INSERT INTO requests (account, reference, kind, registry, value, label, contact, state) VALUES (?, ?, ?, ?, ?, ?, ?, ?)', rows)
+
+
+def begun(what, port):
+    """The clients of a crowd, each with its request sent."""
+    if what == 'heads':
+        return crowd(port, HEADS, HALF)
+    if what == 'bodies':
+        return crowd(port, READERS, HALF_BODY)
+    if what == 'readers':
+        return crowd(port, READERS, asks('/requests', ALICE), ROOM)
+    return crowd(port, READERS, asks('/site/large.csv'), ROOM)
+
+
+def costs(program, proxy, what, changes=None, harm='free'):
+    """What a crowd costs a proxy at most, and in `free` how many seconds pass until it has given back the connections; FREE if it has not, or if
+    there was harm before."""
+    with tempfile.TemporaryDirectory() as name:
+        folder = pathlib.Path(name)
+        filled(program, folder / 'office.db')
+        with served(program, folder / 'office.db') as office, proxied(proxy, folder, office, changes) as (port, process):
+            (folder / SITE / 'large.csv').write_bytes(os.urandom(5000000))
+            watched = Watched(process, folder / KEPT, port)
+            peers = begun(what, port)
+            watched.look()
+            began = time.monotonic()
+            is_free = (harm == 'free' or watched.most[harm] < MOST[harm]) and watched.look_until_free(FREE)
+            for peer in peers:
+                peer.close()
+            return {**watched.most, 'free': time.monotonic() - began if is_free else FREE, 'came': len(peers)}
+
+
+def is_harmless(found):
+    return found['free'] < FREE and all(found[what] < most for what, most in MOST.items())
+
+
+def crowds(tally, program, proxy):
+    """Each crowd does no harm."""
+    for what, count in (('heads', HEADS), ('bodies', READERS), ('readers', READERS), ('files', READERS)):
+        found = costs(program, proxy, what)
+        print(f'{proxy.__name__}, {what}:', {name: round(value, 2) for name, value in found.items()}, flush=True)
+        tally.judge(is_harmless(found) and found['came'] == count, f'{proxy.__name__}: {what} cost {found}')
+
+
+def weaker(tally, program):
+    """Each line that keeps a crowd off is needed: without it the crowd does harm."""
+    for proxy, what, (old, new), harm in HARMS:
+        found = costs(program, proxy, what, {old: new}, harm)
+        print(f'{proxy.__name__}, {what}, without {old.strip()}:', {name: round(value, 2) for name, value in found.items()}, flush=True)
+        tally.judge(found[harm] >= {**MOST, 'free': FREE}[harm], f'{proxy.__name__}: {what} did no harm without {old.strip()}: {found}')
