@@ -106,15 +106,15 @@ impl Node {
 
 /// A file that is never sent: what was found first at its path, and what is found there now.
 #[derive(Drop)]
-struct Kept {
+struct Withheld {
     path: String,
     first: Option<Node>,
 }
 
-impl Kept {
-    fn at(rt: &HostRuntime, path: String) -> Kept {
+impl Withheld {
+    fn at(rt: &HostRuntime, path: String) -> Withheld {
         let first = Node::at(rt, path.as_str());
-        Kept { path, first }
+        Withheld { path, first }
     }
 
     // Whether a file is the one that was found there first, or is now.
@@ -135,8 +135,8 @@ pub struct SystemSite<'a> {
     rt: &'a HostRuntime,
     folder: String,
     // The office's file, and its log.
-    office: Kept,
-    log: Kept,
+    office: Withheld,
+    log: Withheld,
 }
 
 impl<'a> SystemSite<'a> {
@@ -149,12 +149,12 @@ impl<'a> SystemSite<'a> {
         Ok(SystemSite {
             rt,
             folder,
-            office: Kept::at(rt, office),
-            log: Kept::at(rt, log),
+            office: Withheld::at(rt, office),
+            log: Withheld::at(rt, log),
         })
     }
 
-    fn is_kept(&mut self, node: Node) -> bool {
+    fn is_withheld(&mut self, node: Node) -> bool {
         let is_office = self.office.is(self.rt, node);
         let is_log = self.log.is(self.rt, node);
         is_office || is_log
@@ -168,7 +168,7 @@ impl SiteFiles for SystemSite<'_> {
         let rt = self.rt;
         let file = open_below(rt, rt.alloc(), self.folder.as_str(), path)?;
         let found = file.metadata().ok()?;
-        if self.is_kept(Node::of(&found)) {
+        if self.is_withheld(Node::of(&found)) {
             return None;
         }
         Some(SiteFile {

@@ -11,6 +11,7 @@ use Rattle.reg_folder.specs.declared.wanted.Wanted.TheVariants.{Nothing, Refusal
 
 -- ---- Names of files
 
+-- the letters and digits of ASCII, `.`, `_` and `-`
 abbrev pub is_name_byte : ℕ → Bool
 is_name_byte b = is_ascii_alphanumeric b || (b == 46 || (b == 95 || b == 45))
 
@@ -33,10 +34,11 @@ abbrev pub indexed : List ℕ → List ℕ
 indexed rest =
     (if length rest == 0 || ends_with nat_eq rest (codes "/") then rest ++ codes "index.html" else rest)
 
--- ---- What a request asks of a site: nothing, a file at a path, or what is refused
+-- ---- What a request asks of a site
 
-abbrev pub Aim : Type 0
-Aim = Option (Result (List ℕ) WireRefusal)
+-- nothing, a file at a path, or what is refused
+abbrev pub SiteAim : Type 0
+SiteAim = Option (Result (List ℕ) WireRefusal)
 
 -- the file that the rest of a path means, behind `/site/`
 abbrev pub file_at : List ℕ → Result (List ℕ) WireRefusal
@@ -56,11 +58,11 @@ abbrev pub behind : List ℕ → Option (List ℕ)
 behind path = (if is_below path then Some (drop 6 path) else None)
 
 -- what is asked by this method, with this body, at this path
-abbrev pub aim_at : List ℕ → List ℕ → List ℕ → Aim
+abbrev pub aim_at : List ℕ → List ℕ → List ℕ → SiteAim
 aim_at method body path = option_map (aim_behind method body) (behind path)
 
 -- the same as the code says it
-abbrev pub aim_in : Wanted → Aim
+abbrev pub aim_in : Wanted → SiteAim
 aim_in Nothing = None
 aim_in (Refusal why) = Some (Err why)
 aim_in (File path) = Some (Ok (string_bytes path))

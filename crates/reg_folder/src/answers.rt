@@ -3,11 +3,11 @@ ghost use Rattle.std.specs.Prelude.{IfOk, Result};
 ghost use Rattle.reg_head.specs.Reading.{IsMessage, LiesInBytes, request_view};
 ghost use Rattle.reg_head.specs.Request.{BytesAsk, Request};
 ghost use Rattle.reg_head.specs.declared.malformed.Malformed.{Malformed as OfBytes};
-ghost use Rattle.reg_folder.specs.Answers.{AnswersAsked, AnswersFound, AnswersRequest, IsGiven, IsRefused};
+ghost use Rattle.reg_folder.specs.Answers.{AnswersAsked, AnswersFound, AnswersSite, IsGiven, IsRefusedBelow};
 
 use crate::files::{SiteFile, SiteFiles};
 use crate::head::head_of;
-use crate::wanted::{Wanted, wanted};
+use crate::wanted::{Wanted, wanted_of};
 use http::StatusCode;
 use reg_core::wire_refusal::WireRefusal;
 use reg_head::message::{Message, Parts};
@@ -67,7 +67,7 @@ fn answer_message<S: SiteFiles>(
 ) -> Result<Option<FrontAnswer<S::Content>>, AllocError>
     requires { LiesInBytes message.now }
     ensures { IfOk result (λ given. (request : Request) → IsMessage message.now request
-        → AnswersRequest S.Finds files.old files.new request given) }
+        → AnswersSite S.Finds files.old files.new request given) }
 {
     answer_parts(alloc, files, &message.parts())
 }
@@ -78,9 +78,9 @@ fn answer_parts<S: SiteFiles>(
     parts: &Parts<'_>,
 ) -> Result<Option<FrontAnswer<S::Content>>, AllocError>
     ensures { IfOk result (λ given.
-        AnswersRequest S.Finds files.old files.new (request_view parts.now) given) }
+        AnswersSite S.Finds files.old files.new (request_view parts.now) given) }
 {
-    match wanted(alloc, parts)? {
+    match wanted_of(alloc, parts)? {
         Wanted::Nothing => Ok(None),
         Wanted::Refusal(why) => Ok(Some(refused(alloc, parts.method, why)?)),
         Wanted::File(path) => {
@@ -134,7 +134,7 @@ fn refused<C: Drop>(
     method: &[u8],
     why: WireRefusal,
 ) -> Result<FrontAnswer<C>, AllocError>
-    ensures { IfOk result (IsRefused method.now why) }
+    ensures { IfOk result (IsRefusedBelow method.now why) }
 {
     let method = method.to_vec(alloc)?;
     let answer = Answer::Wire(why);

@@ -6,7 +6,8 @@ use crate::media::media_of;
 use std::alloc::{AllocError, Global};
 
 /// What a page of a site may load, and whom it may ask: its own address alone.
-const POLICY: &str = "default-src 'none'; script-src 'self'; style-src 'self'; img-src 'self'; connect-src 'self'; base-uri 'none'; form-action 'none'; frame-ancestors 'none'";
+const POLICY: &str =
+    "default-src 'none'; script-src 'self'; style-src 'self'; img-src 'self'; connect-src 'self'; base-uri 'none'; form-action 'none'; frame-ancestors 'none'";
 
 /// The head of an answer (RFC 9112 section 4) that has the file at a path, of so many bytes.
 pub(crate) fn head_of(alloc: Global, path: &str, length: usize) -> Result<String, AllocError>

@@ -30,7 +30,7 @@ pub enum Wanted {
 
 /// What a request asks of a site. Only GET without a body asks for a file; `Method` and then `Body` come
 /// before the path is read, and `Route` where it is no path of a file.
-pub fn wanted(alloc: Global, parts: &Parts<'_>) -> Result<Wanted, AllocError>
+pub fn wanted_of(alloc: Global, parts: &Parts<'_>) -> Result<Wanted, AllocError>
     ensures { IfOk result (λ w. aim_in w ≡ aim_at parts.now.method.now parts.now.body.now parts.now.path.now) }
 {
     match behind(parts.path) {
