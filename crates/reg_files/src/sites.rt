@@ -1,7 +1,7 @@
 //! The folders of the system whose files are served with an office.
-ghost use Rattle.std.specs.Prelude.{◌↔◌, ◌≡◌, ◌≤◌, IsTrue};
+ghost use Rattle.std.specs.Prelude.{◌↔◌, ◌≤◌, IsTrue};
 ghost use Rattle.std.specs.Fs.{IsFile, file_type, metadata_len};
-ghost use Rattle.std.specs.Path.{PathStartsWith, path_buf_bytes, path_bytes};
+ghost use Rattle.std.specs.Path.{PathStartsWith, path_buf_bytes};
 
 use reg_folder::files::{SiteFile, SiteFiles};
 use reg_program::faults::{JobFailure, Undone};
@@ -57,7 +57,10 @@ pub fn site_at(rt: &HostRuntime, path: &str, folder: &str) -> Result<SitePlace, 
 // Refuses what is no folder that can be read, and a system that does not say which files are open.
 fn refuse_unreadable(rt: &HostRuntime, alloc: Global, real: &str) -> Result<(), Undone> {
     let inside = format!(in alloc; "{real}/.")?;
-    let (Ok(_), Ok(opened)) = (fs::metadata(rt, inside.as_str()), fs::open(rt, real)) else {
+    if fs::metadata(rt, inside.as_str()).is_err() {
+        return Err(Undone::Fault(JobFailure::Read));
+    }
+    let Ok(opened) = fs::open(rt, real) else {
         return Err(Undone::Fault(JobFailure::Read));
     };
     if is_at(rt, alloc, &opened, real) {
@@ -71,7 +74,7 @@ fn refuse_unreadable(rt: &HostRuntime, alloc: Global, real: &str) -> Result<(), 
 fn is_in(path: &PathBuf, folder: &PathBuf) -> bool
     ensures { IsTrue result ↔ PathStartsWith (path_buf_bytes path.now) (path_buf_bytes folder.now) }
 {
-    path.starts_with(folder.as_path())
+    path.starts_with(folder.as_str())
 }
 
 fn unread(alloc: Global, why: &str) -> Result<Undone, AllocError> {
@@ -181,9 +184,9 @@ impl SiteFiles for SystemSite<'_> {
 // Opens the file at a path in the folder at a path, if a file is there that may be sent and no link leads
 // from the folder to it.
 fn open_below(rt: &HostRuntime, alloc: Global, folder: &str, path: &str) -> Option<fs::File> {
-    let real = fs::canonicalize(rt, folder).ok()?;
-    let real = real.as_str();
-    let place = format!(in alloc; "{real}/{path}").ok()?;
+    let top = fs::canonicalize(rt, folder).ok()?;
+    let above = top.as_str();
+    let place = format!(in alloc; "{above}/{path}").ok()?;
     let file = open_sendable(rt, place.as_str())?;
     if is_at(rt, alloc, &file, place.as_str()) {
         Some(file)

@@ -1,5 +1,6 @@
 //! What a request asks of a site.
-ghost use Rattle.std.specs.Prelude.{◌≡◌, Some, IfOk};
+ghost use Rattle.std.specs.Prelude.{◌≡◌, Some, IfOk, codes};
+ghost use Rattle.std.specs.Str.{bytes_eq};
 ghost use Rattle.std.specs.String.{string_bytes};
 ghost use Rattle.std.specs.Option.{option_copied};
 ghost use Rattle.reg_folder.specs.Path.{aim_at, aim_behind, aim_in, behind, file_at, indexed};
@@ -59,13 +60,19 @@ fn wanted_behind(
 ) -> Result<Wanted, AllocError>
     ensures { IfOk result (λ w. aim_in w ≡ Some (aim_behind method.now body.now rest.now)) }
 {
-    if method != Method::GET.as_str().as_bytes() {
+    if !is_get(method) {
         return Ok(Wanted::Refusal(WireRefusal::Method));
     }
     if !body.is_empty() {
         return Ok(Wanted::Refusal(WireRefusal::Body));
     }
     file_at(alloc, rest)
+}
+
+fn is_get(method: &[u8]) -> bool
+    ensures { result ≡ bytes_eq method.now (codes "GET") }
+{
+    method == Method::GET.as_str().as_bytes()
 }
 
 // The file that is meant by what stands behind `/site/`.
