@@ -1,21 +1,24 @@
 -- That the paths which are looked for stay below their folder.
-use Rattle.std.proofs.Common.{◌≡◌, ◌∙◌, ◌&&◌, ◌++◌, ℕ, Bool, List, [], Option, None, Some, Result, Ok, Err, All, codes, cond, false, not, true, refl, subst, sym, true≢false, option_map}
-use Rattle.std.specs.Prelude.{if◌then◌else◌}
+use Rattle.std.proofs.Common.{◌≡◌, ◌∙◌, ◌&&◌, ◌++◌, ℕ, Bool, List, [], Option, None, Some, Result, Ok, Err, codes, cond, false, not, true, refl, subst, sym, true≢false, ◌==◌, length, nat_eq}
+use Rattle.std.specs.Prelude.{All, option_map, if◌then◌else◌}
+use Rattle.std.specs.List.{list_all, starts_with}
 use Rattle.std.specs.Str.{is_utf8}
 use Rattle.std.proofs.lemmas.Bool.{and_parts}
 use Rattle.std.proofs.lemmas.List.Sums.{AllPass-from_list_all}
 use Rattle.reg_core.specs.declared.wire_refusal.WireRefusal.{WireRefusal}
 use Rattle.reg_core.specs.declared.wire_refusal.WireRefusal.TheVariants.{Route, Method, Body}
 use Rattle.reg_folder.specs.Laws.{IsPlainName}
-use Rattle.reg_folder.specs.Path.{aim_at, aim_behind, behind, indexed, is_name, is_path, segments}
+use Rattle.reg_folder.specs.Path.{aim_at, aim_behind, behind, indexed, is_name, is_name_byte, is_path, segments}
 
 -- a name has a byte, and begins with no dot
 inside : (s : List ℕ) → is_name s ≡ true → IsPlainName s
 inside s named = (
   (λ e. true≢false (sym (subst (λ t. is_name t ≡ true) e named))),
   (λ rest e.
+      let s = codes "." ++ rest in
       let dotted = subst (λ t. is_name t ≡ true) e named in
-      true≢false (sym (and_parts _ _ (and_parts _ _ dotted).1).0)),
+      let unmarked = (and_parts (not (length s == 0)) _ dotted).1 in
+      true≢false (sym (and_parts (not (starts_with nat_eq s (codes "."))) (list_all is_name_byte s) unmarked).0)),
 )
 
 all_inside : (at : List ℕ) → is_path at ≡ true → All IsPlainName (segments at)

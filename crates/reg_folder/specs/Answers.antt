@@ -1,5 +1,5 @@
 -- What is answered to a request by the folder of a site. `Finds` says what was found at a path.
-use Rattle.std.specs.Prelude.{◌≡◌, ⊥, ℕ, List, length, Option, None, Some, option_map, Result, Ok, Err}
+use Rattle.std.specs.Prelude.{◌≡◌, ℕ, List, length, Option, None, Some, option_map, Result, Ok, Err}
 use Rattle.reg_core.specs.declared.wire_refusal.WireRefusal.{WireRefusal}
 use Rattle.reg_core.specs.declared.wire_refusal.WireRefusal.TheVariants.{Route}
 use Rattle.reg_head.specs.Request.{Request}

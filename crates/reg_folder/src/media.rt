@@ -1,6 +1,6 @@
 //! The media types of files, by their endings.
 ghost use Rattle.std.specs.Prelude.{◌≡◌};
-ghost use Rattle.reg_folder.specs.Media.{dotted_after, is_dotted, media_of};
+ghost use Rattle.reg_folder.specs.Media.{data_media_of, dotted_after, is_dotted, media_of};
 
 /// The media type (RFC 9110 section 8.3) of the file at a path, by its ending as it stands there.
 pub(crate) fn media_of(path: &str) -> &'static str
