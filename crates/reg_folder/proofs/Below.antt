@@ -22,7 +22,7 @@ inside s named = (
 )
 
 all_inside : (at : List ℕ) → is_path at ≡ true → All IsPlainName (segments at)
-all_inside at is = λ k d less. inside _ (AllPass-from_list_all (segments at) is k d less)
+all_inside at is = λ k d less. inside _ (AllPass-from_list_all is_name (segments at) is k d less)
 
 abbrev Read : Type 0
 Read = Result (List ℕ) WireRefusal

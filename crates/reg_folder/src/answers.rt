@@ -10,6 +10,7 @@ use crate::head::head_of;
 use crate::wanted::{Wanted, wanted_of};
 use http::StatusCode;
 use reg_core::wire_refusal::WireRefusal;
+use reg_head::laws::readers_ask_by_all_their_bytes;
 use reg_head::message::{Message, Parts};
 use reg_head::reading::read_request;
 use reg_head::unread::Unread;
@@ -47,6 +48,7 @@ pub fn answer_to<S: SiteFiles>(
     ensures { IfOk result (λ given. (asked : Result Request OfBytes) × BytesAsk request.now asked
         × AnswersAsked S.Finds files.old files.new asked given) }
 {
+    readers_ask_by_all_their_bytes();
     let mut reader = request;
     let mut watch = Watch::new();
     match read_request(alloc, &mut reader, &mut watch) {

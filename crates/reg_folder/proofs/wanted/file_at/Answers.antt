@@ -1,6 +1,6 @@
 use Rattle.std.proofs.Common.{◌∙◌, List, Ok, Some, ap, sym, ℕ}
 use Rattle.reg_folder.specs.Path.{indexed, is_path}
-use Rattle.reg_folder.proofs.Files.{file_at-no_text, file_at-path}
+use Rattle.reg_folder.proofs.Meant.{file_at-no_text, file_at-path}
 use Rattle.reg_folder.proofs.wanted.file_at.Goals as goal
 
 pub returns-in_default : goal.returns-in_default
