@@ -126,7 +126,8 @@ def shown(case, words):
 
 
 def is_shown(case, words, given, wanted):
-    wants(met(case, words, given, functools.partial(shown, case))[0], wanted, words)
+    show = functools.partial(shown, case)
+    wants(met(case, words, given, show)[0] if 'PORT' in words else show(words), wanted, words)
 
 
 def sends(case, words, given, wanted):
@@ -188,6 +189,19 @@ def is_cut_short(case, words, given, wanted):
     size = case.path('/'.join(words.split(' ')[1:])).stat().st_size
     heard, line = changed_meanwhile(case, words, lambda path: os.truncate(path, size - 1))
     wants((heard, line), (size - 1, f'GET /site/{words.split(" ")[-1]} dropped\n'), 'a file that is cut short')
+
+
+def is_overtaken(case, file, given, wanted):
+    with serving(case, file, '--log', connections=2) as server:
+        with socket.create_connection(('127.0.0.1', server.port), timeout=60) as first:
+            first.sendall(given[:-1])
+            office.exchange(server.port, b'GET /registries HTTP/1.1\r\n\r\n', seconds=60)
+            first.sendall(given[-1:])
+            while first.recv(65536):
+                pass
+        output, errors = server.communicate(timeout=60)
+    lines = b''.join(line.partition(b' ')[2] for line in errors.splitlines(keepends=True))
+    wants((server.returncode, output, lines), (0, b'', wanted), f'serve {file}, and its log')
 
 
 def is_taken(case, file, given, wanted):
