@@ -75,8 +75,8 @@ def pictures_of_clerk(office, clerk, folder):
 # ---- README's
 
 def picture(person, file, width, most):
-    """A picture of the page from its top, so wide and at most so high."""
-    person.driver.execute_cdp_cmd('Emulation.setDeviceMetricsOverride', {'width': width, 'height': 900, 'deviceScaleFactor': 1, 'mobile': False})
+    """A picture of the page from its top, so wide, and as high as the page but at most so high."""
+    person.driver.execute_cdp_cmd('Emulation.setDeviceMetricsOverride', {'width': width, 'height': 200, 'deviceScaleFactor': 1, 'mobile': False})
     height = min(most, person.script('return document.documentElement.scrollHeight'))
     clip = {'x': 0, 'y': 0, 'width': width, 'height': height, 'scale': 1}
     taken = person.driver.execute_cdp_cmd('Page.captureScreenshot', {'format': 'png', 'captureBeyondViewport': True, 'clip': clip})['data']
@@ -91,7 +91,7 @@ def pictures_of_demonstration(said, profiles, folder):
         try:
             person.sign_in(said[kind])
             person.until(lambda: person.script('return document.title') == f'{heading} - Demonstration', f'{heading} in the title')
-            picture(person, folder / ('desk.png' if kind == 'applicant' else f'desk-{kind}.png'), 1056, 900)
+            picture(person, folder / ('desk.png' if kind == 'applicant' else f'desk-{kind}.png'), 1056, 1100)
             person.quiet(kind)
             person.driver.get(f'{said["registries"]}registries/ciphers.html')
             picture(person, folder / 'site.png', 900, 900)
