@@ -35,7 +35,7 @@ CERTIFICATE = f'''set -e; echo 127.0.0.1 registry.example.org >>/etc/hosts; mkdi
 touch {MAIL}; chmod 666 {MAIL}; printf '#!/bin/sh\ncat >>{MAIL}\n' >/usr/local/bin/mail; chmod 755 /usr/local/bin/mail
 for name in {' '.join(TIMERS)}; do
     mkdir -p /etc/systemd/system/$name.timer.d
-    printf '[Timer]\nOnCalendar=\nOnCalendar=2999-01-01\n' >/etc/systemd/system/$name.timer.d/trial.conf
+    printf '[Timer]\nOnCalendar=\nOnCalendar=2150-01-01\n' >/etc/systemd/system/$name.timer.d/trial.conf
 done'''
 # What the kills left in the journal is not to be found.
 FORGET = 'journalctl -q --rotate; journalctl -q --vacuum-time=1s'
