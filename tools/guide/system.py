@@ -100,7 +100,7 @@ class System:
 
 def packaged(program, folder, *words):
     """The package that tools/package makes of the program, in a folder."""
-    printed = subprocess.run([TOP / 'tools/package', program, folder, *words], capture_output=True, encoding='utf-8', check=True).stdout
+    printed = subprocess.run([TOP / 'tools/package', program, folder, *words], stdout=subprocess.PIPE, encoding='utf-8', check=True).stdout
     return pathlib.Path(printed.split()[0])
 
 

@@ -18,7 +18,7 @@ MEND = f'cp -p kept/* /var/lib/registry/; rm -r kept'
 RIGHTS = "stat -c '%a %U %n' /var/lib/registry /var/backups/registry /srv/www/registers /usr/share/reg-cli/desk /etc/reg-cli/apply.txt"
 COMPLETED = '''bash -c '. /usr/share/bash-completion/completions/reg_cli; for line in "reg_cli ch" "reg_cli serve --p"; do
 COMP_WORDS=($line); COMP_CWORD=$((${#COMP_WORDS[@]} - 1)); _reg_cli; echo ${COMPREPLY[@]}; done' '''
-MANUAL = "zcat /usr/share/man/man1/reg_cli.1.gz | grep '^.SS ' | cut -c5- | sort | tr '\\n' ' '"
+MANUAL = "zcat /usr/share/man/man1/reg_cli.1.gz | grep '^.SS ' | cut -c5- | sort | xargs"
 RECEIPT = 'grep -c "^sha256   $(sha256sum </usr/lib/reg-cli/program | cut -c-64)$" /usr/share/doc/reg-cli/receipt'
 # What the demonstration prints until it can be looked at, whether its desk is there, and that it ends.
 DEMONSTRATION = '''reg_cli-demo >shown & demo=$!; for n in $(seq 200); do grep -q Ctrl-C shown && break; sleep 0.1; done
@@ -32,11 +32,6 @@ INSTALLED = [
     (f'systemd-analyze verify --man=no /lib/systemd/system/registry*.timer {" ".join(f"/lib/systemd/system/{unit}" for unit in UNITS.split())} 2>&1', ''),
     ('systemd-analyze security --offline=true --no-pager /lib/systemd/system/registry.service | tail -n 1', '→ Overall exposure level for registry.service: 1..'),
     ('[ -e /usr/share/reg-cli/desk/index.html ] && cmp /usr/share/reg-cli/desk/apply.txt /usr/share/doc/reg-cli/docs/use/APPLYING.md && echo same', 'same')]
-# Nobody without rights gets the port of the service while it is down. A port above 1024 is anybody's.
-PORT = [('systemctl stop registry; cd /tmp; runuser -u nobody -- reg_cli init /tmp/mine.db --clerk clerk-token-00001', 'ready'),
-        ('runuser -u nobody -- reg_cli serve /tmp/mine.db --port 880 2>&1 || true', 'fault: port'),
-        ('runuser -u nobody -- timeout 1 reg_cli serve /tmp/mine.db --port 1880 || true', 'listening on 127.0.0.1:1880'),
-        ('rm /tmp/mine.db*; systemctl start registry', '')]
 UPGRADED = [(f'{PROCESS} >process; {SERVED} >before; {INSTALL.format(2)}', '..'), (STATUS, '3.0.0-2 install ok installed'), (IN_USE, 'program'),
             (f'{SAME} || echo another', 'another'), ('systemctl is-active registry', 'active'), (f'{SERVED} | cmp - before && echo same', 'same'),
             ('reg_cli check /var/backups/registry/before-3.0.0-2-*/office.db | head -n 2', 'version 3, well kept'),
@@ -95,5 +90,5 @@ def try_install(system, program):
 
 def try_changes(system):
     """Upgrades the package over offices of several kinds, removes it and purges it."""
-    for commands in (PORT, UPGRADED, ILL_KEPT, DAMAGED_SERVED, DAMAGED_STOPPED, REMOVED, PURGED):
+    for commands in (UPGRADED, ILL_KEPT, DAMAGED_SERVED, DAMAGED_STOPPED, REMOVED, PURGED):
         run_all(system, commands)
