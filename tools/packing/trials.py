@@ -23,6 +23,10 @@ RECEIPT = 'grep -c "^sha256   $(sha256sum </usr/lib/reg-cli/program | cut -c-64)
 # What the demonstration prints until it can be looked at, whether its desk is there, and that it ends.
 DEMONSTRATION = '''reg_cli-demo >shown & demo=$!; for n in $(seq 200); do grep -q Ctrl-C shown && break; sleep 0.1; done
 curl -s -o /dev/null -w '%{http_code}\\n' "$(sed -n 's/^desk *//p' shown)"; kill -INT $demo; kill $demo; wait $demo; echo ended'''
+# Where there is no systemd, the package is the program alone.
+BARE = [('for name in sysusers tmpfiles; do mount --bind /dev/null /usr/bin/systemd-$name; done', ''), (INSTALL.format(1), '..'),
+        ('umount /usr/bin/systemd-sysusers /usr/bin/systemd-tmpfiles; reg_cli --version', 'reg_cli 3.0.0 (office version 3)'),
+        ('id -u registry 2>/dev/null || echo nobody', 'nobody'), ('dpkg --purge reg-cli', '..')]
 INSTALLED = [
     (INSTALL.format(1), '..'), (STATUS, '3.0.0-1 install ok installed'), (IN_USE, 'program'), ('reg_cli --version', 'reg_cli 3.0.0 (office version 3)'),
     (f'systemctl is-enabled {UNITS} || true', 'disabled, disabled, disabled, disabled'), ('systemctl is-active registry || true', 'inactive'),
@@ -51,7 +55,7 @@ REMOVED = [('systemctl enable registry-due.timer; apt-get -q -y remove reg-cli',
            ('ls -d /usr/bin/reg_cli /usr/lib/reg-cli 2>/dev/null | wc -l', '0'), ('ls /etc/systemd/system/*.wants | grep -c registry || true', '0'),
            (f'[ -s {DATABASE} ] && ls /etc/reg-cli', 'apply.txt, office.conf'),
            (f'{INSTALL.format(2)}; systemctl start registry', '..'), (f'{SERVED} | cmp - before && echo same', 'same')]
-PURGED = [('apt-get -q -y purge reg-cli 2>&1 | grep -c "removes them by hand"', '1'), ('[ -e /etc/reg-cli ] || echo gone', 'gone'),
+PURGED = [('apt-get -q -y purge reg-cli 2>&1 | grep -c "remove them by hand"', '1'), ('[ -e /etc/reg-cli ] || echo gone', 'gone'),
           (f'[ -s {DATABASE} ] && id -un registry && ls /var/backups/registry | wc -l', '..'), ('ps -u registry -o pid= | wc -l', '0')]
 NO_CHECK = '''#!/bin/sh
 [ "$1" != check ] || { printf 'fault: not ours\\na row of the table entries is malformed\\n' >&2; exit 1; }
@@ -78,7 +82,7 @@ def run_all(system, commands):
 
 def try_install(system, program):
     """Installs the package, looks at what it has, and purges it."""
-    run_all(system, INSTALLED)
+    run_all(system, BARE + INSTALLED)
     jobs = sorted(set(re.findall(r'^  ([a-z]+)  ', subprocess.run([program, '--help'], capture_output=True, encoding='utf-8', check=True).stdout, re.M)) - {'help'})
     system.expect(MANUAL, ' '.join(jobs))
     if '--site' in system.run('reg_cli serve --help')[0]:
