@@ -66,7 +66,10 @@ class System:
         words = ['nsenter', '-t', str(self.first), '-p', '-m', '-u', '-i', '-n', '-C', 'env', *(f'{name}={value}' for name, value in self.clock.items()),
                  'sh', '-c', f'cd /root; {command}']
         env = {'PATH': '/usr/local/sbin:/usr/local/bin:/usr/sbin:/usr/bin:/sbin:/bin', 'HOME': '/root', 'CURL_CA_BUNDLE': f'{KEYS}/fullchain.pem'}
-        done = subprocess.run(words, env=env, capture_output=True, timeout=120, check=False)
+        try:
+            done = subprocess.run(words, env=env, capture_output=True, timeout=120, check=False)
+        except subprocess.TimeoutExpired:
+            return '', 'it took more than two minutes', 1
         return done.stdout.decode(), done.stderr.decode(), done.returncode
 
     def expect(self, command, wanted):
