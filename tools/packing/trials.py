@@ -33,7 +33,7 @@ INSTALLED = [
     (RIGHTS, '700 registry /var/lib/registry, 700 registry /var/backups/registry, 755 registry /srv/www/registers, 755 root /usr/share/reg-cli/desk, '
              '644 root /etc/reg-cli/apply.txt'),
     (RECEIPT, '1'), ('grep -c "given no licence" /usr/share/doc/reg-cli/copyright', '1'), (COMPLETED, 'check, --port'),
-    (f'systemd-analyze verify --man=no /lib/systemd/system/registry*.timer {" ".join(f"/lib/systemd/system/{unit}" for unit in UNITS.split())} 2>&1', ''),
+    (f'systemd-analyze verify --man=no /lib/systemd/system/registry*.timer {" ".join(f"/lib/systemd/system/{unit}" for unit in UNITS.split())} 2>&1 | wc -l', '0'),
     ('systemd-analyze security --offline=true --no-pager /lib/systemd/system/registry.service | tail -n 1', '→ Overall exposure level for registry.service: 1..'),
     ('[ -e /usr/share/reg-cli/desk/index.html ] && cmp /usr/share/reg-cli/desk/apply.txt /usr/share/doc/reg-cli/docs/use/APPLYING.md && echo same', 'same')]
 UPGRADED = [(f'{PROCESS} >process; {SERVED} >before; {INSTALL.format(2)}', '..'), (STATUS, '3.0.0-2 install ok installed'), (IN_USE, 'program'),
