@@ -9,6 +9,11 @@ import subprocess
 # How the lines end that are said plainly, and those whose bytes are written as Python writes them.
 PLAIN, WRITTEN = {'': b'\n', '|': b''}, {'\\': b'\n', '\\|': b'', ':': b'\r\n'}
 JSON = 'HTTP/1.1 {}\nContent-Type: application/json\nContent-Length: {}\nConnection: close\n\n{}'
+# The head of a file of a site.
+FILE = ("HTTP/1.1 200 OK\nContent-Type: {}\nContent-Length: {}\nCache-Control: no-cache\nReferrer-Policy: no-referrer\nX-Content-Type-Options: nosniff\n"
+        "Content-Security-Policy: default-src 'none'; script-src 'self'; style-src 'self'; img-src 'self'; connect-src 'self'; base-uri 'none'; "
+        "form-action 'none'; frame-ancestors 'none'\nConnection: close\n\n{}")
+ANSWERS = {'json': JSON, 'file': FILE}
 NEVER, MAYBE, ALWAYS = range(3)
 
 
@@ -22,9 +27,9 @@ def said(kind, text):
     if kind == '*':
         count, _, repeated = text.partition(' ')
         return ast.literal_eval(f"b'{repeated or 'x'}'") * int(count)
-    if kind == 'json':
-        status, _, body = text.partition(': ')
-        return JSON.format(status, len(body.encode()), body).replace('\n', '\r\n').encode()
+    if kind in ANSWERS:
+        first, _, body = text.partition(': ')
+        return ANSWERS[kind].format(first, len(body.encode()), body).replace('\n', '\r\n').encode()
     if kind in WRITTEN:
         return ast.literal_eval(f"b'{text}'") + WRITTEN[kind]
     return text.encode() + PLAIN[kind]

@@ -234,6 +234,11 @@ def make_link(case, name_and_target, given, wanted):
     case.path(name).symlink_to(target)
 
 
+def make_hard_link(case, file_and_name, given, wanted):
+    file, _, name = file_and_name.partition(' ')
+    case.path(name).hardlink_to(case.path(file))
+
+
 def make_sparse(case, file_and_size, given, wanted):
     file, _, size = file_and_size.partition(' ')
     with open(case.path(file), 'wb') as made:

@@ -126,20 +126,82 @@ def shown(case, words):
 
 
 def is_shown(case, words, given, wanted):
-    wants(met(case, words, given, functools.partial(shown, case))[0], wanted, words)
+    show = functools.partial(shown, case)
+    wants(met(case, words, given, show)[0] if 'PORT' in words else show(words), wanted, words)
 
 
 def sends(case, words, given, wanted):
     wants(met(case, words, b''), ((1, b'', b'fault: read\n'), wanted), words)
 
 
-def is_logged(case, file_and_line, given, wanted):
+def is_logged(case, file_and_line, given, wanted, *words):
     file, _, line = file_and_line.partition(' ')
-    answer, errors = exchange(case, file, given, '--log')
+    answer, errors = exchange(case, file, given, '--log', *words)
     moment, _, rest = errors.decode().partition(' ')
     wants((answer, rest), (wanted, f'{line}\n'), f'{given!r}')
     told = datetime.datetime.strptime(moment + '+0000', '%Y-%m-%dT%H:%M:%SZ%z').timestamp()
     wants(abs(told - time.time()) < 60, True, f'{moment}, which is the moment of the log')
+
+
+def is_of_site(case, file_and_folder_and_line, given, wanted):
+    file, folder, line = file_and_folder_and_line.split(' ', 2)
+    is_logged(case, f'{file} {line}', given, wanted, '--site', folder)
+
+
+def is_relinked(case, words, given, wanted):
+    file, folder, target = words.split(' ')
+    with serving(case, file, '--site', folder, connections=2) as server:
+        first = office.exchange(server.port, given, ends=True, seconds=60)
+        wants(first[:12], b'HTTP/1.1 200', 'the answer where the link led first')
+        case.path(folder).unlink()
+        case.path(folder).symlink_to(target)
+        wants(office.exchange(server.port, given, ends=True, seconds=60), wanted, f'{folder}, which leads to {target}')
+
+
+def changed_meanwhile(case, words, change):
+    """How many bytes of a file of a site a client hears, which is changed once the first of them have come, and how the line of the log ends."""
+    file, folder, name = words.split(' ')
+    heard = 0
+    with serving(case, file, '--site', folder, '--log') as server:
+        with socket.create_connection(('127.0.0.1', server.port), timeout=60) as client:
+            client.sendall(f'GET /site/{name} HTTP/1.1\r\n\r\n'.encode())
+            head = client.recv(65536)
+            change(case.path(f'{folder}/{name}'))
+            while piece := client.recv(1 << 20):
+                heard += len(piece)
+        _, errors = server.communicate(timeout=60)
+    return heard + len(head.partition(b'\r\n\r\n')[2]), errors.decode().partition(' ')[2]
+
+
+def is_sent_as_it_was(case, words, given, wanted):
+    size = case.path('/'.join(words.split(' ')[1:])).stat().st_size
+
+    def replace(path):
+        other = path.with_name('other')
+        other.write_bytes(b'other')
+        other.replace(path)
+
+    name = words.split(' ')[-1]
+    wants(changed_meanwhile(case, words, replace), (size, f'GET /site/{name} 200 {size}\n'), 'a file that is replaced')
+
+
+def is_cut_short(case, words, given, wanted):
+    size = case.path('/'.join(words.split(' ')[1:])).stat().st_size
+    heard, line = changed_meanwhile(case, words, lambda path: os.truncate(path, size - 1))
+    wants((heard, line), (size - 1, f'GET /site/{words.split(" ")[-1]} dropped\n'), 'a file that is cut short')
+
+
+def is_overtaken(case, file, given, wanted):
+    with serving(case, file, '--log', connections=2) as server:
+        with socket.create_connection(('127.0.0.1', server.port), timeout=60) as first:
+            first.sendall(given[:-1])
+            office.exchange(server.port, b'GET /registries HTTP/1.1\r\n\r\n', seconds=60)
+            first.sendall(given[-1:])
+            while first.recv(65536):
+                pass
+        output, errors = server.communicate(timeout=60)
+    lines = b''.join(line.partition(b' ')[2] for line in errors.splitlines(keepends=True))
+    wants((server.returncode, output, lines), (0, b'', wanted), f'serve {file}, and its log')
 
 
 def is_taken(case, file, given, wanted):

@@ -6,27 +6,42 @@ use reg_jobs::command_line::job;
 use reg_jobs::jobs::{Job, JobFault};
 use reg_program::console::Console;
 use reg_program::performing::refuse;
+use reg_program::terminal::Outlet;
+use std::env;
 use std::io::IsTerminal;
 use std::process::ExitCode;
-use std::{env, io};
 
 fn main(rt: HostRuntime) -> ExitCode {
-    let mut output = io::writer(&rt);
-    let mut errors = rt.stderr();
     let status = match asked(&rt) {
-        Ok(job) => {
-            let is_watched = errors.is_terminal();
-            let mut console = Console {
-                input: &mut rt.reader(),
-                output: &mut output,
-                errors: &mut errors,
-                is_watched,
-            };
-            perform_at(&rt, job, &mut console)
-        }
-        Err(fault) => refuse(fault, &mut errors),
+        Ok(job) => carry_out(&rt, job),
+        Err(fault) => refuse(fault, &mut rt.stderr()),
     };
     ExitCode::from(status)
+}
+
+// Does a job, and gives the exit status. A terminal is sent no bytes of others that it might obey. How far a
+// script is, the program itself says, with bytes that a terminal obeys.
+fn carry_out(rt: &HostRuntime, job: Job) -> u8 {
+    let alloc = rt.alloc();
+    let is_watched = rt.stderr().is_terminal();
+    let is_script = matches!(&job, Job::Script { .. });
+    let mut output = Outlet {
+        alloc,
+        writer: rt.stdout(),
+        is_terminal: rt.stdout().is_terminal(),
+    };
+    let mut errors = Outlet {
+        alloc,
+        writer: rt.stderr(),
+        is_terminal: is_watched && !is_script,
+    };
+    let mut console = Console {
+        input: &mut rt.reader(),
+        output: &mut output,
+        errors: &mut errors,
+        is_watched,
+    };
+    perform_at(rt, job, &mut console)
 }
 
 // The job that the program's arguments ask for.

@@ -3,14 +3,17 @@
 
 mod access;
 pub mod copies;
+pub mod front;
 pub mod laws;
 pub mod originals;
 pub mod performing;
 pub mod private_disk;
+pub mod sites;
 pub mod targets;
 
 use crate::access::{make_private, warn_of_readers};
-use reg_http::crowd::TcpPorts;
+use crate::front::SitePorts;
+use crate::sites::{SitePlace, site_at};
 use reg_http::dates::Dates;
 use reg_program::console::Console;
 use reg_program::faults::{JobFailure, Undone};
@@ -44,6 +47,10 @@ impl Offices for Files {
         task: &Task<'_>,
         console: &mut Console<'_, R, W, E>,
     ) -> Result<(), Undone> {
+        let site = match task.site() {
+            Some(folder) => Some(site_at(rt, path, folder)?),
+            None => None,
+        };
         // Where it cannot be made, opening it says why.
         let _ = make_private(rt, path);
         match opened(rt, Unknown, path, task.begins()) {
@@ -52,7 +59,7 @@ impl Offices for Files {
                     keeper: Some(keeper),
                     version: 0,
                 };
-                do_in(rt, office, dates, path, Wish::Done(task), console)
+                do_in(rt, office, site, dates, path, Wish::Done(task), console)
             }
             Err(undone) => Err(undone),
         }
@@ -71,7 +78,7 @@ impl Offices for Files {
                     keeper: Some(look.keeper),
                     version: look.version.number(),
                 };
-                do_in(rt, office, dates, path, Wish::Checked, console)
+                do_in(rt, office, None, dates, path, Wish::Checked, console)
             }
             Err(trouble) => Err(explained(rt.alloc(), trouble)?),
         }
@@ -91,12 +98,13 @@ enum Wish<'a> {
 fn do_in<S: Alter + Drop, D: Dates, R: Read, W: Write, E: Write>(
     rt: &HostRuntime,
     office: OneOffice<S>,
+    site: Option<SitePlace>,
     dates: &mut D,
     path: &str,
     wish: Wish<'_>,
     console: &mut Console<'_, R, W, E>,
 ) -> Result<(), Undone> {
-    let mut offices = offices_in(rt, office);
+    let mut offices = offices_in(rt, office, site);
     match wish {
         Wish::Done(task) => offices.carry_out(rt, dates, path, task, console),
         Wish::Checked => offices.check(rt, dates, path, console),
@@ -107,10 +115,11 @@ fn do_in<S: Alter + Drop, D: Dates, R: Read, W: Write, E: Write>(
 fn offices_in<S: Alter + Drop>(
     rt: &HostRuntime,
     stores: OneOffice<S>,
-) -> OfficesIn<OneOffice<S>, TcpPorts<'_, HostRuntime>, Directories<'_>> {
+    site: Option<SitePlace>,
+) -> OfficesIn<OneOffice<S>, SitePorts<'_>, Directories<'_>> {
     OfficesIn {
         stores,
-        ports: TcpPorts { rt },
+        ports: SitePorts { rt, site },
         folders: Directories { rt },
     }
 }

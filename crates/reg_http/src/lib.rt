@@ -2,15 +2,16 @@
 //! once.
 #![tactic(auto)]
 
-pub mod crowd;
+mod completeness;
 pub mod dates;
 pub mod front;
-mod hall;
 pub mod known;
 pub mod laws;
 pub mod listener;
 pub mod log;
-mod outlook;
 pub mod peers;
 mod place;
+mod schedule;
 mod socket;
+mod table;
+pub mod tcp;

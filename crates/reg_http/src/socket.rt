@@ -1,9 +1,9 @@
 //! One connection: its socket, and what of its request and its answer is kept.
 ghost use Rattle.std.specs.Io.{WritesAtMost};
 
+use crate::completeness::{Completeness, completeness_of};
 use crate::front::PORTION_BYTES;
 use crate::log::LogLine;
-use crate::outlook::{Outlook, outlook_of};
 use mio::net::TcpStream;
 use mio::{Interest, Registry, Token};
 use std::alloc::{AllocError, Global};
@@ -59,7 +59,7 @@ pub(crate) struct Socket<C> {
     // How many of the bytes of the answer were sent.
     at: usize,
     // What they say of the request.
-    outlook: Outlook,
+    completeness: Completeness,
     // How many bytes of it there are when that is looked at again.
     look_at: usize,
     /// Whether it can be read no more, though its end has not come.
@@ -82,7 +82,7 @@ impl<C: Read + Drop> Socket<C> {
             watched: None,
             bytes: Vec::new(alloc),
             at: 0,
-            outlook: Outlook::Wants(FIRST_BYTES),
+            completeness: Completeness::Wants(FIRST_BYTES),
             look_at: 0,
             has_failed: false,
             line: None,
@@ -170,9 +170,9 @@ impl<C: Read + Drop> Socket<C> {
 
     // How many bytes more may be read of the request.
     fn room(&self) -> usize {
-        match self.outlook {
-            Outlook::Wants(count) => count.min(FIRST_BYTES),
-            Outlook::Whole | Outlook::Refused | Outlook::Unknown => 0,
+        match self.completeness {
+            Completeness::Wants(count) => count.min(FIRST_BYTES),
+            Completeness::Whole | Completeness::Refused | Completeness::Unknown => 0,
         }
     }
 
@@ -182,17 +182,17 @@ impl<C: Read + Drop> Socket<C> {
         self.bytes.extend_from_slice(piece)?;
         let count = self.bytes.len();
         if count < self.look_at {
-            self.outlook = Outlook::Wants(self.look_at - count);
+            self.completeness = Completeness::Wants(self.look_at - count);
             return Ok(());
         }
-        self.outlook = outlook_of(alloc, self.bytes.as_slice());
-        match self.outlook {
-            Outlook::Wants(wanted) => {
+        self.completeness = completeness_of(alloc, self.bytes.as_slice());
+        match self.completeness {
+            Completeness::Wants(wanted) => {
                 self.look_at = next_look(count, wanted);
                 Ok(())
             }
-            Outlook::Unknown => Err(AllocError),
-            Outlook::Whole | Outlook::Refused => Ok(()),
+            Completeness::Unknown => Err(AllocError),
+            Completeness::Whole | Completeness::Refused => Ok(()),
         }
     }
 
@@ -204,7 +204,7 @@ impl<C: Read + Drop> Socket<C> {
 
     /// Whether what was read is a whole request.
     pub fn is_whole(&self) -> bool {
-        self.outlook == Outlook::Whole
+        self.completeness == Completeness::Whole
     }
 
     /// Sends what the peer takes of the answer, and reads more of the content for it.
@@ -233,10 +233,15 @@ impl<C: Read + Drop> Socket<C> {
         self.sent
     }
 
-    /// By when the next bytes are to be taken, where there is content.
-    pub fn content_end(&self, now: Duration, patience: Duration) -> Option<Duration> {
+    /// Whether content is sent after what is kept.
+    pub fn has_content(&self) -> bool {
+        self.rest.is_some()
+    }
+
+    /// By when all of the answer is to be sent, where it has content.
+    pub fn last(&self) -> Option<Duration> {
         match &self.rest {
-            Some(rest) => Some(now.saturating_add(patience).min(rest.last)),
+            Some(rest) => Some(rest.last),
             None => None,
         }
     }

@@ -126,6 +126,9 @@ log_keeps = (
   value_keeps HoldsValue (filled (flag_rule (codes "log"))) (codes "false") refl (any_value (codes "log") (default_row_with (filled (flag_rule (codes "log"))) (codes "false")) (codes "false") refl refl refl refl refl),
 )
 
+site_keeps : Fills false (filled (option_rule (codes "site")))
+site_keeps = option_keeps (codes "site") refl refl refl
+
 place_keeps : (i : ℕ) (id : Text) → bytes_eq id (codes "port") ≡ false → bytes_eq id (codes "connections") ≡ false → bytes_eq id (codes "within") ≡ false
     → Fills false (with_index i (filled (place_rule id)))
 place_keeps i id port connections within = text_keeps (with_index i (filled (place_rule id))) refl refl refl refl port connections within
@@ -257,7 +260,7 @@ init_gives words none =
 
 serve_gives : GivesJob (sub_of serve_app)
 serve_gives words none =
-    let held = leaf_rows (sub_of serve_app) (file_keeps, (port_keeps, (connections_keeps, (log_keeps, (help_flag_keeps, tt))))) refl words none in
+    let held = leaf_rows (sub_of serve_app) (file_keeps, (port_keeps, (connections_keeps, (log_keeps, (site_keeps, (help_flag_keeps, tt)))))) refl words none in
     (text_given _ _ held.0 (held.1.0 refl), number_given (codes "port") 1 65535 (λ r good. good.2) _ held.0 (held.1.1.0 refl), connections_given _ held.0)
 
 request_gives : GivesJob (sub_of request_app)

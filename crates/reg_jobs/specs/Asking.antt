@@ -81,6 +81,7 @@ IsJobOf name rows (Serve service) =
     × IsNumberOf (codes "port") rows service.port
     × IsCountOf rows service.connections
     × (service.log ≡ is_used (codes "log") rows)
+    × (first_of (codes "site") rows ≡ option_map string_bytes service.site)
 IsJobOf name rows (Request request) =
     (name ≡ codes "request") × IsArgumentOf (codes "SOURCE") rows (string_bytes request.source)
     × IsArgumentOf (codes "METHOD") rows (string_bytes request.method)

@@ -76,8 +76,8 @@ init_app = with_rule (file_app (codes "init")) clerk_rule
 
 abbrev pub serve_app : App
 serve_app =
-    with_rule (with_rule (with_rule (file_app (codes "serve")) port_rule) connections_rule)
-    (flag_rule (codes "log"))
+    with_rule (with_rule (with_rule (with_rule (file_app (codes "serve")) port_rule) connections_rule)
+    (flag_rule (codes "log"))) (option_rule (codes "site"))
 
 -- the command `define` with its first words
 abbrev pub registry_app : App

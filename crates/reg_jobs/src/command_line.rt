@@ -123,6 +123,7 @@ fn serve_of(alloc: Global, matches: &ArgMatches) -> Result<Job, JobFault>
         port: port(matches)?,
         connections: connections(matches)?,
         log: is_flagged(matches, "log"),
+        site: optional_text(alloc, matches, "site")?,
     }))
 }
 

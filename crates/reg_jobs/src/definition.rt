@@ -172,6 +172,12 @@ fn serve<'a>(alloc: Global) -> Result<Command<'a>, AllocError>
             alloc,
             "log",
             "Writes a line for each connection on standard error",
+        ))?
+        .arg(option(
+            alloc,
+            "site",
+            "FOLDER",
+            "The published folder to serve below /site/",
         ))
 }
 

@@ -59,7 +59,10 @@ With --log it writes a line for each connection on standard error: moment, metho
 path, status and size of the body, and never a token or a body. Of a path that is
 not public it writes only the pattern:
   2026-11-26T08:00:00Z GET /registries 200 9
-  2026-11-26T08:00:01Z PUT /desk/approve/{account}/{reference} 200 112";
+  2026-11-26T08:00:01Z PUT /desk/approve/{account}/{reference} 200 112
+With --site the published files in FOLDER are also served, below /site/, so that a
+browser needs no other web server: http://127.0.0.1:8080/site/
+  reg_cli serve office.db --port 8080 --site /srv/registries";
 
 pub const REQUEST_ABOUT: &str =
     "Sends one request to the office at SOURCE, and prints the body of the answer";

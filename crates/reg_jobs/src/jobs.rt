@@ -117,6 +117,8 @@ pub struct Service {
     pub connections: u32,
     /// Whether a line on standard error tells of each connection.
     pub log: bool,
+    /// The path of the folder whose files are served below `/site/`; without one, none are.
+    pub site: Option<String>,
 }
 
 /// How an office is published.

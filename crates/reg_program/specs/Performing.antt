@@ -49,6 +49,12 @@ abbrev pub serving_by : Service → Serving
 serving_by service =
     record { port = service.port; connections = service.connections; log = service.log }
 
+-- it is served so, with the files in the folder that the job names
+abbrev pub IsServedBy : Service → Task → Type 0
+IsServedBy service (Serve serving site) =
+    (serving ≡ serving_by service) × (option_copied site ≡ option_map string_bytes service.site)
+IsServedBy service _ = ⊥
+
 -- the first clerk's token is the one that a word says
 abbrev pub IsFounding : List ℕ → Task → Type 0
 IsFounding word (Found clerk) = AreKnown (token_in word) clerk.now
@@ -213,8 +219,7 @@ module _ (Carried : ToldOfTasks) (Checked : List ℕ → Streams → Result ⊤ 
   DoesJob io (job.Init file clerk) done =
       Carries Carried (string_bytes file) (IsFounding (string_bytes clerk)) io done
   DoesJob io (job.Serve service) done =
-      Carries Carried (string_bytes service.file)
-      (λ task. task ≡ Serve (serving_by service)) io done
+      Carries Carried (string_bytes service.file) (IsServedBy service) io done
   DoesJob io (job.Request order) done = AnswersRequest order Carried Untouched io done
   DoesJob io (job.Define order) done = AnswersDefinition order Carried Untouched io done
   DoesJob io (job.Listing source registry) done =

@@ -1,5 +1,5 @@
 -- What a task does with an office.
-use Rattle.std.specs.Prelude.{◌≡◌, ⊤, ℕ, Bool, true, false, List, Option, Result, OnOk, MatchResult}
+use Rattle.std.specs.Prelude.{◌≡◌, ⊤, ℕ, Bool, true, false, List, Option, None, Result, OnOk, MatchResult}
 use Rattle.std.specs.Option.{option_copied}
 use Rattle.std.specs.declared.time.Duration.{Duration}
 use Rattle.reg_core.specs.View.{published}
@@ -67,7 +67,7 @@ Did world Holds Sound fails before after io result (Run clerk) =
     MatchResult result
     (λ _. RunsAll world Holds Sound fails before after clerk.now io.unread io.left had has)
     (RunsUpTo world Holds Sound fails before after clerk.now io.unread io.left had has)
-Did world Holds Sound fails before after io result (Serve serving) = ⊤
+Did world Holds Sound fails before after io result (Serve serving site) = ⊤
 Did world Holds Sound fails before after io result (Ask asked) =
     (moment : ℕ) × IsMoment io moment × PrintsStep world Holds Sound fails before after
     (step_of asked moment) asked.form io.had io.has result
@@ -86,7 +86,7 @@ Did world Holds Sound fails before after io result (Due days) =
 abbrev pub IfServes : (ℕ → ℕ → Type 0) → Task → Type 0
 IfServes Served (Found clerk) = ⊤
 IfServes Served (Run clerk) = ⊤
-IfServes Served (Serve serving) = Served serving.port serving.connections
+IfServes Served (Serve serving site) = Served serving.port serving.connections
 IfServes Served (Ask asked) = ⊤
 IfServes Served Tokens = ⊤
 IfServes Served (Revoke choice) = ⊤
@@ -97,7 +97,7 @@ IfServes Served (Due days) = ⊤
 abbrev pub IfPublishes : (List ℕ → Option Notes → Type 0) → Task → Type 0
 IfPublishes Placed (Found clerk) = ⊤
 IfPublishes Placed (Run clerk) = ⊤
-IfPublishes Placed (Serve serving) = ⊤
+IfPublishes Placed (Serve serving site) = ⊤
 IfPublishes Placed (Ask asked) = ⊤
 IfPublishes Placed Tokens = ⊤
 IfPublishes Placed (Revoke choice) = ⊤
@@ -108,18 +108,23 @@ IfPublishes Placed (Due days) = ⊤
 abbrev pub looks_on : Task → Bool
 looks_on (Found clerk) = false
 looks_on (Run clerk) = false
-looks_on (Serve serving) = false
+looks_on (Serve serving site) = false
 looks_on (Ask asked) = only_looks asked.command
 looks_on Tokens = true
 looks_on (Revoke choice) = false
 looks_on (Publish folder notes) = false
 looks_on (Due days) = false
 
+-- the path of the folder whose files are served with the office
+abbrev pub site_of : Task → Option (List ℕ)
+site_of (Serve serving site) = option_copied site
+site_of _ = None
+
 -- an office is begun where there is none
 abbrev pub begins : Task → Bool
 begins (Found clerk) = true
 begins (Run clerk) = true
-begins (Serve serving) = false
+begins (Serve serving site) = false
 begins (Ask asked) = false
 begins Tokens = false
 begins (Revoke choice) = false

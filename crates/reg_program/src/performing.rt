@@ -3,7 +3,7 @@ ghost use Rattle.std.specs.Prelude.{◌≡◌, ◌⊎◌, OnOk, is_some, option_
 ghost use Rattle.std.specs.String.{string_bytes};
 ghost use Rattle.reg_program.specs.Founding.{RunsAllOn};
 ghost use Rattle.reg_program.specs.Importing.{IsImported};
-ghost use Rattle.reg_program.specs.Performing.{Carries, EndsJob, IsFounding, IsPublishedTo, PublishesFrom, RunsIn, TellsDue, TriesIn, TriesJob, TriesTask, refused_status, serving_by};
+ghost use Rattle.reg_program.specs.Performing.{Carries, EndsJob, IsFounding, IsPublishedTo, IsServedBy, PublishesFrom, RunsIn, TellsDue, TriesIn, TriesJob, TriesTask, refused_status};
 ghost use Rattle.reg_program.specs.Tasks.{streams_by};
 ghost use Rattle.reg_program.specs.Verifying.{IsVerifiedBy};
 
@@ -213,14 +213,17 @@ fn serve<D: Dates, O: Offices, R: Read, W: Write, E: Write>(
 ) -> Result<(), Undone>
     ensures { let io = streams_by R.remaining W.contents D.readings console.old console.new dates.old
         dates.new in
-        O.Carried offices.old offices.new (string_bytes order.now.file)
-        (Task.Serve (serving_by order.now)) io result }
+        Carries (O.Carried offices.old offices.new) (string_bytes order.now.file)
+        (IsServedBy order.now) io result }
 {
-    let task = Task::Serve(Serving {
-        port: order.port,
-        connections: order.connections,
-        log: order.log,
-    });
+    let task = Task::Serve {
+        serving: Serving {
+            port: order.port,
+            connections: order.connections,
+            log: order.log,
+        },
+        site: order.site.as_deref(),
+    };
     carry_out(rt, dates, offices, order.file.as_str(), task, console)
 }
 

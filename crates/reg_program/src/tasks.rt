@@ -1,5 +1,5 @@
 //! What jobs do with the offices in files.
-ghost use Rattle.std.specs.Prelude.{◌≡◌, false, true, Err};
+ghost use Rattle.std.specs.Prelude.{◌≡◌, false, true, Err, option_map};
 ghost use Rattle.reg_core.specs.Names.{is_token};
 ghost use Rattle.reg_core.specs.View.{published};
 ghost use Rattle.reg_program.specs.Doing.{Does};
@@ -7,7 +7,7 @@ ghost use Rattle.reg_program.specs.Founding.{IsReady, IsUnready};
 ghost use Rattle.reg_program.specs.Publishing.{PublishesNow};
 ghost use Rattle.reg_program.specs.Serving.{ServesOrStays};
 ghost use Rattle.reg_wire.specs.Serving.{AnswersOver};
-ghost use Rattle.reg_program.specs.Tasks.{Did, IfPublishes, IfServes, begins, looks_on, streams_by};
+ghost use Rattle.reg_program.specs.Tasks.{Did, IfPublishes, IfServes, begins, looks_on, site_of, streams_by};
 ghost use Rattle.reg_program.specs.declared.faults.JobFailure.TheVariants as failure;
 
 use crate::asking::{Question, ask_in, print};
@@ -36,8 +36,11 @@ pub enum Task<'a> {
     Run {
         clerk: &'a [u8],
     },
-    /// Serves it.
-    Serve(Serving),
+    /// Serves it, and with it the files in the folder at this path, if there is one.
+    Serve {
+        serving: Serving,
+        site: Option<&'a str>,
+    },
     /// Has it answer a command.
     Ask(Question<'a>),
     /// Prints all its capabilities.
@@ -110,7 +113,17 @@ impl Task<'_> {
 
     /// Whether it serves the office.
     pub fn serves(&self) -> bool {
-        matches!(self, Task::Serve(_))
+        matches!(self, Task::Serve { .. })
+    }
+
+    /// The path of the folder whose files are served with it, if there is one.
+    pub fn site(&self) -> Option<&str>
+        ensures { option_map (λ path. path.now) result ≡ site_of self.now }
+    {
+        match self {
+            Task::Serve { serving: _, site } => *site,
+            _ => None,
+        }
     }
 
     /// Does it with an office that is open, at the moment that these dates say, and serves it on one
@@ -140,7 +153,9 @@ impl Task<'_> {
         match self {
             Task::Found { clerk } => found_in(office, clerk, console.output),
             Task::Run { clerk } => run_in(rt, office, clerk, console),
-            Task::Serve(serving) => serve_in(alloc, ports, dates, office, *serving, console),
+            Task::Serve { serving, site: _ } => {
+                serve_in(alloc, ports, dates, office, *serving, console)
+            }
             Task::Ask(asked) => ask_in(alloc, office, moment_now(dates), asked, console.output),
             Task::Tokens => tokens_in(alloc, office, console.output),
             Task::Revoke { choice } => {

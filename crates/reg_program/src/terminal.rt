@@ -14,22 +14,22 @@ const PIECE_BYTES: usize = 4096;
 /// Passes bytes on. A terminal is sent only what it shows: it might obey other bytes, and some come from
 /// other people's offices and files.
 #[derive(Drop)]
-pub struct Outlet<'a, W: Write> {
+pub struct Outlet<W> {
     /// What makes its texts.
     pub alloc: Global,
     /// Where the bytes go.
-    pub writer: &'a mut W,
+    pub writer: W,
     /// Whether that is a terminal.
     pub is_terminal: bool,
 }
 
-impl<W: Write> Write for Outlet<'_, W> {
+impl<W: Write> Write for Outlet<W> {
     fn write(&mut self, buf: &[u8]) -> io::Result<usize> {
         if !self.is_terminal {
             return self.writer.write(buf);
         }
         let count = buf.len().min(PIECE_BYTES);
-        write_shown(self.alloc, self.writer, &buf[..count])
+        write_shown(self.alloc, &mut self.writer, &buf[..count])
     }
 
     fn flush(&mut self) -> io::Result<()> {

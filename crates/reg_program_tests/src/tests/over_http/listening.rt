@@ -1,10 +1,10 @@
 //! A listener on loopback, and its clients.
 use crate::tests::exercise::{Exercise, over_lists};
 use crate::tests::over_http::served::Served;
-use reg_http::crowd::crowd_at;
 use reg_http::dates::ClockDates;
 use reg_http::front::NoFront;
 use reg_http::listener::Connections;
+use reg_http::tcp::peers_at;
 use reg_keeper::keeper::Keeper;
 use reg_testing::facts::ensure;
 use std::io::{Read, Write};
@@ -121,7 +121,7 @@ fn answer_four<K: Keeper + Drop>(
 ) -> Result<(Connections, Heard), Fail> {
     let address = free_address(rt)?;
     let patience = Duration::from_millis(200);
-    let mut connections = crowd_at(rt, rt.alloc(), address, patience, 4, NoFront)?;
+    let mut connections = peers_at(rt, rt.alloc(), address, patience, 4, NoFront)?;
     let mut peers = Peers::connected(rt, address)?;
     let mut dates = ClockDates { clock: rt };
     let done = served.listen(rt.alloc(), &mut dates, &mut connections, 4);

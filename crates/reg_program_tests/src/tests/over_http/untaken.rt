@@ -3,12 +3,12 @@ use crate::tests::exercise::{Exercise, over_lists};
 use crate::tests::over_http::listening::{all_of, assert_counts, client, free_address};
 use crate::tests::over_http::served::Served;
 use http::StatusCode;
-use reg_http::crowd::crowd_at;
 use reg_http::dates::ClockDates;
 use reg_http::front::NoFront;
 use reg_http::listener::Connections;
 use reg_http::log::{LineLog, LogLine};
 use reg_http::peers::Peers;
+use reg_http::tcp::peers_at;
 use reg_keeper::keeper::{Fault, Keeper};
 use reg_parse::shown::Shown;
 use reg_testing::facts::ensure;
@@ -109,7 +109,7 @@ fn answer_second<K: Keeper + Drop>(
     let alloc = rt.alloc();
     let address = free_address(rt)?;
     let patience = Duration::from_millis(500);
-    let mut connections = crowd_at(rt, alloc, address, patience, 2, NoFront)?;
+    let mut connections = peers_at(rt, alloc, address, patience, 2, NoFront)?;
     let first = client(rt, address, ASKS)?;
     let mut second = client(rt, address, ASKS)?;
     let mut ends = Ends {

@@ -1,11 +1,13 @@
-//! The connections that there are, each at its place.
+//! The connections that there are, each with its socket.
+ghost use Rattle.std.specs.Prelude.{◌≡◌};
+ghost use Rattle.reg_http.specs.Schedules.{IsOverAt, NobodyIsOver, SameBut, stage_at};
+ghost use Rattle.reg_http.specs.declared.place.Stage.TheVariants as stage;
+
 use crate::dates::{ClockDates, moment_now};
 use crate::front::{Front, FrontAnswer};
 use crate::log::{LineLog, LogLine};
-use crate::place::{
-    MOST_PLACES, Place, Stage, are_too_heavy, free_place, giving_way, heaviest, next_turn,
-    soonest_end,
-};
+use crate::place::{MOST_PLACES, Stage};
+use crate::schedule::Schedule;
 use crate::socket::{LeftContent, Readiness, Socket};
 use http::StatusCode;
 use mio::net::TcpStream;
@@ -14,47 +16,37 @@ use reg_wire::log::Sent;
 use std::alloc::{AllocError, Global};
 use std::time::{Clock, Duration};
 
-// For how many seconds what a refused peer still sends is read.
-const LINGER_SECONDS: u64 = 1;
-
 // In how many seconds content is to be sent.
 const CONTENT_SECONDS: u64 = 600;
 
 /// The connections that there are.
 #[derive(Drop)]
-pub(crate) struct Hall<'a, C: Clock, F: Front + Drop> {
+pub(crate) struct ConnectionTable<'a, C: Clock, F: Front + Drop> {
     alloc: Global,
     clock: &'a C,
     front: F,
-    // How long a peer has to send its request, and again to take the answer.
-    patience: Duration,
-    places: Vec<Place>,
+    /// Where each stands.
+    pub schedule: Schedule,
     // The connection at each place, unless it is free or in turn.
     sockets: Vec<Option<Socket<F::Content>>>,
-    // How often the sockets were looked at.
-    rounds: u64,
-    // How many answers were made.
-    answers: u64,
-    // How many connections were accepted.
-    accepted: u64,
-    // The time of this round, by the monotonic clock.
-    now: Duration,
 }
 
-impl<'a, C: Clock, F: Front + Drop> Hall<'a, C, F> {
+impl<'a, C: Clock, F: Front + Drop> ConnectionTable<'a, C, F> {
     /// No connection yet.
-    pub fn new(alloc: Global, clock: &'a C, front: F, patience: Duration) -> Hall<'a, C, F> {
-        Hall {
+    pub fn new(
+        alloc: Global,
+        clock: &'a C,
+        front: F,
+        patience: Duration,
+    ) -> ConnectionTable<'a, C, F>
+        ensures { result.schedule.counters.patience ≡ patience }
+    {
+        ConnectionTable {
             alloc,
             clock,
             front,
-            patience,
-            places: Vec::new(alloc),
+            schedule: Schedule::new(alloc, patience),
             sockets: Vec::new(alloc),
-            rounds: 0,
-            answers: 0,
-            accepted: 0,
-            now: Duration::ZERO,
         }
     }
 
@@ -62,146 +54,121 @@ impl<'a, C: Clock, F: Front + Drop> Hall<'a, C, F> {
 
     fn tell_time(&mut self) {
         if let Ok(now) = self.clock.monotonic() {
-            self.now = now;
+            self.schedule.tell_time(now);
         }
     }
 
     /// Begins a round.
     pub fn begin_round(&mut self) {
-        self.rounds = self.rounds.saturating_add(1);
+        self.schedule.begin_round();
         self.tell_time();
     }
 
     /// How long there is until a connection ends by the clock; nothing where one is due.
     pub fn leisure(&self) -> Option<Duration> {
-        if next_turn(self.places.as_slice()).is_some() {
+        if self.schedule.next_turn().is_some() {
             return Some(Duration::ZERO);
         }
-        let end = soonest_end(self.places.as_slice())?;
-        Some(end.checked_sub(self.now).unwrap_or(Duration::ZERO))
+        self.schedule.least_left()
     }
 
     /// Ends what has been asking, answered or refused too long.
-    pub fn end_overdue<L: LineLog>(&mut self, log: &mut L) {
-        for at in 0..self.places.len() {
-            if self.is_over(at) {
+    pub fn end_overdue<L: LineLog>(&mut self, log: &mut L)
+        ensures over { NobodyIsOver self.new.schedule.counters.patience
+            self.new.schedule.counters.now self.new.schedule.places.items }
+        ensures counters { self.new.schedule.counters ≡ self.old.schedule.counters }
+    {
+        for at in 0..self.schedule.len() {
+            if self.schedule.is_over(at) {
                 self.give_up(at, log);
             }
         }
     }
 
-    fn is_over(&self, at: usize) -> bool {
-        match self.places.get(at) {
-            Some(place) => place.is_over(self.now),
-            None => false,
-        }
-    }
-
     // ---- Places
-
-    fn stage_of(&self, at: usize) -> Stage {
-        match self.places.get(at) {
-            Some(place) => place.stage,
-            None => Stage::Free,
-        }
-    }
-
-    fn set_stage(&mut self, at: usize, stage: Stage) {
-        if let Some(place) = self.places.get_mut(at) {
-            place.stage = stage;
-        }
-    }
-
-    fn set_end(&mut self, at: usize, end: Duration) {
-        if let Some(place) = self.places.get_mut(at) {
-            place.end = end;
-        }
-    }
-
-    fn set_sizes(&mut self, at: usize, asked: usize, unsent: usize) {
-        if let Some(place) = self.places.get_mut(at) {
-            place.asked = asked;
-            place.unsent = unsent;
-        }
-    }
-
-    fn free(&mut self, at: usize) {
-        if let Some(place) = self.places.get_mut(at) {
-            *place = Place::free();
-        }
-        if let Some(socket) = self.sockets.get_mut(at) {
-            *socket = None;
-        }
-    }
-
-    /// Whether there is no connection.
-    pub fn is_empty(&self) -> bool {
-        self.places.iter().all(|place| place.stage == Stage::Free)
-    }
-
-    /// Whether no connection asks or is due.
-    pub fn is_asked_no_more(&self) -> bool {
-        self.places.iter().all(|place| match place.stage {
-            Stage::Asking | Stage::Due(_) => false,
-            _ => true,
-        })
-    }
-
-    /// Whether a connection is due.
-    pub fn is_due(&self) -> bool {
-        next_turn(self.places.as_slice()).is_some()
-    }
-
-    /// Whether there is a place for one more.
-    pub fn has_room(&self) -> bool {
-        self.places.len() < MOST_PLACES || free_place(self.places.as_slice()).is_some()
-    }
 
     /// Has a connection give way to a new one.
     pub fn make_way<L: LineLog>(&mut self, log: &mut L) {
-        if let Some(at) = giving_way(self.places.as_slice()) {
+        if let Some(at) = self.schedule.giving_way() {
             self.give_up(at, log);
         }
     }
 
     // What asks is carried out as it stands, and fails; what is answered is dropped.
-    fn give_up<L: LineLog>(&mut self, at: usize, log: &mut L) {
-        match self.stage_of(at) {
+    fn give_up<L: LineLog>(&mut self, at: usize, log: &mut L)
+        ensures ended { IsOverAt self.old.schedule.counters.patience self.old.schedule.counters.now
+            self.new.schedule.places.items at → ⊥ }
+        ensures others { SameBut at self.old.schedule.places.items self.new.schedule.places.items }
+        ensures counters { self.new.schedule.counters ≡ self.old.schedule.counters }
+    {
+        match self.schedule.stage(at) {
             Stage::Asking => {
-                if let Some(Some(socket)) = self.sockets.get_mut(at) {
-                    socket.has_failed = true;
-                }
-                self.set_stage(at, Stage::Due(self.rounds));
+                self.fail(at);
+                self.schedule.settle(at);
             }
             Stage::Answered(_) | Stage::Refused(_) => self.drop_at(at, log),
             Stage::Free | Stage::Due(_) | Stage::InTurn => {}
         }
     }
 
-    // Drops a connection whose answer was not taken whole, or which was refused.
-    fn drop_at<L: LineLog>(&mut self, at: usize, log: &mut L) {
-        if let Some(Some(socket)) = self.sockets.get_mut(at) {
-            if let Some(line) = socket.take_line() {
-                log.told(LogLine { sent: None, ..line });
+    // It can be read no more.
+    fn fail(&mut self, at: usize)
+        ensures { self.new.schedule ≡ self.old.schedule }
+    {
+        if let Some(place) = self.sockets.get_mut(at) {
+            if let Some(socket) = place {
+                socket.has_failed = true;
             }
         }
+    }
+
+    fn free(&mut self, at: usize)
+        ensures stage { stage_at self.new.schedule.places.items at ≡ stage.Free }
+        ensures others { SameBut at self.old.schedule.places.items self.new.schedule.places.items }
+        ensures counters { self.new.schedule.counters ≡ self.old.schedule.counters }
+    {
+        if let Some(socket) = self.sockets.get_mut(at) {
+            *socket = None;
+        }
+        self.schedule.free(at);
+    }
+
+    // Drops a connection whose answer was not taken whole, or which was refused.
+    fn drop_at<L: LineLog>(&mut self, at: usize, log: &mut L)
+        ensures stage { stage_at self.new.schedule.places.items at ≡ stage.Free }
+        ensures others { SameBut at self.old.schedule.places.items self.new.schedule.places.items }
+        ensures counters { self.new.schedule.counters ≡ self.old.schedule.counters }
+    {
+        if let Some(line) = self.take_line(at) {
+            log.told(LogLine { sent: None, ..line });
+        }
         self.free(at);
+    }
+
+    // The line that is told of the connection.
+    fn take_line(&mut self, at: usize) -> Option<LogLine>
+        ensures { self.new.schedule ≡ self.old.schedule }
+    {
+        match self.sockets.get_mut(at) {
+            Some(place) => match place {
+                Some(socket) => socket.take_line(),
+                None => None,
+            },
+            None => None,
+        }
     }
 
     // Drops connections until no more is kept than may be.
     fn lighten<L: LineLog>(&mut self, log: &mut L) {
         for _ in 0..MOST_PLACES {
-            if !are_too_heavy(self.places.as_slice()) {
-                return;
-            }
-            let Some(at) = heaviest(self.places.as_slice()) else {
+            let Some(at) = self.schedule.too_heavy() else {
                 return;
             };
             if let Some(Some(socket)) = self.sockets.get_mut(at) {
                 socket.forget(self.alloc);
             }
             self.give_up(at, log);
-            self.set_sizes(at, 0, 0);
+            self.schedule.keeps(at, 0, 0);
         }
     }
 
@@ -210,39 +177,28 @@ impl<'a, C: Clock, F: Front + Drop> Hall<'a, C, F> {
     /// Takes in a connection that was accepted, and reads what has come.
     pub fn admit<L: LineLog>(&mut self, registry: &Registry, stream: TcpStream, log: &mut L) {
         let socket = Socket::new(self.alloc, stream);
-        let number = self.accepted;
-        self.accepted = self.accepted.saturating_add(1);
-        let place = Place {
-            stage: Stage::Asking,
-            number,
-            end: self.now.saturating_add(self.patience),
-            asked: 0,
-            unsent: 0,
+        let Ok(at) = self.schedule.take_in() else {
+            return;
         };
-        if let Ok(at) = self.put(place, socket) {
+        if self.put(at, socket).is_ok() {
             self.take_in(registry, at, log);
+        } else {
+            self.schedule.free(at);
         }
     }
 
-    fn put(&mut self, place: Place, socket: Socket<F::Content>) -> Result<usize, AllocError> {
-        if let Some(at) = free_place(self.places.as_slice()) {
-            if let Some(free) = self.places.get_mut(at) {
-                *free = place;
-            }
-            if let Some(free) = self.sockets.get_mut(at) {
-                *free = Some(socket);
-            }
-            return Ok(at);
+    fn put(&mut self, at: usize, socket: Socket<F::Content>) -> Result<(), AllocError> {
+        if let Some(free) = self.sockets.get_mut(at) {
+            *free = Some(socket);
+            return Ok(());
         }
-        let at = self.places.len();
-        self.places.push(place)?;
         self.sockets.push(Some(socket))?;
-        Ok(at)
+        Ok(())
     }
 
     /// Has a connection do what its socket is ready for.
     pub fn go_on<L: LineLog>(&mut self, registry: &Registry, at: usize, log: &mut L) {
-        match self.stage_of(at) {
+        match self.schedule.stage(at) {
             Stage::Asking => self.take_in(registry, at, log),
             Stage::Answered(_) => self.put_out(registry, at, log),
             Stage::Refused(_) => self.drain(registry, at),
@@ -271,18 +227,18 @@ impl<'a, C: Clock, F: Front + Drop> Hall<'a, C, F> {
             }
         };
         if is_settled {
-            self.set_stage(at, Stage::Due(self.rounds));
+            self.schedule.settle(at);
         }
-        self.set_sizes(at, asked, 0);
+        self.schedule.keeps(at, asked, 0);
         self.lighten(log);
     }
 
     /// The connection that is carried out next, with its place, and what was read of its request.
     pub fn take_turn(&mut self) -> Option<(usize, Socket<F::Content>)> {
-        let at = next_turn(self.places.as_slice())?;
+        let at = self.schedule.next_turn()?;
         let taken = self.sockets.get_mut(at)?;
         let socket = std::mem::replace(taken, None)?;
-        self.set_stage(at, Stage::InTurn);
+        self.schedule.begin_turn(at);
         Some((at, socket))
     }
 
@@ -336,6 +292,8 @@ impl<'a, C: Clock, F: Front + Drop> Hall<'a, C, F> {
                 content,
                 left: length,
                 last: self
+                    .schedule
+                    .counters
                     .now
                     .saturating_add(Duration::from_secs(CONTENT_SECONDS)),
             }),
@@ -370,13 +328,12 @@ impl<'a, C: Clock, F: Front + Drop> Hall<'a, C, F> {
         socket: Socket<F::Content>,
         log: &mut L,
     ) {
+        let last = socket.last();
         if let Some(place) = self.sockets.get_mut(at) {
             *place = Some(socket);
         }
         self.tell_time();
-        self.set_stage(at, Stage::Answered(self.answers));
-        self.set_end(at, self.now.saturating_add(self.patience));
-        self.answers = self.answers.saturating_add(1);
+        self.schedule.begin_answer(at, last);
         self.put_out(registry, at, log);
     }
 
@@ -387,8 +344,7 @@ impl<'a, C: Clock, F: Front + Drop> Hall<'a, C, F> {
         };
         let before = socket.sent();
         let readiness = socket.put_out();
-        let end = socket.content_end(self.now, self.patience);
-        let goes_on = socket.sent() > before;
+        let goes_on = socket.has_content() && socket.sent() > before;
         match readiness {
             Readiness::Done => {
                 self.end_sent(registry, at, log);
@@ -410,12 +366,10 @@ impl<'a, C: Clock, F: Front + Drop> Hall<'a, C, F> {
             self.drop_at(at, log);
             return;
         }
-        if let Some(end) = end {
-            if goes_on {
-                self.set_end(at, end);
-            }
+        if goes_on {
+            self.schedule.goes_on(at);
         }
-        self.set_sizes(at, 0, unsent);
+        self.schedule.keeps(at, 0, unsent);
         self.lighten(log);
     }
 
@@ -433,12 +387,7 @@ impl<'a, C: Clock, F: Front + Drop> Hall<'a, C, F> {
         };
         log.told(line);
         if is_refused && socket.close_writing() {
-            self.set_sizes(at, 0, 0);
-            self.set_stage(at, refused_after(self.stage_of(at)));
-            self.set_end(
-                at,
-                self.now.saturating_add(Duration::from_secs(LINGER_SECONDS)),
-            );
+            self.schedule.refuse(at);
             self.drain(registry, at);
         } else {
             self.free(at);
@@ -463,14 +412,6 @@ impl<'a, C: Clock, F: Front + Drop> Hall<'a, C, F> {
         if !goes_on {
             self.free(at);
         }
-    }
-}
-
-// Where a connection stands whose answer refused it and was taken.
-fn refused_after(stage: Stage) -> Stage {
-    match stage {
-        Stage::Answered(answer) => Stage::Refused(answer),
-        _ => Stage::Refused(0),
     }
 }
 

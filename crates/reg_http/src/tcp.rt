@@ -2,11 +2,11 @@
 ghost use Rattle.std.specs.Prelude.{◌≡◌, IfOk};
 
 use crate::front::{Front, NoFront};
-use crate::hall::Hall;
 use crate::log::{LineLog, LogLine};
 use crate::peers::{Peers, Ports};
 use crate::place::MOST_PLACES;
 use crate::socket::Socket;
+use crate::table::ConnectionTable;
 use mio::net::TcpListener;
 use mio::{Events, Interest, Poll, Token};
 use std::alloc::Global;
@@ -23,7 +23,7 @@ const LISTENER: usize = usize::MAX;
 
 /// The connections of a listener, waited for all at once.
 #[derive(Drop)]
-pub struct Crowd<'a, C: Clock, F: Front + Drop> {
+pub struct TcpPeers<'a, C: Clock, F: Front + Drop> {
     /// Where they come.
     pub address: SocketAddr,
     /// How long a peer has to send its request, and again to take the answer.
@@ -34,7 +34,7 @@ pub struct Crowd<'a, C: Clock, F: Front + Drop> {
     listener: Option<TcpListener>,
     poll: Poll,
     events: Events,
-    hall: Hall<'a, C, F>,
+    table: ConnectionTable<'a, C, F>,
     // How many are still accepted.
     left: u32,
     // Whether some may wait to be accepted.
@@ -51,7 +51,7 @@ pub struct TcpPorts<'a, H> {
 }
 
 impl<'a, H: Clock + Net> Ports for TcpPorts<'a, H> {
-    type Given = Crowd<'a, H, NoFront>;
+    type Given = TcpPeers<'a, H, NoFront>;
 
     ghost Opened = { λ _ address patience count peers. (peers.address ≡ address)
         × (peers.patience ≡ patience) × (peers.count ≡ count) };
@@ -62,20 +62,20 @@ impl<'a, H: Clock + Net> Ports for TcpPorts<'a, H> {
         address: SocketAddr,
         patience: Duration,
         count: u32,
-    ) -> io::Result<Crowd<'a, H, NoFront>> {
-        crowd_at(self.rt, alloc, address, patience, count, NoFront)
+    ) -> io::Result<TcpPeers<'a, H, NoFront>> {
+        peers_at(self.rt, alloc, address, patience, count, NoFront)
     }
 }
 
 /// The connections at an address, with this in front of the office.
-pub fn crowd_at<'a, H: Clock + Net, F: Front + Drop>(
+pub fn peers_at<'a, H: Clock + Net, F: Front + Drop>(
     rt: &'a H,
     alloc: Global,
     address: SocketAddr,
     patience: Duration,
     count: u32,
     front: F,
-) -> io::Result<Crowd<'a, H, F>>
+) -> io::Result<TcpPeers<'a, H, F>>
     ensures { IfOk result (λ c. (c.address ≡ address) × (c.patience ≡ patience)
         × (c.count ≡ count)) }
 {
@@ -86,35 +86,35 @@ pub fn crowd_at<'a, H: Clock + Net, F: Front + Drop>(
     let Ok(events) = Events::with_capacity(alloc, MOST_EVENTS) else {
         return Err(ErrorKind::OutOfMemory.into());
     };
-    Ok(Crowd {
+    Ok(TcpPeers {
         address,
         patience,
         count,
         listener: Some(listener),
         poll,
         events,
-        hall: Hall::new(alloc, rt, front, patience),
+        table: ConnectionTable::new(alloc, rt, front, patience),
         left: count,
         is_knocked: true,
         is_short: false,
     })
 }
 
-impl<C: Clock, F: Front + Drop> Crowd<'_, C, F> {
+impl<C: Clock, F: Front + Drop> TcpPeers<'_, C, F> {
     // Waits until a socket is ready or a connection ends by the clock, and does what can be done.
     fn go_round<L: LineLog>(&mut self, log: &mut L) -> io::Result<()> {
         let leisure = self.leisure();
         self.poll.poll(&mut self.events, leisure)?;
-        self.hall.begin_round();
+        self.table.begin_round();
         for event in self.events.iter() {
             let Token(at) = event.token();
             if at == LISTENER {
                 self.is_knocked = true;
             } else {
-                self.hall.go_on(self.poll.registry(), at, log);
+                self.table.go_on(self.poll.registry(), at, log);
             }
         }
-        self.hall.end_overdue(log);
+        self.table.end_overdue(log);
         self.accept_all(log);
         Ok(())
     }
@@ -124,7 +124,7 @@ impl<C: Clock, F: Front + Drop> Crowd<'_, C, F> {
         if self.is_knocked {
             Some(Duration::ZERO)
         } else {
-            self.hall.leisure()
+            self.table.leisure()
         }
     }
 
@@ -139,7 +139,7 @@ impl<C: Clock, F: Front + Drop> Crowd<'_, C, F> {
     }
 
     fn has_room(&self) -> bool {
-        !self.is_short && self.hall.has_room()
+        !self.is_short && self.table.schedule.has_room()
     }
 
     fn accept_one<L: LineLog>(&mut self, log: &mut L) {
@@ -150,7 +150,7 @@ impl<C: Clock, F: Front + Drop> Crowd<'_, C, F> {
         match listener.accept() {
             Ok((stream, _)) => {
                 self.left = self.left.saturating_sub(1);
-                self.hall.admit(self.poll.registry(), stream, log);
+                self.table.admit(self.poll.registry(), stream, log);
             }
             Err(error) => match error.kind() {
                 ErrorKind::WouldBlock => self.is_knocked = false,
@@ -166,9 +166,9 @@ impl<C: Clock, F: Front + Drop> Crowd<'_, C, F> {
 
     // Has a connection give way to one that waits to be accepted, if there is one that can.
     fn make_way<L: LineLog>(&mut self, log: &mut L) {
-        self.hall.make_way(log);
+        self.table.make_way(log);
         self.is_short = false;
-        if self.hall.is_empty() {
+        if self.table.schedule.is_empty() {
             self.is_knocked = false;
         }
     }
@@ -176,13 +176,13 @@ impl<C: Clock, F: Front + Drop> Crowd<'_, C, F> {
 
 /// What is read of a connection whose turn it is.
 #[derive(Drop)]
-pub struct CrowdReader<T> {
+pub struct TcpReader<T> {
     at: usize,
     socket: Socket<T>,
     read: usize,
 }
 
-impl<T: Read + Drop> Read for CrowdReader<T> {
+impl<T: Read + Drop> Read for TcpReader<T> {
     fn read(&mut self, buf: &mut [u8]) -> io::Result<usize> {
         let mut rest = &self.socket.bytes[self.read.min(self.socket.bytes.len())..];
         let count = rest.read(buf)?;
@@ -196,12 +196,12 @@ impl<T: Read + Drop> Read for CrowdReader<T> {
 
 /// What is written to it.
 #[derive(Drop)]
-pub struct CrowdWriter<T> {
+pub struct TcpWriter<T> {
     at: usize,
     socket: Socket<T>,
 }
 
-impl<T: Read + Drop> Write for CrowdWriter<T> {
+impl<T: Read + Drop> Write for TcpWriter<T> {
     fn write(&mut self, buf: &[u8]) -> io::Result<usize> {
         self.socket.write(buf)
     }
@@ -211,21 +211,21 @@ impl<T: Read + Drop> Write for CrowdWriter<T> {
     }
 }
 
-impl<C: Clock, F: Front + Drop> Peers for Crowd<'_, C, F> {
-    type Reader = CrowdReader<F::Content>;
+impl<C: Clock, F: Front + Drop> Peers for TcpPeers<'_, C, F> {
+    type Reader = TcpReader<F::Content>;
 
-    type Writer = CrowdWriter<F::Content>;
+    type Writer = TcpWriter<F::Content>;
 
-    fn next<L: LineLog>(&mut self, log: &mut L) -> Option<CrowdReader<F::Content>> {
+    fn next<L: LineLog>(&mut self, log: &mut L) -> Option<TcpReader<F::Content>> {
         for _ in 0..u64::MAX {
-            if self.listener.is_none() && self.hall.is_asked_no_more() {
+            if self.listener.is_none() && self.table.schedule.is_asked_no_more() {
                 return None;
             }
             self.go_round(log).ok()?;
-            if let Some((at, socket)) = self.hall.take_turn() {
+            if let Some((at, socket)) = self.table.take_turn() {
                 let registry = self.poll.registry();
-                if let Some(socket) = self.hall.answer_in_front(registry, at, socket, log) {
-                    return Some(CrowdReader {
+                if let Some(socket) = self.table.answer_in_front(registry, at, socket, log) {
+                    return Some(TcpReader {
                         at,
                         socket,
                         read: 0,
@@ -238,26 +238,26 @@ impl<C: Clock, F: Front + Drop> Peers for Crowd<'_, C, F> {
         None
     }
 
-    fn turned(&mut self, reader: CrowdReader<F::Content>) -> CrowdWriter<F::Content> {
-        let CrowdReader {
+    fn turned(&mut self, reader: TcpReader<F::Content>) -> TcpWriter<F::Content> {
+        let TcpReader {
             at,
             socket,
             read: _,
         } = reader;
         let mut socket = socket;
         socket.bytes.clear();
-        CrowdWriter { at, socket }
+        TcpWriter { at, socket }
     }
 
-    fn end<L: LineLog>(&mut self, writer: CrowdWriter<F::Content>, line: LogLine, log: &mut L) {
-        let CrowdWriter { at, socket } = writer;
-        self.hall
+    fn end<L: LineLog>(&mut self, writer: TcpWriter<F::Content>, line: LogLine, log: &mut L) {
+        let TcpWriter { at, socket } = writer;
+        self.table
             .put_back(self.poll.registry(), at, socket, line, log);
     }
 
     fn finish<L: LineLog>(&mut self, log: &mut L) {
         for _ in 0..u64::MAX {
-            if self.hall.is_empty() || self.go_round(log).is_err() {
+            if self.table.schedule.is_empty() || self.go_round(log).is_err() {
                 return;
             }
         }

@@ -8,7 +8,7 @@ use std::io::{ErrorKind, Read};
 
 /// What the bytes that have come say: what `read_request` makes of them.
 #[derive(Clone, Copy, Debug, PartialEq, Eq)]
-pub(crate) enum Outlook {
+pub(crate) enum Completeness {
     /// They are a whole request.
     Whole,
     /// Something is wrong with them, whatever follows.
@@ -37,7 +37,7 @@ impl Read for Came<'_> {
 }
 
 /// What these bytes say of the request that they begin.
-pub(crate) fn outlook_of(alloc: Global, bytes: &[u8]) -> Outlook {
+pub(crate) fn completeness_of(alloc: Global, bytes: &[u8]) -> Completeness {
     let mut came = Came {
         rest: bytes,
         wanted: 0,
@@ -46,10 +46,10 @@ pub(crate) fn outlook_of(alloc: Global, bytes: &[u8]) -> Outlook {
     match read_request(alloc, &mut came, &mut watch) {
         Ok(message) => {
             drop(message);
-            Outlook::Whole
+            Completeness::Whole
         }
-        Err(Unread::Refused(_)) => Outlook::Refused,
-        Err(Unread::Read) => Outlook::Wants(came.wanted),
-        Err(Unread::Memory) => Outlook::Unknown,
+        Err(Unread::Refused(_)) => Completeness::Refused,
+        Err(Unread::Read) => Completeness::Wants(came.wanted),
+        Err(Unread::Memory) => Completeness::Unknown,
     }
 }

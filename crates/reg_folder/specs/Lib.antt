@@ -1,0 +1,5 @@
+pub mod Path
+pub mod Media
+pub mod Head
+pub mod Answers
+pub mod Laws
