@@ -19,13 +19,13 @@ exec $real "\$@"
 ENDS
     chmod 755 /mnt/steps/$name
 done'''
-# Runs the script up to its N-th call, and prints whether it was killed.
-UP_TO = '''echo 0 >/mnt/steps/calls; chmod 666 /mnt/steps/calls; echo {number} >/mnt/steps/last; {half}
+# Runs the script up to its N-th call, and prints whether it was killed, which is 137.
+UP_TO = '''sleep 1; echo 0 >/mnt/steps/calls; chmod 666 /mnt/steps/calls; echo {number} >/mnt/steps/last; {half}
 runuser -u registry -- env PATH=/mnt/steps:$PATH SEND_TO=/mnt/elsewhere /usr/lib/reg-cli/registry-publish >/dev/null 2>&1; echo $?'''
 DEFINE = f'''printf 'lo,hi,treatment,note\\n0,1,reserved,\\n' | curl -s -X PUT -H "Authorization: Bearer $(cat clerk.token)" \\
   --data-binary @- {OFFICE}/desk/registries/{{name}}/1'''
 SEEN = "tail -n 1 /srv/www/registers/changes.csv | grep -o '[0-9a-f]*$'"
-LOSE = '''systemctl stop registry-publish.timer registry; rm -rf /root/back
+LOSE = '''systemctl stop registry-publish.timer registry; systemctl reset-failed; rm -rf /root/back
 find /var/lib/registry /var/backups/registry /srv/www/registers -mindepth 1 -delete'''
 VERIFY = 'reg_cli verify /srv/www/registers --digest {digest}'
 # A key that may only add files: what is there can be neither replaced nor deleted nor read.
@@ -53,6 +53,7 @@ def lose_at(system, number, half):
         system.expect(line, wanted)
     system.expect('systemctl is-failed registry-publish || true', 'inactive')
     system.expect(VERIFY.format(digest=digest), 'verified ..')
+    system.tally.judge(status in ('0', '137'), f'registry-publish ended at its call {number} with {status}')
     return status == '137'
 
 

@@ -35,7 +35,7 @@ CERTIFICATE = f'''set -e; echo 127.0.0.1 registry.example.org >>/etc/hosts; mkdi
 touch {MAIL}; chmod 666 {MAIL}; printf '#!/bin/sh\ncat >>{MAIL}\n' >/usr/local/bin/mail; chmod 755 /usr/local/bin/mail
 for name in {' '.join(TIMERS)}; do
     mkdir -p /etc/systemd/system/$name.timer.d
-    printf '[Timer]\nOnCalendar=\nOnCalendar=2999-01-01\n' >/etc/systemd/system/$name.timer.d/trial.conf
+    printf '[Timer]\nOnCalendar=\nOnCalendar=2150-01-01\n' >/etc/systemd/system/$name.timer.d/trial.conf
 done'''
 # What the kills left in the journal is not to be found.
 FORGET = 'journalctl -q --rotate; journalctl -q --vacuum-time=1s'
@@ -66,7 +66,10 @@ class System:
         words = ['nsenter', '-t', str(self.first), '-p', '-m', '-u', '-i', '-n', '-C', 'env', *(f'{name}={value}' for name, value in self.clock.items()),
                  'sh', '-c', f'cd /root; {command}']
         env = {'PATH': '/usr/local/sbin:/usr/local/bin:/usr/sbin:/usr/bin:/sbin:/bin', 'HOME': '/root', 'CURL_CA_BUNDLE': f'{KEYS}/fullchain.pem'}
-        done = subprocess.run(words, env=env, capture_output=True, timeout=120, check=False)
+        try:
+            done = subprocess.run(words, env=env, capture_output=True, timeout=120, check=False)
+        except subprocess.TimeoutExpired:
+            return '', 'it took more than two minutes', 1
         return done.stdout.decode(), done.stderr.decode(), done.returncode
 
     def expect(self, command, wanted):

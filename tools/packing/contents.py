@@ -59,7 +59,7 @@ runs on  x86-64 with a C library (glibc) of {least} or later: {runs_on}
 The program has this sum at /usr/lib/reg-cli/program. It was built from the tree of this commit by `rt run` in crates/reg_cli, which leaves no program
 unless each function of it and of its libraries is proved to meet its contract. `.ci/run` repeats these proofs from nothing, tries wrong versions that the prover
 must refuse, and tests the program. docs/assurance/PROMISES.md says what is proved, docs/assurance/TRUSTED.md what is trusted, and docs/assurance/TESTED.md
-what is only tested. Who made the package vouches for the sum; to see it yourself, build the program from this commit by this kit.
+what is only tested. Whoever made the package vouches that the program was built from this commit. To see it yourself, build it with this kit.
 
 The owner has given no licence.
 '''

@@ -23,13 +23,17 @@ RECEIPT = 'grep -c "^sha256   $(sha256sum </usr/lib/reg-cli/program | cut -c-64)
 # What the demonstration prints until it can be looked at, whether its desk is there, and that it ends.
 DEMONSTRATION = '''reg_cli-demo >shown & demo=$!; for n in $(seq 200); do grep -q Ctrl-C shown && break; sleep 0.1; done
 curl -s -o /dev/null -w '%{http_code}\\n' "$(sed -n 's/^desk *//p' shown)"; kill -INT $demo; kill $demo; wait $demo; echo ended'''
+# Where there is no systemd, the package is the program alone.
+BARE = [('for name in sysusers tmpfiles; do mount --bind /dev/null /usr/bin/systemd-$name; done', ''), (INSTALL.format(1), '..'),
+        ('umount /usr/bin/systemd-sysusers /usr/bin/systemd-tmpfiles; reg_cli --version', 'reg_cli 3.0.0 (office version 3)'),
+        ('id -u registry 2>/dev/null || echo nobody', 'nobody'), ('dpkg --purge reg-cli', '..')]
 INSTALLED = [
     (INSTALL.format(1), '..'), (STATUS, '3.0.0-1 install ok installed'), (IN_USE, 'program'), ('reg_cli --version', 'reg_cli 3.0.0 (office version 3)'),
     (f'systemctl is-enabled {UNITS} || true', 'disabled, disabled, disabled, disabled'), ('systemctl is-active registry || true', 'inactive'),
     (RIGHTS, '700 registry /var/lib/registry, 700 registry /var/backups/registry, 755 registry /srv/www/registers, 755 root /usr/share/reg-cli/desk, '
              '644 root /etc/reg-cli/apply.txt'),
     (RECEIPT, '1'), ('grep -c "given no licence" /usr/share/doc/reg-cli/copyright', '1'), (COMPLETED, 'check, --port'),
-    (f'systemd-analyze verify --man=no /lib/systemd/system/registry*.timer {" ".join(f"/lib/systemd/system/{unit}" for unit in UNITS.split())} 2>&1', ''),
+    (f'systemd-analyze verify --man=no /lib/systemd/system/registry*.timer {" ".join(f"/lib/systemd/system/{unit}" for unit in UNITS.split())} 2>&1 | wc -l', '0'),
     ('systemd-analyze security --offline=true --no-pager /lib/systemd/system/registry.service | tail -n 1', '→ Overall exposure level for registry.service: 1..'),
     ('[ -e /usr/share/reg-cli/desk/index.html ] && cmp /usr/share/reg-cli/desk/apply.txt /usr/share/doc/reg-cli/docs/use/APPLYING.md && echo same', 'same')]
 UPGRADED = [(f'{PROCESS} >process; {SERVED} >before; {INSTALL.format(2)}', '..'), (STATUS, '3.0.0-2 install ok installed'), (IN_USE, 'program'),
@@ -44,14 +48,15 @@ DAMAGED_SERVED = [(f'{KEEP}; for file in {DATABASE}*; do dd if=/dev/zero of=$fil
                   (f'systemctl stop registry; {MEND}; systemctl start registry; dpkg --configure reg-cli', '..'), (IN_USE, 'program'),
                   (f'{SERVED} | cmp - before && echo same', 'same')]
 DAMAGED_STOPPED = [(f'systemctl stop registry; {KEEP}; sqlite3 {DATABASE} "UPDATE entries SET first = -1"; chown registry: {DATABASE}*; sha256sum {DATABASE} >sum', '..'),
-                   (REFUSED.format(2), '1,  fault: not ours..'), (IN_USE, 'former'), ('systemctl is-active registry || true', 'inactive'),
+                   (REFUSED.format(2), '1,  fault: not ours,  a row of the table entries is malformed'), (IN_USE, 'former'),
+                   ('systemctl is-active registry || true', 'inactive'),
                    ('sha256sum --quiet -c sum && echo same', 'same'), (f'{MEND}; dpkg --configure reg-cli', '..'), (IN_USE, 'program'),
                    (f'systemctl start registry; {SERVED} | cmp - before && echo same', 'same')]
 REMOVED = [('systemctl enable registry-due.timer; apt-get -q -y remove reg-cli', '..'), ('systemctl is-active registry registry-due.timer || true', 'inactive, inactive'),
            ('ls -d /usr/bin/reg_cli /usr/lib/reg-cli 2>/dev/null | wc -l', '0'), ('ls /etc/systemd/system/*.wants | grep -c registry || true', '0'),
            (f'[ -s {DATABASE} ] && ls /etc/reg-cli', 'apply.txt, office.conf'),
            (f'{INSTALL.format(2)}; systemctl start registry', '..'), (f'{SERVED} | cmp - before && echo same', 'same')]
-PURGED = [('apt-get -q -y purge reg-cli 2>&1 | grep -c "removes them by hand"', '1'), ('[ -e /etc/reg-cli ] || echo gone', 'gone'),
+PURGED = [('apt-get -q -y purge reg-cli 2>&1 | grep -c "remove them by hand"', '1'), ('[ -e /etc/reg-cli ] || echo gone', 'gone'),
           (f'[ -s {DATABASE} ] && id -un registry && ls /var/backups/registry | wc -l', '..'), ('ps -u registry -o pid= | wc -l', '0')]
 NO_CHECK = '''#!/bin/sh
 [ "$1" != check ] || { printf 'fault: not ours\\na row of the table entries is malformed\\n' >&2; exit 1; }
@@ -78,7 +83,7 @@ def run_all(system, commands):
 
 def try_install(system, program):
     """Installs the package, looks at what it has, and purges it."""
-    run_all(system, INSTALLED)
+    run_all(system, BARE + INSTALLED)
     jobs = sorted(set(re.findall(r'^  ([a-z]+)  ', subprocess.run([program, '--help'], capture_output=True, encoding='utf-8', check=True).stdout, re.M)) - {'help'})
     system.expect(MANUAL, ' '.join(jobs))
     if '--site' in system.run('reg_cli serve --help')[0]:
