@@ -1,5 +1,7 @@
 """The disk is lost at each step of registry-publish, and the office comes back from what was sent, by the page's commands."""
-from guide.system import OFFICE, blocks
+import re
+
+from guide.system import OFFICE, PAGE, blocks
 
 # Each command of registry-publish that does something. The N-th call kills the script before it is done, or half done: then rsync has made the folder
 # of a copy, and put nothing into it.
@@ -28,12 +30,20 @@ SEEN = "tail -n 1 /srv/www/registers/changes.csv | grep -o '[0-9a-f]*$'"
 LOSE = '''systemctl stop registry-publish.timer registry; systemctl reset-failed; rm -rf /root/back
 find /var/lib/registry /var/backups/registry /srv/www/registers -mindepth 1 -delete'''
 VERIFY = 'reg_cli verify /srv/www/registers --digest {digest}'
-# A key that may only add files: what is there can be neither replaced nor deleted nor read.
-ONLY_ADDS = r'''set -e; mkdir -p /srv/office; printf '#!/bin/sh\nshift; SSH_ORIGINAL_COMMAND="$*" exec rrsync -wo -no-del -no-overwrite /srv/office\n' >/root/by-key
-chmod 755 /root/by-key; rm -rf /root/one; mkdir -p /root/one/a; echo kept >/root/one/a/office.db; rsync -a -e /root/by-key /root/one/ elsewhere:
-echo replaced >/root/one/a/office.db; touch -d '1 hour' /root/one/a/office.db; rsync -a -e /root/by-key /root/one/ elsewhere:
-cat /srv/office/a/office.db; mkdir /root/none; ! rsync -a --delete -e /root/by-key /root/none/ elsewhere: 2>/dev/null
-! rsync -a -e /root/by-key elsewhere:a/office.db /root/none/ 2>/dev/null; cat /srv/office/a/office.db; rm -r /root/one /root/none /srv/office'''
+# The page's command of a key that may only add files: what is there can be neither replaced nor added to nor deleted nor read.
+[COMMAND_OF_KEY] = re.findall('^command="(.*)",restrict ', PAGE.read_text(), re.M)
+ONLY_ADDS = r"""set -e; mkdir -p /srv/office one/a none; cat >by-key <<'END'
+#!/bin/sh
+shift; export SSH_ORIGINAL_COMMAND="$*"
+%s
+END
+chmod 755 by-key; echo kept >one/a/office.db; rsync -a --ignore-existing --exclude .lock -e ./by-key one/ elsewhere:
+echo replaced >one/a/office.db; touch -d '1 hour' one/a/office.db
+for asked in --times --inplace --append --backup --remote-option=--log-file=a/office.db; do rsync -a $asked -e ./by-key one/ elsewhere: || true; done
+for asked in --delete --delete-before; do rsync -a $asked -e ./by-key none/ elsewhere: || true; done
+rsync -a -e ./by-key elsewhere:a/office.db none/ || true
+echo more >one/a/changes.csv; rsync -a --ignore-existing --exclude .lock -e ./by-key one/ elsewhere:
+cat /srv/office/a/office.db /srv/office/a/changes.csv; ls -A /srv/office/a none | wc -l; rm -r one none by-key /srv/office""" % COMMAND_OF_KEY.replace('\\"', '"')
 
 
 def restored():
@@ -76,15 +86,15 @@ def restore_older(system):
     system.expect(note.format('newer'), '')
     system.expect(restore.format('older'), 'well kept, To publish again: systemctl start registry-publish.timer')
     system.expect('systemctl start registry-publish 2>/dev/null || journalctl -u registry-publish -o cat -n 20 | grep -A 1 ^fault',
-                  'fault: history, value 0-1 of newer was published, and is not in the office as it was')
+                  'fault: history, range 0-1 of newer was published, and is not in the office as it was')
     system.expect('ls -d /var/backups/registry/2*.of-$(basename $(cat older) | cut -c -20) | wc -l', '1')
     system.expect('reg_cli check $(cat newer)/office.db', 'version 3, well kept, ..')
-    system.expect(restore.format('newer'), 'well kept, To publish again: systemctl start registry-publish.timer')
+    system.expect(f'sleep 1; {restore.format("newer")}', 'well kept, To publish again: systemctl start registry-publish.timer')
     system.expect(f'sleep 1; systemctl start registry-publish; curl -s {OFFICE}/registries | grep -c newer', '1')
 
 
 def losses(system):
     """All of these."""
-    system.expect(ONLY_ADDS, 'kept, kept')
+    system.expect(ONLY_ADDS, 'kept, more, 5')
     lose_at_each_step(system)
     restore_older(system)

@@ -4,6 +4,7 @@ import csv
 import datetime
 import io
 import json
+import math
 import os
 import re
 import shlex
@@ -23,6 +24,8 @@ DATED = [SITE, 'var/lib/registry/site']
 # Each process reads the clock's difference from that of the machine whenever it asks for the time. The journal keeps the machine's time.
 CLOCK = {'LD_PRELOAD': '/usr/$LIB/faketime/libfaketime.so.1', 'FAKETIME_TIMESTAMP_FILE': '/etc/clock', 'FAKETIME_NO_CACHE': '1',
          'FAKETIME_DONT_FAKE_MONOTONIC': '1', 'NO_FAKE_STAT': '1', 'FAKETIME_SKIP_CMDS': 'journalctl'}
+# A day takes about a second, and by itself systemd starts a job only five times in ten.
+OFTEN = '[Unit]\nStartLimitIntervalSec=0\n'
 # The blocks that set up an office, by their headings.
 SETUP = {'As a service': range(9), 'A proxy with TLS': [0, 1], 'Publishing': range(3), 'The desk in the browser': range(9), 'Monitoring': range(9)}
 # When the jobs of timers are run that are due then: the second on the first day of a month, and people send their requests before the last.
@@ -83,9 +86,12 @@ class Year:
     # ---- The clock
 
     def set_clock(self, day, text):
-        """Sets the clock of the service and of all commands. What libfaketime leaves in memory is removed: numbers of processes come again."""
+        """Sets the clock of the service and of all commands, to less than a second after this time.
+
+        What libfaketime leaves in memory is removed: numbers of processes come again.
+        """
         self.moment = datetime.datetime.fromisoformat(f'{day} {text}+00:00')
-        (self.root / 'etc/clock').write_text(f'{self.moment.timestamp() - time.time():+.0f}\n')
+        (self.root / 'etc/clock').write_text(f'{math.ceil(self.moment.timestamp() - time.time()):+}\n')
         for left in (self.root / 'dev/shm').glob('*faketime*'):
             left.unlink()
 
@@ -111,7 +117,7 @@ class Year:
         for name in ('registry', *TIMERS):
             unit = self.root / f'etc/systemd/system/{name}.service.d/clock.conf'
             unit.parent.mkdir()
-            unit.write_text('[Service]\n' + ''.join(f'Environment={name}={value}\n' for name, value in CLOCK.items()))
+            unit.write_text(OFTEN * (name in TIMERS) + '[Service]\n' + ''.join(f'Environment={word}={value}\n' for word, value in CLOCK.items()))
         self.system.clock = CLOCK
         self.set_clock(EVE, '09:00')
         for place, block in blocks():
