@@ -353,7 +353,8 @@ class Year:
         recorded = [(record['Moment'][:10], record['Register'], record['Change'], record['Value']) for record in records]
         self.judge_same('the history', sorted(recorded), sorted(self.books.changes))
         said, noted = f'verified {len(records)} changes, last {records[-1]["Digest"]}', self.digest and f' --digest {self.digest}'
-        self.expect(command('reg_cli verify /srv/www/registers') + noted, said)
+        [[verify, _]] = commands('Publishing', 1)
+        self.expect(verify + noted, said)
         for line, wanted in commands('Publishing', 3):
             self.expect(line, wanted and said)
         self.digest = records[-1]['Digest'][:16]

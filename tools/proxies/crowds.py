@@ -27,7 +27,7 @@ BUFFERED = '        buffer_requests\n', '        buffer_requests\n        buffer
 HARMS = [(nginx, 'heads', ('worker_connections 8192', 'worker_connections 768'), 'wait'),
          (nginx, 'heads', ('    client_header_timeout 10s;\n', '    client_header_timeout 120s;\n'), 'free'),
          (nginx, 'bodies', ('    client_body_timeout 10s;\n', '    client_body_timeout 120s;\n'), 'free'),
-         (nginx, 'readers', ('    limit_conn registry_connections 32;\n', ''), 'disk'),
+         (nginx, 'readers', ('        limit_conn registry_office 8;\n', ''), 'wait'),
          (nginx, 'readers', ('    send_timeout 10s;\n', '    send_timeout 120s;\n'), 'free'),
          (caddy, 'heads', ('            read_header 10s\n            read_body 10s\n', ''), 'free'),
          (caddy, 'bodies', ('            read_body 10s\n', ''), 'free'),
