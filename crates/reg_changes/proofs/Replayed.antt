@@ -12,20 +12,20 @@ use Rattle.reg_changes.specs.Subjects.{same_subject, subject_cmp, is_entry, entr
 use Rattle.reg_changes.specs.Replay.{Said, SaysAfter, SomeFact, IsAbout, IsLost, NothingIsLost, StandsIf, after, changes_to, facts_say, nothing, recorded, replay, same_given, same_standing, stands, with_standing, with_standing_at, without}
 use Rattle.reg_changes.specs.KeepingUp.{AllStand, IsPartSaid, KeepsUp, without_all}
 use Rattle.reg_changes.specs.Said.{DoesNotStand, TellsLoss, said_by}
-use Rattle.reg_changes.specs.declared.change.Change.{Change}
-use Rattle.reg_changes.specs.declared.change.Change.TheVariants.{Made, Term}
+use Rattle.reg_changes.specs.declared.change.PublishedChange.{PublishedChange}
+use Rattle.reg_changes.specs.declared.change.PublishedChange.TheVariants.{Made, Term}
 use Rattle.reg_changes.specs.declared.change.Class.{Class}
 use Rattle.reg_changes.specs.declared.change.Class.TheVariants as class
 use Rattle.reg_changes.specs.declared.change.Details.{Details}
 use Rattle.reg_changes.specs.declared.change.Fact.{Fact}
-use Rattle.reg_changes.specs.declared.change.Standing.{Standing}
+use Rattle.reg_changes.specs.declared.change.PublishedStanding.{PublishedStanding}
 use Rattle.reg_changes.specs.declared.change.Subject.{Subject}
 use Rattle.reg_changes.specs.declared.said.Unrecorded.{Unrecorded}
 use Rattle.reg_changes.specs.declared.said.Unrecorded.TheVariants.{Memory, Lost}
 use Rattle.reg_changes.proofs.SameSubjects.{same_subject-exact, same_subject-refl}
 
 -- replaying goes on where it was
-pub replay-append : (said : Said) (xs ys : List Change)
+pub replay-append : (said : Said) (xs ys : List PublishedChange)
     → replay said (xs ++ ys) ≡ replay (replay said xs) ys
 replay-append said [] ys = refl
 replay-append said (x ∷ xs) ys = replay-append (after said x) xs ys
@@ -35,7 +35,7 @@ replay-append said (x ∷ xs) ys = replay-append (after said x) xs ys
 text-is : (a b : List ℕ) → same_text a b ≡ true → a ≡ b
 text-is a b = (bytes_eq-Decides a b).0
 
-standing-is : (a b : Standing) → same_standing a b ≡ true → a ≡ b
+standing-is : (a b : PublishedStanding) → same_standing a b ≡ true → a ≡ b
 standing-is a b e =
     let expires = text-is a.expires b.expires (first_so _ _ e) in
     let held = text-is a.held b.held (second_so _ _ e) in
@@ -167,7 +167,7 @@ some_fact h (fact ∷ facts) (inl here) = inl (h fact here)
 some_fact h (fact ∷ facts) (inr later) = inr (some_fact h facts later)
 
 -- the main step: what was recorded, and then what is recorded of facts, says what these facts say
-pub replayed : (old : List Change) (facts : List Fact) → AllStand (replay nothing old) facts
+pub replayed : (old : List PublishedChange) (facts : List Fact) → AllStand (replay nothing old) facts
     → NothingIsLost (replay nothing old) facts → (s : Subject)
     → replay nothing (old ++ changes_to (replay nothing old) facts) s ≡ facts_say nothing facts s
 replayed old facts stood kept s =
@@ -229,7 +229,7 @@ keeps_up-start whole facts = record {
 }
 
 pub keeps_up-next : (whole : Said) (facts : List Fact) (said said' : Said) (fact : Fact)
-    (rest : List Fact) (changes changes' : List Change)
+    (rest : List Fact) (changes changes' : List PublishedChange)
     → KeepsUp whole facts said (fact ∷ rest) changes
     → ((s : Subject) → said' s ≡ without fact.subject said s)
     → StandsIf (said fact.subject) fact → changes' ≡ changes ++ recorded (said fact.subject) fact
@@ -256,7 +256,7 @@ keeps_up-next whole facts said said' fact rest changes changes' k same stood e =
 
 -- a fact by which what was said does not stand tells a loss
 pub keeps_up-lost : (whole : Said) (facts : List Fact) (said : Said) (fact : Fact)
-    (rest : List Fact) (changes : List Change) (before : Details)
+    (rest : List Fact) (changes : List PublishedChange) (before : Details)
     → KeepsUp whole facts said (fact ∷ rest) changes → said fact.subject ≡ Some before
     → stands before fact ≡ false → IsLost whole facts fact.subject
 keeps_up-lost whole facts said fact rest changes before k was e = record {
@@ -268,7 +268,7 @@ keeps_up-lost whole facts said fact rest changes before k was e = record {
 }
 
 -- and so does what is left at the end
-pub keeps_up-left : (whole : Said) (facts : List Fact) (said : Said) (changes : List Change)
+pub keeps_up-left : (whole : Said) (facts : List Fact) (said : Said) (changes : List PublishedChange)
     (s : Subject) (before : Details) → KeepsUp whole facts said [] changes
     → said s ≡ Some before → IsLost whole facts s
 keeps_up-left whole facts said changes s before k was =
@@ -276,21 +276,21 @@ keeps_up-left whole facts said changes s before k was =
     record { before = before; was_said = over.0; gone = inl over.1 }
 
 -- where nothing is left at the end, nothing is lost
-pub keeps_up-kept : (whole : Said) (facts : List Fact) (said : Said) (changes : List Change)
+pub keeps_up-kept : (whole : Said) (facts : List Fact) (said : Said) (changes : List PublishedChange)
     → KeepsUp whole facts said [] changes → ((s : Subject) → said s ≡ None)
     → NothingIsLost whole facts
 keeps_up-kept whole facts said changes k none =
     nothing_lost facts whole (k.stood tt) (λ s. ap (λ (f : Said). f s) k.left ∙ none s)
 
 -- and then replaying says what the facts say
-pub keeps_up-says : (whole : Said) (facts : List Fact) (said : Said) (changes : List Change)
+pub keeps_up-says : (whole : Said) (facts : List Fact) (said : Said) (changes : List PublishedChange)
     → KeepsUp whole facts said [] changes → ((s : Subject) → said s ≡ None)
     → SaysAfter whole facts changes
 keeps_up-says whole facts said changes k none old same s =
     let now : whole ≡ replay nothing old = λ i t. same t i in
     let e : changes ≡ changes_to (replay nothing old) facts =
     sym (append-nil changes) ∙ sym k.made ∙ ap (λ (f : Said). changes_to f facts) now in
-    ap (λ (c : List Change). replay nothing (old ++ c) s) e
+    ap (λ (c : List PublishedChange). replay nothing (old ++ c) s) e
     ∙ replayed old facts (subst (λ (f : Said). AllStand f facts) now (k.stood tt))
     (subst (λ (f : Said). NothingIsLost f facts) now (keeps_up-kept whole facts said changes k none))
     s
@@ -325,7 +325,7 @@ says_nothing map empty s = none map.entries empty where
 
 -- what tells a loss at a fact tells it of all
 pub tells_loss : (whole : Said) (facts : List Fact) (said : Said) (fact : Fact) (rest : List Fact)
-    (changes : List Change) (o : Option Details) (e : Unrecorded)
+    (changes : List PublishedChange) (o : Option Details) (e : Unrecorded)
     → KeepsUp whole facts said (fact ∷ rest) changes → o ≡ said fact.subject
     → DoesNotStand o fact e → TellsLoss whole facts e
 tells_loss whole facts said fact rest changes o Memory k was h = tt
@@ -336,7 +336,7 @@ tells_loss whole facts said fact rest changes (Some before) (Lost subject) k was
 
 -- a subject is taken out, and put back with another standing
 pub standing_set : (said said' said'' : Said) (s : Subject) (details details' : Details)
-    (standing : Standing) → Some details ≡ said s → details' ≡ with_standing standing details
+    (standing : PublishedStanding) → Some details ≡ said s → details' ≡ with_standing standing details
     → ((q : Subject) → said' q ≡ cond (same_subject s q) None (said q))
     → ((q : Subject) → said'' q ≡ cond (same_subject s q) (Some details') (said' q))
     → (q : Subject) → said'' q ≡ with_standing_at s standing said q
@@ -350,7 +350,7 @@ standing_set said said' said'' s details details' standing was set out back q =
     ]
 
 -- nothing is said of a subject of which nothing was said
-pub standing_none : (said said' : Said) (s : Subject) (standing : Standing) → None ≡ said s
+pub standing_none : (said said' : Said) (s : Subject) (standing : PublishedStanding) → None ≡ said s
     → ((q : Subject) → said' q ≡ cond (same_subject s q) None (said q))
     → (q : Subject) → said' q ≡ with_standing_at s standing said q
 standing_none said said' s standing was out q =

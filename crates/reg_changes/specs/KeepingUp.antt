@@ -1,7 +1,7 @@
 -- Facts that are compared one after the other with what was said.
 use Rattle.std.specs.Prelude.{◌≡◌, ◌⊎◌, false, List, [], ◌∷◌, ◌++◌, None}
 use Rattle.reg_changes.specs.Replay.{Said, SomeFact, StandsBy, StandsIf, changes_to, without}
-use Rattle.reg_changes.specs.declared.change.Change.{Change}
+use Rattle.reg_changes.specs.declared.change.PublishedChange.{PublishedChange}
 use Rattle.reg_changes.specs.declared.change.Details.{Details}
 use Rattle.reg_changes.specs.declared.change.Fact.{Fact}
 use Rattle.reg_changes.specs.declared.change.Subject.{Subject}
@@ -24,7 +24,7 @@ IsPartSaid part said = (s : Subject) → (part s ≡ None) ⊎ (part s ≡ said 
 -- What is so of all facts follows from what is so of those that are left: what is recorded of them,
 -- that what was said stands by them, and what of it is left.
 pub record KeepsUp (whole : Said) (facts : List Fact) (said : Said) (rest : List Fact)
-    (changes : List Change) : Type 0 where
+    (changes : List PublishedChange) : Type 0 where
   pub made : changes_to whole facts ≡ changes ++ changes_to said rest
   pub stood : AllStand said rest → AllStand whole facts
   pub left : without_all whole facts ≡ without_all said rest

@@ -3,15 +3,15 @@ use Rattle.std.specs.Prelude.{◌≡◌, ◌⊎◌, ℕ, Bool, true, false, ◌&
 use Rattle.std.specs.Ordering.{is_le}
 use Rattle.reg_maps.specs.Maps.{text_cmp, same_text}
 use Rattle.reg_changes.specs.Subjects.{same_subject, is_entry, entry_at}
-use Rattle.reg_changes.specs.declared.change.Change.{Change}
-use Rattle.reg_changes.specs.declared.change.Change.TheVariants.{Made, Term}
+use Rattle.reg_changes.specs.declared.change.PublishedChange.{PublishedChange}
+use Rattle.reg_changes.specs.declared.change.PublishedChange.TheVariants.{Made, Term}
 use Rattle.reg_changes.specs.declared.change.Details.{Details}
 use Rattle.reg_changes.specs.declared.change.Fact.{Fact}
-use Rattle.reg_changes.specs.declared.change.Standing.{Standing}
+use Rattle.reg_changes.specs.declared.change.PublishedStanding.{PublishedStanding}
 use Rattle.reg_changes.specs.declared.change.Subject.{Subject}
 
 -- what a change is about
-abbrev pub subject_of : Change → Subject
+abbrev pub subject_of : PublishedChange → Subject
 subject_of (Made fact) = fact.subject
 subject_of (Term registry value standing) = entry_at registry value
 
@@ -26,25 +26,25 @@ abbrev pub nothing : Said
 nothing subject = None
 
 -- details with another standing
-abbrev pub with_standing : Standing → Details → Details
+abbrev pub with_standing : PublishedStanding → Details → Details
 with_standing standing details = record details { standing = standing }
 
 -- what is said where a subject has another standing, if anything is said of it
-abbrev pub with_standing_at : Subject → Standing → Said → Said
+abbrev pub with_standing_at : Subject → PublishedStanding → Said → Said
 with_standing_at subject standing said other =
     if same_subject subject other then option_map (with_standing standing) (said other)
     else said other
 
 -- what is said after one more change: of the subject that it is about what it says, and of any other
 -- what was said before
-abbrev pub after : Said → Change → Said
+abbrev pub after : Said → PublishedChange → Said
 after said (Made fact) subject =
     if same_subject fact.subject subject then Some fact.details else said subject
 after said (Term registry value standing) subject =
     with_standing_at (entry_at registry value) standing said subject
 
 -- what is said after changes, one after the other
-abbrev pub replay : Said → List Change → Said
+abbrev pub replay : Said → List PublishedChange → Said
 replay said [] = said
 replay said (change ∷ changes) = replay (after said change) changes
 
@@ -56,7 +56,7 @@ facts_say said (fact ∷ facts) = facts_say (after said (Made fact)) facts
 -- ---- What has to be recorded
 
 -- the same standing
-abbrev pub same_standing : Standing → Standing → Bool
+abbrev pub same_standing : PublishedStanding → PublishedStanding → Bool
 same_standing a b = same_text a.expires b.expires && same_text a.held b.held
 
 -- the same but for the standing
@@ -81,7 +81,7 @@ stands before fact =
     && is_no_earlier before.standing.expires fact.details.standing.expires))
 
 -- what is recorded of a fact, by what was said about its subject
-abbrev pub recorded : Option Details → Fact → List Change
+abbrev pub recorded : Option Details → Fact → List PublishedChange
 recorded None fact = Made fact ∷ []
 recorded (Some before) fact =
     if same_standing before.standing fact.details.standing then []
@@ -92,7 +92,7 @@ abbrev pub without : Subject → Said → Said
 without subject said other = if same_subject subject other then None else said other
 
 -- what is recorded of facts, each of which is compared with what was said about its subject
-abbrev pub changes_to : Said → List Fact → List Change
+abbrev pub changes_to : Said → List Fact → List PublishedChange
 changes_to said [] = []
 changes_to said (fact ∷ facts) =
     recorded (said fact.subject) fact ++ changes_to (without fact.subject said) facts
@@ -132,8 +132,8 @@ StandsIf (Some before) fact = stands before fact ≡ true
 
 -- Where these changes are recorded after those by which something is said, then replaying all of them
 -- says of each subject just what the facts say of it.
-abbrev pub SaysAfter : Said → List Fact → List Change → Type 0
+abbrev pub SaysAfter : Said → List Fact → List PublishedChange → Type 0
 SaysAfter said facts changes =
-    (old : List Change) → ((subject : Subject) → said subject ≡ replay nothing old subject)
+    (old : List PublishedChange) → ((subject : Subject) → said subject ≡ replay nothing old subject)
     → (subject : Subject)
     → replay nothing (old ++ changes) subject ≡ facts_say nothing facts subject

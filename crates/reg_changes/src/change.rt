@@ -71,7 +71,7 @@ pub struct Subject {
 
 /// How long an entry stands; both are empty of anything else.
 #[derive(Debug, Drop)]
-pub struct Standing {
+pub struct PublishedStanding {
     /// The day from which it no longer stands; empty where there is none.
     pub expires: Field,
     /// `held`, or empty.
@@ -84,7 +84,7 @@ pub struct Details {
     pub description: Field,
     pub policy: Field,
     pub first: Field,
-    pub standing: Standing,
+    pub standing: PublishedStanding,
     pub assignee: Field,
 }
 
@@ -97,19 +97,19 @@ pub struct Fact {
 
 /// A change of what is published.
 #[derive(Debug, Drop)]
-pub enum Change {
+pub enum PublishedChange {
     /// A subject is published for the first time.
     Made(Fact),
     /// The entry of this registry at this value stands for another time now.
-    Term(Field, Field, Standing),
+    Term(Field, Field, PublishedStanding),
 }
 
 /// A change, and when it was published. Its number and its digest follow from the records before it.
 #[derive(Debug, Drop)]
-pub struct Record {
+pub struct HistoryRecord {
     /// As `YYYY-MM-DDThh:mm:ssZ`.
     pub moment: Field,
-    pub change: Change,
+    pub change: PublishedChange,
 }
 
 impl Subject {
@@ -125,12 +125,12 @@ impl Subject {
     }
 }
 
-impl Standing {
+impl PublishedStanding {
     /// An equal standing. Only want of memory is an error.
     pub fn copy(&self) -> Result<Self, AllocError>
         ensures { IfOk result (λ standing. standing ≡ self.now) }
     {
-        Ok(Standing {
+        Ok(PublishedStanding {
             expires: self.expires.copy()?,
             held: self.held.copy()?,
         })
@@ -152,7 +152,7 @@ impl Details {
     }
 
     /// The details with another standing.
-    pub fn with_standing(self, standing: Standing) -> Self
+    pub fn with_standing(self, standing: PublishedStanding) -> Self
         ensures { result ≡ record self { standing = standing } }
     {
         Details {
@@ -177,14 +177,14 @@ impl Fact {
     }
 }
 
-impl Change {
+impl PublishedChange {
     /// An equal change. Only want of memory is an error.
     pub fn copy(&self) -> Result<Self, AllocError>
         ensures { IfOk result (λ change. change ≡ self.now) }
     {
         match self {
-            Change::Made(fact) => Ok(Change::Made(fact.copy()?)),
-            Change::Term(registry, value, standing) => Ok(Change::Term(
+            PublishedChange::Made(fact) => Ok(PublishedChange::Made(fact.copy()?)),
+            PublishedChange::Term(registry, value, standing) => Ok(PublishedChange::Term(
                 registry.copy()?,
                 value.copy()?,
                 standing.copy()?,
@@ -197,8 +197,8 @@ impl Change {
         ensures { result.now ≡ registry_of self.now }
     {
         match self {
-            Change::Made(fact) => &fact.subject.registry,
-            Change::Term(registry, _, _) => registry,
+            PublishedChange::Made(fact) => &fact.subject.registry,
+            PublishedChange::Term(registry, _, _) => registry,
         }
     }
 
@@ -207,8 +207,8 @@ impl Change {
         ensures { result.now ≡ change_word self.now }
     {
         match self {
-            Change::Made(fact) => fact.subject.class.word(),
-            Change::Term(_, _, _) => "term",
+            PublishedChange::Made(fact) => fact.subject.class.word(),
+            PublishedChange::Term(_, _, _) => "term",
         }
     }
 
@@ -217,8 +217,8 @@ impl Change {
         ensures { result.now ≡ value_of self.now }
     {
         match self {
-            Change::Made(fact) => fact.subject.value.as_str(),
-            Change::Term(_, value, _) => value.as_str(),
+            PublishedChange::Made(fact) => fact.subject.value.as_str(),
+            PublishedChange::Term(_, value, _) => value.as_str(),
         }
     }
 
@@ -227,8 +227,8 @@ impl Change {
         ensures { result.now ≡ description_of self.now }
     {
         match self {
-            Change::Made(fact) => fact.details.description.as_str(),
-            Change::Term(_, _, _) => "",
+            PublishedChange::Made(fact) => fact.details.description.as_str(),
+            PublishedChange::Term(_, _, _) => "",
         }
     }
 
@@ -237,8 +237,8 @@ impl Change {
         ensures { IfOk result (λ subject. subject ≡ subject_of self.now) }
     {
         match self {
-            Change::Made(fact) => fact.subject.copy(),
-            Change::Term(registry, value, _) => Ok(Subject {
+            PublishedChange::Made(fact) => fact.subject.copy(),
+            PublishedChange::Term(registry, value, _) => Ok(Subject {
                 registry: registry.copy()?,
                 class: Class::Entry,
                 value: value.copy()?,

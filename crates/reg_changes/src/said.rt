@@ -3,10 +3,10 @@ ghost use Rattle.std.specs.Prelude.{◌≡◌, ◌++◌, true, IfOk, IfErr, OnOk
 ghost use Rattle.reg_changes.specs.Replay.{NothingIsLost, StandsIf, after, changes_to, is_no_earlier, recorded, same_given, same_standing, stands, with_standing_at, SaysAfter};
 ghost use Rattle.reg_changes.specs.Subjects.{is_entry};
 ghost use Rattle.reg_changes.specs.Said.{Says, said_by, DoesNotStand, TellsLoss};
-ghost use Rattle.reg_changes.specs.declared.change.Change.TheVariants.{Term};
+ghost use Rattle.reg_changes.specs.declared.change.PublishedChange.TheVariants.{Term};
 ghost use Rattle.reg_changes.specs.declared.said.Unrecorded.TheVariants as un;
 
-use crate::change::{Change, Class, Details, Fact, Standing, Subject};
+use crate::change::{Class, Details, Fact, PublishedChange, PublishedStanding, Subject};
 use crate::field::Field;
 use std::alloc::{AllocError, AllocFailed, Global};
 use std::collections::BTreeMap;
@@ -41,7 +41,11 @@ impl<T: Drop> From<AllocFailed<T>> for Unrecorded {
 
 /// What has to be recorded of these facts, where this was said; or what was lost. Each fact is compared
 /// with what was said of its subject, and at the end nothing that was said may be left.
-pub fn changes_to(alloc: Global, mut said: Said, facts: &[Fact]) -> Result<Vec<Change>, Unrecorded>
+pub fn changes_to(
+    alloc: Global,
+    mut said: Said,
+    facts: &[Fact],
+) -> Result<Vec<PublishedChange>, Unrecorded>
     ensures changes { IfOk result (λ v. v.items ≡ changes_to (said_by said) facts.now) }
     ensures kept { OnOk result (NothingIsLost (said_by said) facts.now) }
     ensures replayed { IfOk result (λ v. SaysAfter (said_by said) facts.now v.items) }
@@ -60,7 +64,10 @@ pub fn changes_to(alloc: Global, mut said: Said, facts: &[Fact]) -> Result<Vec<C
 }
 
 // Adds a change, if there is one.
-fn push_if(changes: &mut Vec<Change>, change: Option<Change>) -> Result<(), AllocError>
+fn push_if(
+    changes: &mut Vec<PublishedChange>,
+    change: Option<PublishedChange>,
+) -> Result<(), AllocError>
     ensures { OnOk result (changes.new.items ≡ changes.old.items ++ option_to_list change) }
 {
     if let Some(change) = change {
@@ -71,13 +78,16 @@ fn push_if(changes: &mut Vec<Change>, change: Option<Change>) -> Result<(), Allo
 
 /// What has to be recorded of a fact, if anything has to be, by what was said of its subject; or what was
 /// lost.
-pub fn change_to(before: Option<Details>, fact: &Fact) -> Result<Option<Change>, Unrecorded>
+pub fn change_to(
+    before: Option<Details>,
+    fact: &Fact,
+) -> Result<Option<PublishedChange>, Unrecorded>
     ensures change { IfOk result (λ change. option_to_list change ≡ recorded before fact.now) }
     ensures stands { OnOk result (StandsIf before fact.now) }
     ensures lost { IfErr result (DoesNotStand before fact.now) }
 {
     let Some(before) = before else {
-        return Ok(Some(Change::Made(fact.copy()?)));
+        return Ok(Some(PublishedChange::Made(fact.copy()?)));
     };
     if !stands(&before, fact) {
         return Err(Unrecorded::Lost(fact.subject.copy()?));
@@ -89,11 +99,11 @@ pub fn change_to(before: Option<Details>, fact: &Fact) -> Result<Option<Change>,
 }
 
 // The change by which the entry of a fact has its standing.
-fn term_of(fact: &Fact) -> Result<Change, AllocError>
+fn term_of(fact: &Fact) -> Result<PublishedChange, AllocError>
     ensures { IfOk result (λ change. change
         ≡ Term fact.now.subject.registry fact.now.subject.value fact.now.details.standing) }
 {
-    Ok(Change::Term(
+    Ok(PublishedChange::Term(
         fact.subject.registry.copy()?,
         fact.subject.value.copy()?,
         fact.details.standing.copy()?,
@@ -119,7 +129,7 @@ fn same_given(before: &Details, now: &Details) -> bool
         && before.assignee == now.assignee
 }
 
-fn same_standing(before: &Standing, now: &Standing) -> bool
+fn same_standing(before: &PublishedStanding, now: &PublishedStanding) -> bool
     ensures { result ≡ same_standing before.now now.now }
 {
     before.expires == now.expires && before.held == now.held
@@ -141,15 +151,15 @@ fn is_no_earlier(before: &Field, now: &Field) -> bool
 }
 
 /// Says one change more. Only want of memory is an error.
-pub fn apply(said: &mut Said, change: Change) -> Result<(), AllocError>
+pub fn apply(said: &mut Said, change: PublishedChange) -> Result<(), AllocError>
     ensures { OnOk result (Says said.new (after (said_by said.old) change)) }
 {
     match change {
-        Change::Made(fact) => {
+        PublishedChange::Made(fact) => {
             said.insert(fact.subject, fact.details)?;
             Ok(())
         }
-        Change::Term(registry, value, standing) => set_standing(
+        PublishedChange::Term(registry, value, standing) => set_standing(
             said,
             Subject {
                 registry,
@@ -162,7 +172,11 @@ pub fn apply(said: &mut Said, change: Change) -> Result<(), AllocError>
 }
 
 // Gives what is said of a subject another standing, if anything is.
-fn set_standing(said: &mut Said, subject: Subject, standing: Standing) -> Result<(), AllocError>
+fn set_standing(
+    said: &mut Said,
+    subject: Subject,
+    standing: PublishedStanding,
+) -> Result<(), AllocError>
     ensures { OnOk result
         (Says said.new (with_standing_at subject standing (said_by said.old))) }
 {

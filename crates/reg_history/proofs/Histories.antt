@@ -8,13 +8,13 @@ use Rattle.std.proofs.lemmas.Grind.{common_steps}
 use Rattle.std.proofs.lemmas.Bool.{and_from, cases_Bool, eqb-true}
 use Rattle.reg_maps.specs.Maps.{text_cmp}
 use Rattle.reg_history.specs.Chain.{Chained, at, begun, chain_from, chained, next_digest, next_line, record_of, says, with_record}
-use Rattle.reg_changes.specs.declared.change.Record.{Record}
+use Rattle.reg_changes.specs.declared.change.HistoryRecord.{HistoryRecord}
 use Rattle.reg_history.specs.History.{AddsRecord, IsHistory, IsHistoryOf, SaysJust, IsWrongAfter, TakesRecord, TellsWrong, later}
 use Rattle.reg_history.specs.Overview.{AddsToOverview}
 use Rattle.reg_changes.specs.Replay.{Said, SaysAfter, after, nothing, replay}
 use Rattle.reg_changes.specs.Said.{Says, TellsLoss, said_by}
 use Rattle.reg_history.specs.declared.chain.Line.{Line}
-use Rattle.reg_changes.specs.declared.change.Change.{Change}
+use Rattle.reg_changes.specs.declared.change.PublishedChange.{PublishedChange}
 use Rattle.reg_changes.specs.declared.change.Fact.{Fact}
 use Rattle.reg_history.specs.declared.history.History.{History}
 use Rattle.reg_history.specs.declared.history.Unreadable.{Unreadable}
@@ -24,7 +24,7 @@ use Rattle.reg_changes.proofs.Replayed.{replay-append}
 
 -- ---- Chains
 
-pub chain_from-append : (c : Chained) (xs ys : List Record)
+pub chain_from-append : (c : Chained) (xs ys : List HistoryRecord)
     → chain_from c (xs ++ ys) ≡ chain_from (chain_from c xs) ys
 chain_from-append c [] ys = refl
 chain_from-append c (x ∷ xs) ys = chain_from-append (with_record c x) xs ys
@@ -35,7 +35,7 @@ map-append f [] ys = refl
 map-append f (x ∷ xs) ys = ap (λ t. f x ∷ t) (map-append f xs ys)
 
 -- more records only add to the text
-pub grows : (c : Chained) (records : List Record)
+pub grows : (c : Chained) (records : List HistoryRecord)
     → (more : List ℕ) × ((chain_from c records).text ≡ c.text ++ more)
 grows c [] = ([], sym (append-nil c.text))
 grows c (r ∷ records) =
@@ -44,28 +44,28 @@ grows c (r ∷ records) =
 
 -- ---- Records that are added
 
-pub text-more : (records : List Record) (r : Record) (l : Line)
+pub text-more : (records : List HistoryRecord) (r : HistoryRecord) (l : Line)
     → l.bytes.items ≡ next_line (chained records).digests r
     → (chained (records ++ r ∷ [])).text ≡ (chained records).text ++ l.bytes.items
 text-more records r l line =
     ap (λ (k : Chained). k.text) (chain_from-append begun records (r ∷ []))
     ∙ ap (λ b. (chained records).text ++ b) (sym line)
 
-pub says-more : (records : List Record) (r : Record)
+pub says-more : (records : List HistoryRecord) (r : HistoryRecord)
     → says (records ++ r ∷ []) ≡ after (says records) r.change
 says-more records r =
-    ap (replay nothing) (map-append (λ (x : Record). x.change) records (r ∷ []))
-    ∙ replay-append nothing (map (λ (x : Record). x.change) records) (r.change ∷ [])
+    ap (replay nothing) (map-append (λ (x : HistoryRecord). x.change) records (r ∷ []))
+    ∙ replay-append nothing (map (λ (x : HistoryRecord). x.change) records) (r.change ∷ [])
 
 -- a history with one record more
-pub history-more : (h h' : History) (records : List Record) (moment : List ℕ) (change : Change) (l : Line)
+pub history-more : (h h' : History) (records : List HistoryRecord) (moment : List ℕ) (change : PublishedChange) (l : Line)
     → IsHistory h records → is_le (text_cmp h.moment moment) ≡ true
     → Says h'.said (after (said_by h.said) change)
     → AddsToOverview h'.overview records (record_of moment change) l
     → h'.chain.digests.items ≡ h.chain.digests.items ++ l.digest ∷ []
     → h'.moment ≡ moment → IsHistory h' (records ++ record_of moment change ∷ [])
 history-more h h' records moment change l is ordered said adds digests now =
-    let r : Record = record_of moment change in
+    let r : HistoryRecord = record_of moment change in
     let grown = chain_from-append begun records (r ∷ []) in
     let was : said_by h.said ≡ says records = λ i s. is.said s i in
     let order : (with_record (chained records) r).in_order ≡ true =
@@ -84,21 +84,21 @@ history-more h h' records moment change l is ordered said adds digests now =
       in_order = ap (λ (k : Chained). k.in_order) grown ∙ order;
     }
 
-pub adds_record : (h h' : History) (records : List Record) (moment : List ℕ) (change : Change) (l : Line)
+pub adds_record : (h h' : History) (records : List HistoryRecord) (moment : List ℕ) (change : PublishedChange) (l : Line)
     → IsHistory h records → is_le (text_cmp h.moment moment) ≡ true
     → Says h'.said (after (said_by h.said) change)
     → AddsToOverview h'.overview records (record_of moment change) l
     → h'.chain.digests.items ≡ h.chain.digests.items ++ l.digest ∷ []
     → h'.moment ≡ moment → AddsRecord h' records (record_of moment change) l.bytes.items
 adds_record h h' records moment change l is ordered said adds digests now =
-    let r : Record = record_of moment change in
+    let r : HistoryRecord = record_of moment change in
     record {
       grown = history-more h h' records moment change l is ordered said adds digests now;
       text = text-more records r l adds.line;
     }
 
 -- a text that begins with the bytes of the record is that much shorter
-pub takes_record : (h : History) (records : List Record) (r : Record) (bytes text rest : List ℕ)
+pub takes_record : (h : History) (records : List HistoryRecord) (r : HistoryRecord) (bytes text rest : List ℕ)
     → AddsRecord h records r bytes → text ≡ bytes ++ rest → TakesRecord h records text rest
 takes_record h records r bytes text rest adds e = record {
   more = records ++ r ∷ [];
@@ -113,7 +113,7 @@ nothing_left [] e = refl
 nothing_left (x ∷ xs) e = absurd (omega (arith, eqb-true (length (x ∷ xs)) 0 e))
 
 -- where nothing is left of a text, it is all read
-pub takes_all : (h : History) (records : List Record) (text rest : List ℕ)
+pub takes_all : (h : History) (records : List HistoryRecord) (text rest : List ℕ)
     → TakesRecord h records text rest → rest ≡ []
     → IsHistoryOf h ((chained records).text ++ text)
 takes_all h records text rest t none = (
@@ -136,7 +136,7 @@ later-le last now = elim (cases_Bool (is_le (text_cmp last now))) [
 ]
 
 -- what is published at one moment is in order after what is not later
-pub in_order-at : (c : Chained) (moment : List ℕ) (changes : List Change) → c.in_order ≡ true
+pub in_order-at : (c : Chained) (moment : List ℕ) (changes : List PublishedChange) → c.in_order ≡ true
     → is_le (text_cmp c.moment moment) ≡ true
     → (chain_from c (at moment changes)).in_order ≡ true
 in_order-at c moment [] h le = h
@@ -144,22 +144,22 @@ in_order-at c moment (x ∷ xs) h le =
     in_order-at (with_record c (record_of moment x)) moment xs
     (and_from c.in_order (is_le (text_cmp c.moment moment)) h le) (text-le-itself moment)
 
-pub changes-at : (moment : List ℕ) (changes : List Change)
-    → map (λ (x : Record). x.change) (at moment changes) ≡ changes
+pub changes-at : (moment : List ℕ) (changes : List PublishedChange)
+    → map (λ (x : HistoryRecord). x.change) (at moment changes) ≡ changes
 changes-at moment [] = refl
 changes-at moment (x ∷ xs) = ap (λ t. x ∷ t) (changes-at moment xs)
 
 -- where nothing would be recorded, and nothing is lost, the records say just what the facts say
-pub says_just : (h : History) (records : List Record) (facts : List Fact) (changes : List Change)
+pub says_just : (h : History) (records : List HistoryRecord) (facts : List Fact) (changes : List PublishedChange)
     → IsHistory h records → SaysAfter (said_by h.said) facts changes → changes ≡ []
     → SaysJust records facts
 says_just h records facts changes is says_after none s =
-    let old = map (λ (x : Record). x.change) records in
+    let old = map (λ (x : HistoryRecord). x.change) records in
     ap (λ cs. replay nothing cs s) (sym (append-nil old) ∙ ap (λ cs. old ++ cs) (sym none))
     ∙ says_after old is.said s
 
 -- what tells a loss tells it of what the records say
-pub tells_of_records : (h : History) (records : List Record) (facts : List Fact) (why : Unrecorded)
+pub tells_of_records : (h : History) (records : List HistoryRecord) (facts : List Fact) (why : Unrecorded)
     → IsHistory h records → TellsLoss (said_by h.said) facts why → TellsLoss (says records) facts why
 tells_of_records h records facts why is told =
     let was : said_by h.said ≡ says records = λ i s. is.said s i in
@@ -179,7 +179,7 @@ first-none (x ∷ xs) e = cc e
 
 -- ---- Records that are wrong
 
-counted-from : (c : Chained) (rs : List Record)
+counted-from : (c : Chained) (rs : List HistoryRecord)
     → length (chain_from c rs).digests ≡ length c.digests + length rs
 counted-from c [] = omega arith
 counted-from c (r ∷ rs) =
@@ -188,18 +188,18 @@ counted-from c (r ∷ rs) =
     grind (arith, common_steps) in omega arith)
 
 -- there is a digest for each record
-pub counted : (records : List Record) → length (chained records).digests ≡ length records
+pub counted : (records : List HistoryRecord) → length (chained records).digests ≡ length records
 counted records = counted-from begun records ∙ zero-add (length records)
 
-pub wrong_after : (h : History) (before : List Record) → IsHistory h before
+pub wrong_after : (h : History) (before : List HistoryRecord) → IsHistory h before
     → length h.chain.digests.items + 1 ≡ length before + 1
 wrong_after h before is = ap (λ ds. length ds + 1) is.digests
     ∙ ap (λ n. n + 1) (counted-from begun before ∙ zero-add (length before))
 
 -- what is wrong after the records that were taken is wrong in the text
-pub tells_wrong : (h : History) (records : List Record) (text rest : List ℕ) (why : Unreadable)
+pub tells_wrong : (h : History) (records : List HistoryRecord) (text rest : List ℕ) (why : Unreadable)
     → TakesRecord h records text rest
-    → ((before : List Record) → IsHistory h before → IsWrongAfter (length before) why)
+    → ((before : List HistoryRecord) → IsHistory h before → IsWrongAfter (length before) why)
     → TellsWrong ((chained records).text ++ text) why
 tells_wrong h records text rest Memory t wrong = tt
 tells_wrong h records text rest Header t wrong = absurd (wrong t.more t.grown)

@@ -10,8 +10,8 @@ use Rattle.reg_history.specs.Chain.{Chained, begun, chained, digest, line, next_
 use Rattle.reg_history.specs.Overview.{AddsToOverview, IsOverview, Notes, last_of, moment_by, tied}
 use Rattle.reg_changes.specs.Recorded.{last_changed, registry_of}
 use Rattle.reg_history.specs.declared.chain.Line.{Line}
-use Rattle.reg_changes.specs.declared.change.Change.{Change}
-use Rattle.reg_changes.specs.declared.change.Record.{Record}
+use Rattle.reg_changes.specs.declared.change.PublishedChange.{PublishedChange}
+use Rattle.reg_changes.specs.declared.change.HistoryRecord.{HistoryRecord}
 use Rattle.reg_history.specs.declared.overview.Overview.{Overview}
 use Rattle.reg_history.specs.declared.overview.Tied.{Tied}
 use Rattle.reg_history.proofs.Changed.{changed_last}
@@ -71,8 +71,8 @@ either : (b : Bool) (v w : Option (List ℕ)) (x y : List ℕ) → unwrap_or v [
 either true v w x y e f = e
 either false v w x y e f = f
 
-pub changed-more : (m m' : BTreeMap (List ℕ) (List ℕ)) (records : List Record) (moment : List ℕ)
-    (change : Change) → ((name : List ℕ) → moment_by m name ≡ last_changed records name)
+pub changed-more : (m m' : BTreeMap (List ℕ) (List ℕ)) (records : List HistoryRecord) (moment : List ℕ)
+    (change : PublishedChange) → ((name : List ℕ) → moment_by m name ≡ last_changed records name)
     → Notes m m' moment change → (name : List ℕ)
     → moment_by m' name ≡ last_changed (records ++ record_of moment change ∷ []) name
 changed-more m m' records moment change was noted name =
@@ -85,7 +85,7 @@ changed-more m m' records moment change was noted name =
 
 -- ---- One record more
 
-pub overview_more : (o o' : Overview) (records : List Record) (moment : List ℕ) (change : Change)
+pub overview_more : (o o' : Overview) (records : List HistoryRecord) (moment : List ℕ) (change : PublishedChange)
     (l : Line) (number : ℕ) (before : List ℕ) → IsOverview o records → number ≡ o.count + 1
     → before ≡ unwrap_or o.last [] → l.bytes.items ≡ line before number (record_of moment change)
     → l.digest ≡ digest before number (record_of moment change) → o'.count ≡ number
@@ -95,7 +95,7 @@ pub overview_more : (o o' : Overview) (records : List Record) (moment : List ℕ
     → Notes o.changed o'.changed moment change → AddsToOverview o' records (record_of moment change) l
 overview_more o o' records moment change l number before is counts last line_is digest_is count' first'
     last' recent' noted =
-    let r : Record = record_of moment change in
+    let r : HistoryRecord = record_of moment change in
     let ds : List (List ℕ) = (chained records).digests in
     let next : number ≡ length ds + 1 = counts ∙ ap (λ n. n + 1) is.counted in
     let tie = last ∙ ap (λ (o : Option (List ℕ)). unwrap_or o []) is.last in

@@ -10,10 +10,10 @@ use Rattle.reg_history.specs.Recording.{Aim, Ends, IsBegunOn, IsRecorded, Record
 use Rattle.reg_changes.specs.Replay.{IsLost, Said, StandsIf, changes_to, nothing, recorded, replay, without}
 use Rattle.reg_changes.specs.Said.{DoesNotStand, said_by}
 use Rattle.reg_history.specs.declared.chain.Line.{Line}
-use Rattle.reg_changes.specs.declared.change.Change.{Change}
+use Rattle.reg_changes.specs.declared.change.PublishedChange.{PublishedChange}
 use Rattle.reg_changes.specs.declared.change.Details.{Details}
 use Rattle.reg_changes.specs.declared.change.Fact.{Fact}
-use Rattle.reg_changes.specs.declared.change.Record.{Record}
+use Rattle.reg_changes.specs.declared.change.HistoryRecord.{HistoryRecord}
 use Rattle.reg_changes.specs.declared.change.Subject.{Subject}
 use Rattle.reg_history.specs.declared.history.History.{History}
 use Rattle.reg_history.specs.declared.recorder.Recorded.{Recorded}
@@ -25,7 +25,7 @@ use Rattle.reg_changes.proofs.Replayed.{keeps_up-kept, keeps_up-left, keeps_up-n
 -- ---- One record more
 
 -- bytes came to a history, with what is shown of it
-pub recorded_more : (w w' : Recorded) (records : List Record) (r : Record) (l : Line)
+pub recorded_more : (w w' : Recorded) (records : List HistoryRecord) (r : HistoryRecord) (l : Line)
     → IsRecorded w records → w'.text.items ≡ w.text.items ++ l.bytes.items
     → AddsToOverview w'.overview records r l → IsRecorded w' (records ++ r ∷ [])
 recorded_more w w' records r l is text adds = record {
@@ -35,7 +35,7 @@ recorded_more w w' records r l is text adds = record {
 }
 
 -- nothing came
-pub recorded_same : (w : Recorded) (records : List Record) → IsRecorded w records
+pub recorded_same : (w : Recorded) (records : List HistoryRecord) → IsRecorded w records
     → IsRecorded w (records ++ [])
 recorded_same w records is = subst (IsRecorded w) (sym (append-nil records)) is
 
@@ -66,7 +66,7 @@ module _ (aim : Aim) where
         in_order = is.history.in_order;
       }
 
-  at-append : (moment : List ℕ) (xs ys : List Change)
+  at-append : (moment : List ℕ) (xs ys : List PublishedChange)
       → (aim.records ++ at moment xs) ++ at moment ys ≡ aim.records ++ at moment (xs ++ ys)
   at-append moment xs ys =
       append_assoc aim.records (at moment xs) (at moment ys)
@@ -74,10 +74,10 @@ module _ (aim : Aim) where
 
   -- a fact was taken
   pub records_next : (r r' : Recorder) (fact : Fact) (rest : List Fact) (before : Option Details)
-      (change : Option Change) → Records aim r (fact ∷ rest) → before ≡ said_by r.said fact.subject
+      (change : Option PublishedChange) → Records aim r (fact ∷ rest) → before ≡ said_by r.said fact.subject
       → ((s : Subject) → said_by r'.said s ≡ without fact.subject (said_by r.said) s)
       → StandsIf before fact → option_to_list change ≡ recorded before fact
-      → ((records : List Record) → IsRecorded r.whole records
+      → ((records : List HistoryRecord) → IsRecorded r.whole records
       → IsRecorded r'.whole (records ++ at r.moment (option_to_list change)))
       → r'.moment ≡ r.moment → Records aim r' rest
   records_next r r' fact rest before change so was removed stands made whole now =
@@ -118,10 +118,10 @@ module _ (aim : Aim) where
       ap (λ cs. rs ++ at m cs) are in
       let grown = chain_from-append begun rs (at m new) in
       let grew = grows (chained rs) (at m new) in
-      let changed : map (λ (x : Record). x.change) (rs ++ at m new)
-      ≡ map (λ (x : Record). x.change) rs ++ so.changes =
-      map-append (λ (x : Record). x.change) rs (at m new)
-      ∙ ap (λ t. map (λ (x : Record). x.change) rs ++ t) (changes-at m new ∙ sym are) in
+      let changed : map (λ (x : HistoryRecord). x.change) (rs ++ at m new)
+      ≡ map (λ (x : HistoryRecord). x.change) rs ++ so.changes =
+      map-append (λ (x : HistoryRecord). x.change) rs (at m new)
+      ∙ ap (λ t. map (λ (x : HistoryRecord). x.change) rs ++ t) (changes-at m new ∙ sym are) in
       let after = keeps_up-says (says rs) aim.facts (said_by r.said) so.changes so.up none in
       record {
         more = grew.0;
@@ -134,7 +134,7 @@ module _ (aim : Aim) where
               (later-le (chained rs).moment (moment_text aim.moment));
           kept = keeps_up-kept (says rs) aim.facts (said_by r.said) so.changes so.up none;
           replayed = λ s. ap (λ cs. replay nothing cs s) changed
-              ∙ after (map (λ (x : Record). x.change) rs) (λ t. refl) s;
+              ∙ after (map (λ (x : HistoryRecord). x.change) rs) (λ t. refl) s;
         };
         whole = subst (IsRecorded r.whole) all so.whole;
       }

@@ -12,12 +12,12 @@ use Rattle.csv.proofs.RoundTrip.{read-write-many}
 use Rattle.hex.specs.Hex.{encode_lower, encode_with, lower_digits}
 use Rattle.sha2.specs.Sha256.{sha256}
 use Rattle.reg_history.specs.Chain.{Chained, begun, chain_from, chained, change_fields, digest, front, header_line, line, next_digest, next_line, record_fields, with_record}
-use Rattle.reg_changes.specs.declared.change.Record.{Record}
+use Rattle.reg_changes.specs.declared.change.HistoryRecord.{HistoryRecord}
 use Rattle.reg_history.specs.History.{news}
 use Rattle.reg_history.specs.Laws.{BytesTellRecords, SameFolderSameBytes}
 use Rattle.reg_changes.specs.Words.{class_word}
-use Rattle.reg_changes.specs.declared.change.Change.{Change}
-use Rattle.reg_changes.specs.declared.change.Change.TheVariants.{Made, Term}
+use Rattle.reg_changes.specs.declared.change.PublishedChange.{PublishedChange}
+use Rattle.reg_changes.specs.declared.change.PublishedChange.TheVariants.{Made, Term}
 use Rattle.reg_changes.specs.declared.change.Class.{Class}
 use Rattle.reg_changes.specs.declared.change.Class.TheVariants as class
 
@@ -84,7 +84,7 @@ row-last x y rest d plain_d =
     (sym (fields-last (y ∷ rest) d))
 
 -- what a reader reads of a record and what stands behind it
-read_line : (before : List ℕ) (n : ℕ) (r : Record) (tail : List ℕ)
+read_line : (before : List ℕ) (n : ℕ) (r : HistoryRecord) (tail : List ℕ)
     → next_record default_config st.StartRecord [] [] (line before n r ++ tail)
     ≡ Some (record_fields (decimal n) r ++ digest before n r ∷ [], st.StartRecord, tail)
 read_line before n r tail =
@@ -139,10 +139,10 @@ no-term class.Prefix e = omega (arith, ap first e)
 no-term class.Block e = omega (arith, ap first e)
 
 -- the fields of a record, with any number and digest
-abbrev row_of : List ℕ → List ℕ → Change → List ℕ → List (List ℕ)
+abbrev row_of : List ℕ → List ℕ → PublishedChange → List ℕ → List (List ℕ)
 row_of n m c d = n ∷ m ∷ (change_fields c ++ d ∷ [])
 
-changes-tell : (n m m' d d' : List ℕ) (c c' : Change) → row_of n m c d ≡ row_of n m' c' d' → c ≡ c'
+changes-tell : (n m m' d d' : List ℕ) (c c' : PublishedChange) → row_of n m c d ≡ row_of n m' c' d' → c ≡ c'
 unfolding pick
 changes-tell n m m' d d' (Made f) (Made g) e =
     let kind = words-tell f.subject.class g.subject.class (ap (pick 3) e) in
@@ -168,17 +168,17 @@ changes-tell n m m' d d' (Term registry value standing) (Term registry' value' s
     λ i. Term (pick 2 (e i)) (pick 4 (e i))
     (record { expires = pick 8 (e i); held = pick 9 (e i) })
 
-moments-tell : (n m m' d d' : List ℕ) (c c' : Change) → row_of n m c d ≡ row_of n m' c' d' → m ≡ m'
+moments-tell : (n m m' d d' : List ℕ) (c c' : PublishedChange) → row_of n m c d ≡ row_of n m' c' d' → m ≡ m'
 unfolding pick
 moments-tell n m m' d d' c c' e = ap (pick 1) e
 
 -- ---- All records
 
-lines_of : List (List ℕ) → List Record → List ℕ
+lines_of : List (List ℕ) → List HistoryRecord → List ℕ
 lines_of ds [] = []
 lines_of ds (r ∷ rs) = next_line ds r ++ lines_of (ds ++ next_digest ds r ∷ []) rs
 
-chain-lines : (c : Chained) (rs : List Record)
+chain-lines : (c : Chained) (rs : List HistoryRecord)
     → (chain_from c rs).text ≡ c.text ++ lines_of c.digests rs
 unfolding lines_of
 chain-lines c [] = sym (append-nil c.text)
@@ -194,7 +194,7 @@ no-read : next_record default_config st.StartRecord [] [] [] ≡ None
 unfolding next_record
 no-read = refl
 
-lines-tell : (ds : List (List ℕ)) (xs ys : List Record) → lines_of ds xs ≡ lines_of ds ys → xs ≡ ys
+lines-tell : (ds : List (List ℕ)) (xs ys : List HistoryRecord) → lines_of ds xs ≡ lines_of ds ys → xs ≡ ys
 unfolding lines_of fields-in rest-in
 lines-tell ds [] [] e = refl
 lines-tell ds [] (y ∷ ys) e =
@@ -223,7 +223,7 @@ lines-tell ds (x ∷ xs) (y ∷ ys) e =
     x.change y.change fields in
     λ i. record { moment = moment i; change = change i } in
     let rest = lines-tell (ds ++ next_digest ds x ∷ []) xs ys
-    (ap rest-in both ∙ ap (λ (r : Record). lines_of (ds ++ next_digest ds r ∷ []) ys) (sym here)) in
+    (ap rest-in both ∙ ap (λ (r : HistoryRecord). lines_of (ds ++ next_digest ds r ∷ []) ys) (sym here)) in
     λ i. here i ∷ rest i
 
 pub unique : BytesTellRecords
@@ -237,4 +237,4 @@ same_bytes xs ys moment facts more more' digests digests' e left right =
     let same = unique xs ys e in
     cancel (chained ys).text more more'
     (ap (λ (t : List ℕ). t ++ more) (sym e) ∙ sym left.text
-    ∙ ap (λ (rs : List Record). (chained (rs ++ news rs moment facts)).text) same ∙ right.text)
+    ∙ ap (λ (rs : List HistoryRecord). (chained (rs ++ news rs moment facts)).text) same ∙ right.text)

@@ -2,12 +2,12 @@
 use Rattle.std.proofs.Common.{◌≡◌, ℕ, ◌<◌, List, [], ◌∷◌, length, get_or, sym, ap, ◌∙◌, inl, inr}
 use Rattle.std.specs.Prelude.{Option, Some, slice_get, unwrap_or}
 use Rattle.reg_history.specs.Chain.{says}
-use Rattle.reg_changes.specs.declared.change.Record.{Record}
+use Rattle.reg_changes.specs.declared.change.HistoryRecord.{HistoryRecord}
 use Rattle.reg_history.specs.History.{IsHistory}
 use Rattle.reg_changes.specs.Replay.{Said, changes_to, subject_of}
 use Rattle.reg_changes.specs.Said.{TellsLoss, said_by}
 use Rattle.reg_history.specs.Unlike.{TellsUnlike, unlike_of}
-use Rattle.reg_changes.specs.declared.change.Change.{Change}
+use Rattle.reg_changes.specs.declared.change.PublishedChange.{PublishedChange}
 use Rattle.reg_changes.specs.declared.change.Fact.{Fact}
 use Rattle.reg_changes.specs.declared.change.Subject.{Subject}
 use Rattle.reg_history.specs.declared.history.History.{History}
@@ -17,7 +17,7 @@ use Rattle.reg_changes.specs.declared.said.Unrecorded.TheVariants as unrecorded
 use Rattle.reg_history.proofs.Histories.{digest-at, tells_of_records}
 
 -- a loss is what makes a history unlike what is published
-pub unlike_by_loss : (h : History) (records : List Record) (facts : List Fact) (why : Unrecorded)
+pub unlike_by_loss : (h : History) (records : List HistoryRecord) (facts : List Fact) (why : Unrecorded)
     → IsHistory h records → TellsLoss (said_by h.said) facts why
     → TellsUnlike (says records) facts (unlike_of why)
 unlike_by_loss h records facts unrecorded.Memory is told = tt
@@ -30,8 +30,8 @@ first_of [] x e = cc e
 first_of {X} (y ∷ ys) x e = (ys, ap (λ (o : Option X). unwrap_or o x ∷ ys) (sym e))
 
 -- so is the first that would be recorded
-pub unlike_by_news : (h : History) (records : List Record) (facts : List Fact)
-    (changes : List Change) (change : Change) (subject : Subject)
+pub unlike_by_news : (h : History) (records : List HistoryRecord) (facts : List Fact)
+    (changes : List PublishedChange) (change : PublishedChange) (subject : Subject)
     → IsHistory h records → changes ≡ changes_to (said_by h.said) facts
     → Some change ≡ slice_get changes 0 → subject ≡ subject_of change
     → TellsUnlike (says records) facts (Of subject)

@@ -8,18 +8,18 @@ use Rattle.sha2.specs.Sha256.{sha256}
 use Rattle.reg_maps.specs.Maps.{text_cmp}
 use Rattle.reg_changes.specs.Replay.{Said, nothing, replay}
 use Rattle.reg_changes.specs.Words.{class_word}
-use Rattle.reg_changes.specs.declared.change.Change.{Change}
-use Rattle.reg_changes.specs.declared.change.Change.TheVariants.{Made, Term}
-use Rattle.reg_changes.specs.declared.change.Record.{Record}
+use Rattle.reg_changes.specs.declared.change.PublishedChange.{PublishedChange}
+use Rattle.reg_changes.specs.declared.change.PublishedChange.TheVariants.{Made, Term}
+use Rattle.reg_changes.specs.declared.change.HistoryRecord.{HistoryRecord}
 
 -- ---- One record
 
 -- a change that was published at a moment
-abbrev pub record_of : List ℕ → Change → Record
+abbrev pub record_of : List ℕ → PublishedChange → HistoryRecord
 record_of moment change = record { moment = moment; change = change }
 
 -- the fields of a change
-abbrev pub change_fields : Change → List (List ℕ)
+abbrev pub change_fields : PublishedChange → List (List ℕ)
 change_fields (Made fact) =
     fact.subject.registry ∷ class_word fact.subject.class ∷ fact.subject.value
     ∷ fact.details.description ∷ fact.details.policy ∷ fact.details.first
@@ -28,24 +28,24 @@ change_fields (Term registry value standing) =
     registry ∷ codes "term" ∷ value ∷ [] ∷ [] ∷ [] ∷ standing.expires ∷ standing.held ∷ [] ∷ []
 
 -- the fields of a record before its digest
-abbrev pub record_fields : List ℕ → Record → List (List ℕ)
+abbrev pub record_fields : List ℕ → HistoryRecord → List (List ℕ)
 record_fields number r = number ∷ r.moment ∷ change_fields r.change
 
 -- the bytes of a record up to and including the comma before its digest
-abbrev pub front : ℕ → Record → List ℕ
+abbrev pub front : ℕ → HistoryRecord → List ℕ
 front number r =
     row_body default_writer (record_fields (decimal number) r) ++ codes ","
 
 -- its digest: of the digits of the record before, and these bytes
-abbrev pub digest : List ℕ → ℕ → Record → List ℕ
+abbrev pub digest : List ℕ → ℕ → HistoryRecord → List ℕ
 digest before number r = encode_lower (sha256 (before ++ front number r))
 
 -- all bytes of a record
-abbrev pub line : List ℕ → ℕ → Record → List ℕ
+abbrev pub line : List ℕ → ℕ → HistoryRecord → List ℕ
 line before number r = front number r ++ (digest before number r ++ codes "\n")
 
 -- changes that are published at a moment
-abbrev pub at : List ℕ → List Change → List Record
+abbrev pub at : List ℕ → List PublishedChange → List HistoryRecord
 at moment changes = map (record_of moment) changes
 
 -- ---- All records
@@ -67,14 +67,14 @@ abbrev pub next_number : List (List ℕ) → ℕ
 next_number digests = length digests + 1
 
 -- what the next record adds to the text
-abbrev pub next_line : List (List ℕ) → Record → List ℕ
+abbrev pub next_line : List (List ℕ) → HistoryRecord → List ℕ
 next_line digests r = line (last_digest digests) (next_number digests) r
 
-abbrev pub next_digest : List (List ℕ) → Record → List ℕ
+abbrev pub next_digest : List (List ℕ) → HistoryRecord → List ℕ
 next_digest digests r = digest (last_digest digests) (next_number digests) r
 
 -- one record more
-abbrev pub with_record : Chained → Record → Chained
+abbrev pub with_record : Chained → HistoryRecord → Chained
 with_record c r = record {
   text = c.text ++ next_line c.digests r;
   digests = c.digests ++ next_digest c.digests r ∷ [];
@@ -83,7 +83,7 @@ with_record c r = record {
 }
 
 -- records, one after the other
-abbrev pub chain_from : Chained → List Record → Chained
+abbrev pub chain_from : Chained → List HistoryRecord → Chained
 chain_from c [] = c
 chain_from c (r ∷ rs) = chain_from (with_record c r) rs
 
@@ -97,11 +97,11 @@ abbrev pub begun : Chained
 begun = record { text = header_line; digests = []; moment = []; in_order = true }
 
 -- a history with these records
-abbrev pub chained : List Record → Chained
+abbrev pub chained : List HistoryRecord → Chained
 chained records = chain_from begun records
 
 -- what its records say
-abbrev pub says : List Record → Said
+abbrev pub says : List HistoryRecord → Said
 says records = replay nothing (map (λ r. r.change) records)
 
 -- the record of this number has this digest

@@ -3,7 +3,7 @@ use Rattle.std.specs.Prelude.{◌≡◌, ◌≢◌, ℕ, ◌+◌, true, ⊤, Lis
 use Rattle.std.specs.Ordering.{is_le}
 use Rattle.reg_maps.specs.Maps.{text_cmp}
 use Rattle.reg_history.specs.Chain.{at, chained, header_line, says}
-use Rattle.reg_changes.specs.declared.change.Record.{Record}
+use Rattle.reg_changes.specs.declared.change.HistoryRecord.{HistoryRecord}
 use Rattle.reg_history.specs.Moment.{moment_text}
 use Rattle.reg_history.specs.Overview.{IsOverview}
 use Rattle.reg_changes.specs.Replay.{NothingIsLost, changes_to, facts_say, nothing}
@@ -15,7 +15,7 @@ use Rattle.reg_history.specs.declared.history.Unreadable.{Unreadable}
 use Rattle.reg_history.specs.declared.history.Unreadable.TheVariants.{Memory, Header, Wrong}
 
 -- it is the history of these records, of which none is earlier than the one before it
-pub record IsHistory (h : History) (records : List Record) : Type 0 where
+pub record IsHistory (h : History) (records : List HistoryRecord) : Type 0 where
   pub said : Says h.said (says records)
   pub digests : h.chain.digests.items ≡ (chained records).digests
   pub shown : IsOverview h.overview records
@@ -25,20 +25,20 @@ pub record IsHistory (h : History) (records : List Record) : Type 0 where
 -- it is the history of records whose text this is
 abbrev pub IsHistoryOf : History → List ℕ → Type 0
 IsHistoryOf h text =
-    (records : List Record) × ((chained records).text ≡ text) × IsHistory h records
+    (records : List HistoryRecord) × ((chained records).text ≡ text) × IsHistory h records
 
 -- the moment of what is recorded now: never earlier than that of the last record
 abbrev pub later : List ℕ → List ℕ → List ℕ
 later last now = if is_le (text_cmp last now) then now else last
 
 -- what is recorded of facts at a moment, after these records
-abbrev pub news : List Record → ℕ → List Fact → List Record
+abbrev pub news : List HistoryRecord → ℕ → List Fact → List HistoryRecord
 news records moment facts =
     at (later (chained records).moment (moment_text moment)) (changes_to (says records) facts)
 
 -- These bytes are added to the text of the records, whose digests are then these. Nothing is lost, and
 -- then it is a history that says just what the facts say.
-pub record Continues (records : List Record) (moment : ℕ) (facts : List Fact) (more : List ℕ)
+pub record Continues (records : List HistoryRecord) (moment : ℕ) (facts : List Fact) (more : List ℕ)
     (digests : List (List ℕ)) : Type 0 where
   pub text : (chained (records ++ news records moment facts)).text
       ≡ (chained records).text ++ more
@@ -51,7 +51,7 @@ pub record Continues (records : List Record) (moment : ℕ) (facts : List Fact) 
 -- the bytes begin as those of a history do, with so many records
 abbrev pub BeginsWithRecords : ℕ → List ℕ → Type 0
 BeginsWithRecords count text =
-    (records : List Record) × (rest : List ℕ) × (length records ≡ count)
+    (records : List HistoryRecord) × (rest : List ℕ) × (length records ≡ count)
     × ((chained records).text ++ rest ≡ text)
 
 -- a record is wrong, or memory was wanting, after so many records
@@ -68,18 +68,18 @@ TellsWrong text (Wrong number) =
     (count : ℕ) × (number ≡ count + 1) × BeginsWithRecords count text
 
 -- a record came to a history, with these bytes
-pub record AddsRecord (h : History) (records : List Record) (r : Record) (bytes : List ℕ) : Type 0
+pub record AddsRecord (h : History) (records : List HistoryRecord) (r : HistoryRecord) (bytes : List ℕ) : Type 0
   where
     pub grown : IsHistory h (records ++ r ∷ [])
     pub text : (chained (records ++ r ∷ [])).text ≡ (chained records).text ++ bytes
 
 -- a record came to a history, with the bytes by which a text is shorter
-pub record TakesRecord (h : History) (records : List Record) (text rest : List ℕ) : Type 0 where
-  pub more : List Record
+pub record TakesRecord (h : History) (records : List HistoryRecord) (text rest : List ℕ) : Type 0 where
+  pub more : List HistoryRecord
   pub grown : IsHistory h more
   pub whole : (chained more).text ++ rest ≡ (chained records).text ++ text
 
 -- the records say of each subject just what the facts say of it
-abbrev pub SaysJust : List Record → List Fact → Type 0
+abbrev pub SaysJust : List HistoryRecord → List Fact → Type 0
 SaysJust records facts =
     (subject : Subject) → says records subject ≡ facts_say nothing facts subject

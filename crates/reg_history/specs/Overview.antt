@@ -5,13 +5,13 @@ use Rattle.reg_maps.specs.Maps.{text_cmp}
 use Rattle.reg_history.specs.Chain.{chained, next_digest, next_line, record_of}
 use Rattle.reg_changes.specs.Recorded.{last_changed, registry_of}
 use Rattle.reg_history.specs.declared.chain.Line.{Line}
-use Rattle.reg_changes.specs.declared.change.Change.{Change}
-use Rattle.reg_changes.specs.declared.change.Record.{Record}
+use Rattle.reg_changes.specs.declared.change.PublishedChange.{PublishedChange}
+use Rattle.reg_changes.specs.declared.change.HistoryRecord.{HistoryRecord}
 use Rattle.reg_history.specs.declared.overview.Overview.{Overview}
 use Rattle.reg_history.specs.declared.overview.Tied.{Tied}
 
 -- a change that was published at a moment, with its digest
-abbrev pub tied : List ℕ → Change → List ℕ → Tied
+abbrev pub tied : List ℕ → PublishedChange → List ℕ → Tied
 tied moment change digest = record { row = record_of moment change; digest = digest }
 
 -- when a registry was last changed, by its name; nothing where that is not known
@@ -23,7 +23,7 @@ abbrev pub last_of : {X : Type 0} → List X → List X
 last_of xs = drop (length xs - 200) xs
 
 -- This is shown of a history with these records.
-pub record IsOverview (o : Overview) (records : List Record) : Type 0 where
+pub record IsOverview (o : Overview) (records : List HistoryRecord) : Type 0 where
   pub counted : o.count ≡ length (chained records).digests
   pub first : o.first ≡ slice_get (chained records).digests 0
   pub last : o.last ≡ slice_get (chained records).digests (length (chained records).digests - 1)
@@ -34,11 +34,11 @@ pub record IsOverview (o : Overview) (records : List Record) : Type 0 where
 -- ---- One record more
 
 -- it is noted when the registry of a change was changed
-abbrev pub Notes : BTreeMap (List ℕ) (List ℕ) → BTreeMap (List ℕ) (List ℕ) → List ℕ → Change → Type 0
+abbrev pub Notes : BTreeMap (List ℕ) (List ℕ) → BTreeMap (List ℕ) (List ℕ) → List ℕ → PublishedChange → Type 0
 Notes changed changed' moment change = Updates text_cmp changed changed' (registry_of change) (Some moment)
 
 -- a record came to what is shown, with this line
-pub record AddsToOverview (o : Overview) (records : List Record) (r : Record) (l : Line) : Type 0 where
+pub record AddsToOverview (o : Overview) (records : List HistoryRecord) (r : HistoryRecord) (l : Line) : Type 0 where
   pub grown : IsOverview o (records ++ r ∷ [])
   pub line : l.bytes.items ≡ next_line (chained records).digests r
   pub digest : l.digest ≡ next_digest (chained records).digests r

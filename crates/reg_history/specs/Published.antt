@@ -15,7 +15,7 @@ use Rattle.reg_print.specs.Listing.{run_text, whole}
 use Rattle.reg_changes.specs.declared.change.Class.TheVariants as class
 use Rattle.reg_changes.specs.declared.change.Details.{Details}
 use Rattle.reg_changes.specs.declared.change.Fact.{Fact}
-use Rattle.reg_changes.specs.declared.change.Standing.{Standing}
+use Rattle.reg_changes.specs.declared.change.PublishedStanding.{PublishedStanding}
 
 -- the word of an entry that is held
 abbrev pub held_text : Bool → List ℕ
@@ -23,14 +23,14 @@ held_text true = codes "held"
 held_text false = []
 
 -- the standing of an entry, without the mark that it was renewed
-abbrev pub standing_of : Term → Standing
+abbrev pub standing_of : Term → PublishedStanding
 standing_of term = record {
   expires = unwrap_or (option_map text_of_day term.expires) [];
   held = held_text term.held;
 }
 
 -- what has no standing
-abbrev pub no_standing : Standing
+abbrev pub no_standing : PublishedStanding
 no_standing = record { expires = []; held = [] }
 
 -- no details

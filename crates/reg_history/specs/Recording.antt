@@ -7,9 +7,9 @@ use Rattle.reg_history.specs.Overview.{IsOverview}
 use Rattle.reg_changes.specs.KeepingUp.{KeepsUp}
 use Rattle.reg_changes.specs.Replay.{IsLost}
 use Rattle.reg_changes.specs.Said.{said_by}
-use Rattle.reg_changes.specs.declared.change.Change.{Change}
+use Rattle.reg_changes.specs.declared.change.PublishedChange.{PublishedChange}
 use Rattle.reg_changes.specs.declared.change.Fact.{Fact}
-use Rattle.reg_changes.specs.declared.change.Record.{Record}
+use Rattle.reg_changes.specs.declared.change.HistoryRecord.{HistoryRecord}
 use Rattle.reg_history.specs.declared.history.History.{History}
 use Rattle.reg_history.specs.declared.recorder.Recorded.{Recorded}
 use Rattle.reg_history.specs.declared.recorder.Recorder.{Recorder}
@@ -18,7 +18,7 @@ use Rattle.reg_history.specs.declared.recorder.Recorder.{Recorder}
 
 -- what facts are for: to be recorded at a moment after these records
 pub record Aim : Type 0 where
-  pub records : List Record
+  pub records : List HistoryRecord
   pub moment : ℕ
   pub facts : List Fact
 
@@ -35,7 +35,7 @@ ListsFacts aim listed rest = listed ++ rest ≡ aim.facts
 -- ---- A history that goes on
 
 -- these are the bytes of a history with these records, and what is shown of it
-pub record IsRecorded (w : Recorded) (records : List Record) : Type 0 where
+pub record IsRecorded (w : Recorded) (records : List HistoryRecord) : Type 0 where
   pub text : w.text.items ≡ (chained records).text
   pub shown : IsOverview w.overview records
 
@@ -45,7 +45,7 @@ moment_of aim = later (chained aim.records).moment (moment_text aim.moment)
 
 -- what has to be recorded of the facts so far is recorded
 pub record Records (aim : Aim) (r : Recorder) (rest : List Fact) : Type 0 where
-  pub changes : List Change
+  pub changes : List PublishedChange
   pub up : KeepsUp (says aim.records) aim.facts (said_by r.said) rest changes
   pub whole : IsRecorded r.whole (aim.records ++ at (moment_of aim) changes)
   pub moment : r.moment ≡ moment_of aim

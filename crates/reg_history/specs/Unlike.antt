@@ -1,7 +1,7 @@
 -- Why a history does not say just what is published.
 use Rattle.std.specs.Prelude.{◌≡◌, ◌⊎◌, ⊤, List, ◌∷◌}
 use Rattle.reg_changes.specs.Replay.{IsLost, Said, changes_to, subject_of}
-use Rattle.reg_changes.specs.declared.change.Change.{Change}
+use Rattle.reg_changes.specs.declared.change.PublishedChange.{PublishedChange}
 use Rattle.reg_changes.specs.declared.change.Fact.{Fact}
 use Rattle.reg_changes.specs.declared.change.Subject.{Subject}
 use Rattle.reg_history.specs.declared.history.Unlike.{Unlike}
@@ -12,7 +12,7 @@ use Rattle.reg_changes.specs.declared.said.Unrecorded.TheVariants as unrecorded
 -- this subject is the first of which something would be recorded
 abbrev pub IsFirstToRecord : Said → List Fact → Subject → Type 0
 IsFirstToRecord said facts subject =
-    (change : Change) × (others : List Change) × (changes_to said facts ≡ change ∷ others)
+    (change : PublishedChange) × (others : List PublishedChange) × (changes_to said facts ≡ change ∷ others)
     × (subject ≡ subject_of change)
 
 -- memory was wanting; or what was said of the subject is lost, or something would be recorded of it

@@ -8,7 +8,7 @@ ghost use Rattle.reg_history.specs.Noted.{some_begins};
 ghost use Rattle.reg_history.specs.Texts.{texts_of};
 
 use crate::texts::Texts;
-use reg_changes::change::Change;
+use reg_changes::change::PublishedChange;
 use reg_changes::field::Field;
 use reg_print::listing::writing::{empty, text_of, write_record};
 use sha2::{Digest, Sha256};
@@ -32,7 +32,7 @@ impl Line {
         number: u64,
         before: &[u8],
         moment: &Field,
-        change: &Change,
+        change: &PublishedChange,
     ) -> Result<Self, AllocError>
         ensures bytes { IfOk result (λ l. l.bytes.items
             ≡ line before.now number (record_of moment.now change.now)) }

@@ -15,7 +15,7 @@ use crate::moment::moment_text;
 use crate::overview::Overview;
 use crate::reading::Records;
 use crate::recorder::{Recorded, Recorder};
-use reg_changes::change::{Change, Fact, Record, Subject};
+use reg_changes::change::{Fact, HistoryRecord, PublishedChange, Subject};
 use reg_changes::field::Field;
 use reg_changes::said::{Said, Unrecorded, apply, changes_to};
 use std::alloc::{AllocError, Global};
@@ -111,10 +111,10 @@ impl History {
 
     // Takes all records of a text, which come next.
     fn take(&mut self, alloc: Global, text: &[u8]) -> Result<(), Unreadable>
-        ensures history { IfOk result (λ _. (records : List Record)
+        ensures history { IfOk result (λ _. (records : List HistoryRecord)
             → IsHistory self.old records
             → IsHistoryOf self.new ((chained records).text ++ text.now)) }
-        ensures wrong { IfErr result (λ why. (records : List Record)
+        ensures wrong { IfErr result (λ why. (records : List HistoryRecord)
             → IsHistory self.old records
             → TellsWrong ((chained records).text ++ text.now) why) }
     {
@@ -136,9 +136,9 @@ impl History {
         records: &mut Records<'_>,
         text: &'a [u8],
     ) -> Result<&'a [u8], Unreadable>
-        ensures takes { IfOk result (λ rest. (before : List Record)
+        ensures takes { IfOk result (λ rest. (before : List HistoryRecord)
             → IsHistory self.old before → TakesRecord self.new before text.now rest.now) }
-        ensures wrong { IfErr result (λ why. (before : List Record)
+        ensures wrong { IfErr result (λ why. (before : List HistoryRecord)
             → IsHistory self.old before → IsWrongAfter (length before) why) }
     {
         let wrong = self.wrong();
@@ -163,8 +163,13 @@ impl History {
     }
 
     // Adds a record, and gives its bytes.
-    fn add(&mut self, alloc: Global, moment: Field, change: Change) -> Result<Vec<u8>, AllocError>
-        ensures { IfOk result (λ v. (records : List Record) → IsHistory self.old records
+    fn add(
+        &mut self,
+        alloc: Global,
+        moment: Field,
+        change: PublishedChange,
+    ) -> Result<Vec<u8>, AllocError>
+        ensures { IfOk result (λ v. (records : List HistoryRecord) → IsHistory self.old records
             → is_le (text_cmp self.old.moment moment) ≡ true
             → AddsRecord self.new records (record_of moment change) v.items) }
     {
@@ -199,10 +204,10 @@ impl History {
 
     /// That it says just these facts, and no others.
     pub fn says_just(self, alloc: Global, facts: &[Fact]) -> Result<Chain, Unlike>
-        ensures says { OnOk result ((records : List Record) → IsHistory self records
+        ensures says { OnOk result ((records : List HistoryRecord) → IsHistory self records
             → SaysJust records facts.now) }
         ensures chain { IfOk result (λ chain. chain ≡ self.chain) }
-        ensures unlike { IfErr result (λ why. (records : List Record)
+        ensures unlike { IfErr result (λ why. (records : List HistoryRecord)
             → IsHistory self records → TellsUnlike (says records) facts.now why) }
     {
         let History {

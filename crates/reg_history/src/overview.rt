@@ -4,7 +4,7 @@ ghost use Rattle.reg_history.specs.Chain.{record_of};
 ghost use Rattle.reg_history.specs.Overview.{AddsToOverview, IsOverview, Notes, last_of, moment_by, tied};
 
 use crate::chain::{DIGITS, Line};
-use reg_changes::change::{Change, Record};
+use reg_changes::change::{HistoryRecord, PublishedChange};
 use reg_changes::field::Field;
 use std::alloc::{AllocError, Global};
 use std::collections::{BTreeMap, VecDeque};
@@ -15,7 +15,7 @@ pub const RECENT: usize = 200;
 /// A record, and the digest by which it is tied to all before it.
 #[derive(Drop)]
 pub struct Tied {
-    pub row: Record,
+    pub row: HistoryRecord,
     pub digest: [u8; DIGITS],
 }
 
@@ -52,9 +52,9 @@ impl Overview {
         &mut self,
         alloc: Global,
         moment: &Field,
-        change: &Change,
+        change: &PublishedChange,
     ) -> Result<Line, AllocError>
-        ensures { IfOk result (λ line. (records : List Record) → IsOverview self.old records
+        ensures { IfOk result (λ line. (records : List HistoryRecord) → IsOverview self.old records
             → AddsToOverview self.new records (record_of moment.now change.now) line) }
     {
         let Some(number) = self.count.checked_add(1) else {
@@ -100,13 +100,13 @@ impl Overview {
 fn note_recent(
     recent: &mut VecDeque<Tied>,
     moment: &Field,
-    change: &Change,
+    change: &PublishedChange,
     digest: [u8; DIGITS],
 ) -> Result<(), AllocError>
     ensures { OnOk result (length recent.old.items ≤ 200
         → recent.new.items ≡ last_of (recent.old.items ++ tied moment.now change.now digest ∷ [])) }
 {
-    let row = Record {
+    let row = HistoryRecord {
         moment: moment.copy()?,
         change: change.copy()?,
     };
@@ -129,7 +129,7 @@ fn make_room(recent: &mut VecDeque<Tied>)
 fn note_moment(
     changed: &mut BTreeMap<Field, Field>,
     moment: &Field,
-    change: &Change,
+    change: &PublishedChange,
 ) -> Result<(), AllocError>
     ensures { OnOk result (Notes changed.old changed.new moment.now change.now) }
 {

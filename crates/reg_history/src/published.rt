@@ -7,7 +7,7 @@ ghost use Rattle.reg_history.specs.Recording.{Took};
 use crate::recorder::Takes;
 use reg_blocks::block::Block;
 use reg_blocks::prefix;
-use reg_changes::change::{Class, Details, Fact, Standing, Subject};
+use reg_changes::change::{Class, Details, Fact, PublishedStanding, Subject};
 use reg_changes::field::Field;
 use reg_core::entry::PageEntry;
 use reg_core::holding::Listed;
@@ -220,7 +220,7 @@ fn no_details(none: &Field) -> Result<Details, AllocError>
         description: none.copy()?,
         policy: none.copy()?,
         first: none.copy()?,
-        standing: Standing {
+        standing: PublishedStanding {
             expires: none.copy()?,
             held: none.copy()?,
         },
@@ -228,11 +228,11 @@ fn no_details(none: &Field) -> Result<Details, AllocError>
     })
 }
 
-fn standing_of(alloc: Global, none: &Field, term: &Term) -> Result<Standing, AllocError>
+fn standing_of(alloc: Global, none: &Field, term: &Term) -> Result<PublishedStanding, AllocError>
     requires { none.now ≡ [] }
     ensures { IfOk result (λ standing. standing ≡ standing_of term.now) }
 {
-    Ok(Standing {
+    Ok(PublishedStanding {
         expires: match term.expires {
             Some(day) => day_field(alloc, day)?,
             None => none.copy()?,

@@ -1,7 +1,9 @@
 //! Reads the records of a history, as CSV has them.
 use crate::texts::Texts;
 use csv::{ByteRecord, ErrorKind, Reader, ReaderBuilder};
-use reg_changes::change::{Change, Class, Details, Fact, Record, Standing, Subject};
+use reg_changes::change::{
+    Class, Details, Fact, HistoryRecord, PublishedChange, PublishedStanding, Subject,
+};
 use reg_changes::field::Field;
 use std::alloc::{AllocError, Global};
 use std::collections::BTreeSet;
@@ -28,7 +30,7 @@ impl<'a> Records<'a> {
 
     /// The record that comes next; none where none does, or what comes is no record. Only want of memory
     /// is an error.
-    pub fn next(&mut self) -> Result<Option<Record>, AllocError> {
+    pub fn next(&mut self) -> Result<Option<HistoryRecord>, AllocError> {
         match self.reader.read_byte_record(&mut self.row) {
             Ok(true) => match texts_of(&self.row) {
                 Some(texts) => self.fields.record(&texts),
@@ -61,28 +63,28 @@ impl Fields {
     }
 
     // The record of these texts, if they are of one.
-    fn record(&mut self, texts: &Texts<'_>) -> Result<Option<Record>, AllocError> {
+    fn record(&mut self, texts: &Texts<'_>) -> Result<Option<HistoryRecord>, AllocError> {
         let Some(change) = self.change(texts)? else {
             return Ok(None);
         };
-        Ok(Some(Record {
+        Ok(Some(HistoryRecord {
             moment: self.shared(texts.moment)?,
             change,
         }))
     }
 
-    fn change(&mut self, texts: &Texts<'_>) -> Result<Option<Change>, AllocError> {
+    fn change(&mut self, texts: &Texts<'_>) -> Result<Option<PublishedChange>, AllocError> {
         if texts.change == "term" {
             return Ok(Some(self.term(texts)?));
         }
         match Class::read(texts.change) {
-            Some(class) => Ok(Some(Change::Made(self.fact(class, texts)?))),
+            Some(class) => Ok(Some(PublishedChange::Made(self.fact(class, texts)?))),
             None => Ok(None),
         }
     }
 
-    fn term(&mut self, texts: &Texts<'_>) -> Result<Change, AllocError> {
-        Ok(Change::Term(
+    fn term(&mut self, texts: &Texts<'_>) -> Result<PublishedChange, AllocError> {
+        Ok(PublishedChange::Term(
             self.shared(texts.registry)?,
             self.own(texts.value)?,
             self.standing(texts)?,
@@ -106,8 +108,8 @@ impl Fields {
         })
     }
 
-    fn standing(&mut self, texts: &Texts<'_>) -> Result<Standing, AllocError> {
-        Ok(Standing {
+    fn standing(&mut self, texts: &Texts<'_>) -> Result<PublishedStanding, AllocError> {
+        Ok(PublishedStanding {
             expires: self.shared(texts.expires)?,
             held: self.shared(texts.held)?,
         })

@@ -6,7 +6,7 @@ ghost use Rattle.reg_changes.specs.Said.{TellsLoss};
 ghost use Rattle.reg_changes.specs.declared.said.Unrecorded.TheVariants.{Lost};
 
 use crate::overview::Overview;
-use reg_changes::change::{Change, Fact, Record, Subject};
+use reg_changes::change::{Fact, HistoryRecord, PublishedChange, Subject};
 use reg_changes::field::Field;
 use reg_changes::said::{Said, Unrecorded, change_to};
 use std::alloc::{AllocError, Global};
@@ -45,9 +45,9 @@ impl Recorded {
         &mut self,
         alloc: Global,
         moment: &Field,
-        change: &Option<Change>,
+        change: &Option<PublishedChange>,
     ) -> Result<(), AllocError>
-        ensures { OnOk result ((records : List Record) → IsRecorded self.old records
+        ensures { OnOk result ((records : List HistoryRecord) → IsRecorded self.old records
             → IsRecorded self.new (records ++ at moment.now (option_to_list change.now))) }
     {
         let Some(change) = change else {

@@ -3,7 +3,7 @@ ghost use Rattle.std.specs.Prelude.{◌≡◌};
 ghost use Rattle.reg_history.specs.Chain.{record_fields, record_of};
 ghost use Rattle.reg_history.specs.Texts.{texts_of};
 
-use reg_changes::change::Change;
+use reg_changes::change::PublishedChange;
 
 /// The texts of a record before its digest, in their order.
 #[derive(Clone, Copy)]
@@ -23,11 +23,11 @@ pub(crate) struct Texts<'a> {
 
 impl<'a> Texts<'a> {
     /// Those of a change that is published at a moment under a number.
-    pub fn of(number: &'a str, moment: &'a str, change: &'a Change) -> Self
+    pub fn of(number: &'a str, moment: &'a str, change: &'a PublishedChange) -> Self
         ensures { texts_of result ≡ record_fields number.now (record_of moment.now change.now) }
     {
         match change {
-            Change::Made(fact) => Texts {
+            PublishedChange::Made(fact) => Texts {
                 number,
                 moment,
                 registry: fact.subject.registry.as_str(),
@@ -40,7 +40,7 @@ impl<'a> Texts<'a> {
                 held: fact.details.standing.held.as_str(),
                 assignee: fact.details.assignee.as_str(),
             },
-            Change::Term(registry, value, standing) => Texts {
+            PublishedChange::Term(registry, value, standing) => Texts {
                 number,
                 moment,
                 registry: registry.as_str(),

@@ -3,7 +3,7 @@ use Rattle.std.specs.Prelude.{◌≡◌, ⊤, ℕ, true, List, Option, Result, O
 use Rattle.std.specs.Io.KnownBytes.{Appends}
 use Rattle.std.specs.String.{string_bytes}
 use Rattle.reg_history.specs.Chain.{chained}
-use Rattle.reg_changes.specs.declared.change.Record.{Record}
+use Rattle.reg_changes.specs.declared.change.HistoryRecord.{HistoryRecord}
 use Rattle.reg_verify.specs.Flaws.{flaw_text}
 use Rattle.reg_verify.specs.Verifying.{IsNotedIn, IsVerified, TellsFlaw, verified_text}
 use Rattle.reg_verify.specs.declared.flaw.Flaw.{Flaw}
@@ -49,7 +49,7 @@ IsUnverified Found Names noted why = ⊥
 abbrev pub IsVerifiedBy : Option (List ℕ) → Option (List ℕ) → Option (List ℕ) → Result ⊤ Undone
     → Type 0
 IsVerifiedBy noted had has (Ok u) =
-    (records : List Record) × ((chained records).in_order ≡ true)
+    (records : List HistoryRecord) × ((chained records).in_order ≡ true)
     × IsNotedIn (chained records).digests noted
     × Appends had has (verified_text (chained records).digests)
 IsVerifiedBy noted had has (Err why) = (why ≡ Fault Write → ⊥) → has ≡ had

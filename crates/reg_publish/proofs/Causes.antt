@@ -6,7 +6,7 @@ use Rattle.reg_history.specs.History.{TellsWrong}
 use Rattle.reg_changes.specs.Replay.{IsLost, Said}
 use Rattle.reg_changes.specs.Said.{TellsLoss}
 use Rattle.reg_changes.specs.declared.change.Fact.{Fact}
-use Rattle.reg_changes.specs.declared.change.Record.{Record}
+use Rattle.reg_changes.specs.declared.change.HistoryRecord.{HistoryRecord}
 use Rattle.reg_history.specs.declared.history.Unreadable.{Unreadable}
 use Rattle.reg_history.specs.declared.history.Unreadable.TheVariants as unreadable
 use Rattle.reg_changes.specs.declared.said.Unrecorded.{Unrecorded}
@@ -55,7 +55,7 @@ unread_from found items v text why r is whole told h =
     (subst (λ (t : List ℕ). TellsWrong t why) whole told))
 
 -- the index does not name a record of the history
-pub untied : (changes index : Option (List ℕ)) (records : List Record) (text : List ℕ)
+pub untied : (changes index : Option (List ℕ)) (records : List HistoryRecord) (text : List ℕ)
     (digests : List (List ℕ)) → (chained records).text ≡ text → text ≡ text_there changes
     → digests ≡ (chained records).digests → (IsTied index digests → ⊥)
     → IsWrongThere changes index fault.Index
@@ -83,7 +83,7 @@ module _ (changes index : Option (List ℕ)) (Known : Type 0) (facts : List Fact
   unread_tells (History (fault.Lost subject)) h = absurd h
 
   -- and so is why it does not go on
-  pub lost_tells : (records : List Record) (told : List Fact) (why : PublishFault)
+  pub lost_tells : (records : List HistoryRecord) (told : List Fact) (why : PublishFault)
       → IsEarlier changes index records → (Known → told ≡ facts)
       → IsLostBy (says records) told why → TellsWhyUnpublished changes index Known facts why
   lost_tells records told (Unpublished why) is same h = tt

@@ -11,7 +11,7 @@ use Rattle.reg_core.specs.declared.reply.Reply.{Reply}
 use Rattle.reg_core.specs.declared.reply.Reply.TheVariants.{Accepted}
 use Rattle.reg_core.specs.declared.told.Told.{Told}
 use Rattle.reg_core.specs.declared.told.Told.TheVariants as tells
-use Rattle.reg_changes.specs.declared.change.Record.{Record}
+use Rattle.reg_changes.specs.declared.change.HistoryRecord.{HistoryRecord}
 use Rattle.reg_notes.specs.declared.notes.Notes.{Notes}
 use Rattle.reg_site.specs.Site.{blocks_at, blocks_in, names_in, page_in, pages_at, pool_in, prefixes_at, site, site_files, told_to_all}
 use Rattle.reg_publish.specs.Told.{AreTold, IsTold, blocks_of, facts_at, facts_told, pages_of, prefixes_of}
@@ -96,7 +96,7 @@ module _ (p : Published) (moment : ℕ) (all : AllTold) (told : IsTold p moment 
   facts_are_told = rw (← pages_told, ← prefixes_told, ← blocks_told) refl
 
   -- and its files are the site
-  pub site_is_told : (notes : Option Notes) (records : List Record)
+  pub site_is_told : (notes : Option Notes) (records : List HistoryRecord)
       → site_files notes records (pages_of all.pages.items) (prefixes_of all.pool) (blocks_of all.blocks)
       moment ≡ site notes records p moment
   site_is_told notes records = rw (← pages_told, ← prefixes_told, ← blocks_told) refl

@@ -2,7 +2,7 @@
 use Rattle.std.specs.Prelude.{◌≡◌, ◌⊎◌, ◌==◌, ⊤, ℕ, List, [], ◌∷◌, ◌++◌, codes, length, take, drop, position, bytes_eq, Option, Some, None, option_map, option_and_then, if◌then◌else◌}
 use Rattle.std.specs.Option.{option_or}
 use Rattle.reg_history.specs.Chain.{HasDigest, chained, header_line}
-use Rattle.reg_changes.specs.declared.change.Record.{Record}
+use Rattle.reg_changes.specs.declared.change.HistoryRecord.{HistoryRecord}
 use Rattle.reg_ranges.specs.Numbers.{read_number}
 
 -- ---- The record that an index names
@@ -77,6 +77,6 @@ text_there (Some text) = text
 
 -- By what is there, these are the records of the history: its text is theirs, and the record that the
 -- index names is among them.
-pub record IsEarlier (changes index : Option (List ℕ)) (records : List Record) : Type 0 where
+pub record IsEarlier (changes index : Option (List ℕ)) (records : List HistoryRecord) : Type 0 where
   pub text : (chained records).text ≡ text_there changes
   pub tied : IsTied index (chained records).digests

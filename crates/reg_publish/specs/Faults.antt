@@ -4,7 +4,7 @@ use Rattle.reg_history.specs.Chain.{chained, says}
 use Rattle.reg_history.specs.History.{TellsWrong}
 use Rattle.reg_changes.specs.Replay.{IsLost, Said}
 use Rattle.reg_changes.specs.declared.change.Fact.{Fact}
-use Rattle.reg_changes.specs.declared.change.Record.{Record}
+use Rattle.reg_changes.specs.declared.change.HistoryRecord.{HistoryRecord}
 use Rattle.reg_history.specs.declared.history.Unreadable.{Unreadable}
 use Rattle.reg_history.specs.declared.history.Unreadable.TheVariants as unreadable
 use Rattle.reg_changes.specs.declared.said.Unrecorded.{Unrecorded}
@@ -46,7 +46,7 @@ IsWrongThere changes index fault.Header =
 IsWrongThere changes index (fault.Record number) =
     (text : List ℕ) × (changes ≡ Some text) × TellsWrong text (unreadable.Wrong number)
 IsWrongThere changes index fault.Index =
-    (records : List Record) × ((chained records).text ≡ text_there changes)
+    (records : List HistoryRecord) × ((chained records).text ≡ text_there changes)
     × (IsTied index (chained records).digests → ⊥)
 IsWrongThere changes index (fault.Lost subject) = ⊥
 
@@ -76,5 +76,5 @@ TellsWhyUnpublished changes index Known facts (History (fault.Record number)) =
     IsWrongThere changes index (fault.Record number)
 TellsWhyUnpublished changes index Known facts (History fault.Index) = IsWrongThere changes index fault.Index
 TellsWhyUnpublished changes index Known facts (History (fault.Lost subject)) =
-    (records : List Record) × IsEarlier changes index records
+    (records : List HistoryRecord) × IsEarlier changes index records
     × (Known → IsLost (says records) facts subject)

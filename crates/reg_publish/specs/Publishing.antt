@@ -2,7 +2,7 @@
 use Rattle.std.specs.Prelude.{◌≡◌, ℕ, List, ◌++◌, Option}
 use Rattle.reg_core.specs.View.{Published}
 use Rattle.reg_history.specs.History.{Continues, news}
-use Rattle.reg_changes.specs.declared.change.Record.{Record}
+use Rattle.reg_changes.specs.declared.change.HistoryRecord.{HistoryRecord}
 use Rattle.reg_notes.specs.declared.notes.Notes.{Notes}
 use Rattle.reg_site.specs.Files.{path_of}
 use Rattle.reg_site.specs.Site.{site}
@@ -27,7 +27,7 @@ pub record Publishes {S F : Type 0} (published : S → Published) (Holds : S →
 pub record PublishesSite {S F : Type 0} (published : S → Published) (Holds : S → Type 0) (Tells : Type 0)
     (held : F → List ℕ → Option (List ℕ)) (Puts : F → F → List ℕ → List ℕ → Type 0)
     (source source' : S) (folder folder' : F) (notes : Option Notes) (moment : ℕ) : Type 0 where
-  pub records : List Record
+  pub records : List HistoryRecord
   pub earlier : Tells
       → IsEarlier (held folder (path_of file.Changes)) (held folder (path_of file.IndexTree)) records
   pub more : List ℕ

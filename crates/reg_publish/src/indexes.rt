@@ -11,7 +11,7 @@ ghost use Rattle.reg_site.specs.Summary.{summary};
 
 use crate::placing::put;
 use reg_blocks::pool::Pool;
-use reg_changes::change::Record;
+use reg_changes::change::HistoryRecord;
 use reg_core::holding::Listed;
 use reg_core::told::Told;
 use reg_disk::folder::Folder;
@@ -38,7 +38,7 @@ pub(crate) fn publish_changes<F: Folder>(
     authority: Option<&Note>,
     overview: &Overview,
 ) -> Result<(), Unpublished>
-    ensures { OnOk result ((records : List Record) → IsOverview overview.now records
+    ensures { OnOk result ((records : List HistoryRecord) → IsOverview overview.now records
         → PlacesSummed F.Puts folder.old folder.new sums.old sums.new
         (change_files (option_copied authority.entry) records (chained records).digests)) }
 {
@@ -70,7 +70,7 @@ pub(crate) fn publish_indexes<F: Folder>(
     blocks: &[Listed],
     moment: u64,
 ) -> Result<(), Unpublished>
-    ensures { OnOk result ((records : List Record) → IsOverview overview.now records
+    ensures { OnOk result ((records : List HistoryRecord) → IsOverview overview.now records
         → PlacesSummed F.Puts folder.old folder.new sums.old sums.new
         (indexes_by (option_copied authority.entry) records (map row_of registers.now) pool.now
         blocks.now moment)) }

@@ -20,7 +20,7 @@ use crate::left_out::{LeftOut, left_out};
 use crate::placing::{put, put_sums};
 use crate::registries::{publish_blocks, publish_pool, publish_registries};
 use crate::told::{AllTold, ask_all};
-use reg_changes::change::Record;
+use reg_changes::change::HistoryRecord;
 use reg_disk::folder::Folder;
 use reg_history::history::History;
 use reg_history::overview::Overview;
@@ -83,10 +83,10 @@ fn go_on(
     moment: u64,
     told: &AllTold,
 ) -> Result<Recorded, PublishFault>
-    ensures goes_on { IfOk result (λ recorded. (records : List Record) → IsHistory history records
+    ensures goes_on { IfOk result (λ recorded. (records : List HistoryRecord) → IsHistory history records
         → (chained records).text ≡ text.items
         → Ends (record { records = records; moment = moment; facts = facts_told told.now }) recorded) }
-    ensures lost { IfErr result (λ why. (records : List Record) → IsHistory history records
+    ensures lost { IfErr result (λ why. (records : List HistoryRecord) → IsHistory history records
         → (chained records).text ≡ text.items
         → IsLostBy (says records) (facts_told told.now) why) }
 {
@@ -106,7 +106,7 @@ fn publish_told<F: Folder>(
     told: &AllTold,
     moment: u64,
 ) -> Result<(), Unpublished>
-    ensures { OnOk result ((records : List Record) → IsRecorded recorded records
+    ensures { OnOk result ((records : List HistoryRecord) → IsRecorded recorded records
         → Places F.Puts folder.old folder.new (site_files (option_copied notes.entry) records
         (pages_of told.now.pages.items) (prefixes_of told.now.pool) (blocks_of told.now.blocks) moment)) }
 {
@@ -129,7 +129,7 @@ fn publish_shown<F: Folder>(
     overview: &Overview,
     told: &AllTold,
 ) -> Result<(), Unpublished>
-    ensures { OnOk result ((records : List Record) → IsOverview overview.now records
+    ensures { OnOk result ((records : List HistoryRecord) → IsOverview overview.now records
         → PlacesSummed F.Puts folder.old folder.new sums.old sums.new
         (shown_of (option_copied notes.entry) records told.now)) }
 {
@@ -151,7 +151,7 @@ fn publish_last<F: Folder>(
     told: &AllTold,
     moment: u64,
 ) -> Result<(), Unpublished>
-    ensures { OnOk result ((records : List Record) → IsOverview overview.now records
+    ensures { OnOk result ((records : List HistoryRecord) → IsOverview overview.now records
         → PlacesSummed F.Puts folder.old folder.new sums.old sums.new
         (indexes_of (option_copied notes.entry) records told.now moment)) }
 {

@@ -15,7 +15,7 @@ ghost use Rattle.reg_site.specs.declared.files.File.TheVariants as file;
 use crate::placing::{put, put_portions};
 use reg_blocks::pool::Pool;
 use reg_blocks::size::Size;
-use reg_changes::change::Record;
+use reg_changes::change::HistoryRecord;
 use reg_core::holding::Listed;
 use reg_core::page::Page;
 use reg_core::reply::Reply;
@@ -48,7 +48,7 @@ pub(crate) fn publish_registries<F: Folder>(
     overview: &Overview,
     pages: &[Told],
 ) -> Result<(), Unpublished>
-    ensures { OnOk result ((records : List Record) → IsOverview overview.now records
+    ensures { OnOk result ((records : List HistoryRecord) → IsOverview overview.now records
         → PlacesSummed F.Puts folder.old folder.new sums.old sums.new
         (flat_map (page_files (option_copied notes.entry) records) (pages_of pages.now))) }
 {
@@ -67,7 +67,7 @@ fn publish_registry<F: Folder>(
     overview: &Overview,
     page: &Page,
 ) -> Result<(), Unpublished>
-    ensures { OnOk result ((records : List Record) → IsOverview overview.now records
+    ensures { OnOk result ((records : List HistoryRecord) → IsOverview overview.now records
         → PlacesSummed F.Puts folder.old folder.new sums.old sums.new
         (page_files (option_copied notes.entry) records page.now)) }
 {

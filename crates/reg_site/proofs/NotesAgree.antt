@@ -6,7 +6,7 @@ use Rattle.reg_core.specs.declared.page.Page.{Page}
 use Rattle.reg_core.specs.declared.told.Told.TheVariants as tells
 use Rattle.reg_history.specs.Chain.{chained}
 use Rattle.reg_changes.specs.Recorded.{last_changed}
-use Rattle.reg_changes.specs.declared.change.Record.{Record}
+use Rattle.reg_changes.specs.declared.change.HistoryRecord.{HistoryRecord}
 use Rattle.reg_notes.specs.Notes.{entry_thing}
 use Rattle.reg_notes.specs.declared.notes.Notes.{Notes}
 use Rattle.reg_print.specs.Listing.{ListedRow, closed_status, entry_row, free_row, free_rows, is_in, page_rows, range_rows, rows_by, rows_from}
@@ -117,7 +117,7 @@ file_same a b day page h =
           (ranges_agree a b page.name page.entries page.table.ranges h.entries),
     ) refl
 
-files_same : (a b : Option Notes) (records : List Record) (page : Page)
+files_same : (a b : Option Notes) (records : List HistoryRecord) (page : Page)
     → noted_in a [] ≡ noted_in b [] → AgreeOnPage a b page
     → page_files a records page ≡ page_files b records page
 files_same a b records page authority h =
@@ -132,7 +132,7 @@ files_same a b records page authority h =
     (page_same a b changed page authority h)
     (file_same a b (day_part changed) page h)
 
-all_files_same : (a b : Option Notes) (records : List Record) (pages : List Page)
+all_files_same : (a b : Option Notes) (records : List HistoryRecord) (pages : List Page)
     → noted_in a [] ≡ noted_in b [] → AllByRecursion (AgreeOnPage a b) pages
     → flat_map (page_files a records) pages ≡ flat_map (page_files b records) pages
 all_files_same a b records [] authority h = refl

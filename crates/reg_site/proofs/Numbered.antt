@@ -4,13 +4,13 @@ use Rattle.std.proofs.lemmas.List.{length-map}
 use Rattle.reg_print.proofs.PrintedTokens.{one_more}
 use Rattle.reg_history.specs.Chain.{chained}
 use Rattle.reg_history.specs.Overview.{IsOverview}
-use Rattle.reg_changes.specs.declared.change.Record.{Record}
+use Rattle.reg_changes.specs.declared.change.HistoryRecord.{HistoryRecord}
 use Rattle.reg_history.specs.declared.overview.Overview.{Overview}
 use Rattle.reg_history.specs.declared.overview.Tied.{Tied}
 use Rattle.reg_history.proofs.Histories.{counted}
 use Rattle.reg_site.specs.Recent.{changed, last_changes, numbered}
 
-numbered_last : (n i : ℕ) (rs : List Record) (ds : List (List ℕ)) (r : Record) (d : List ℕ)
+numbered_last : (n i : ℕ) (rs : List HistoryRecord) (ds : List (List ℕ)) (r : HistoryRecord) (d : List ℕ)
     → length rs ≡ i → length ds ≡ i
     → numbered n rs ds ++ changed (n + i) r d ∷ [] ≡ numbered n (rs ++ r ∷ []) (ds ++ d ∷ [])
 numbered_last n i [] [] r d h k =
@@ -25,7 +25,7 @@ numbered_last n i (x ∷ rs) (e ∷ ds) r d h k =
     ∙ ap (λ t. changed n x e ∷ t) (numbered_last (n + 1) j rs ds r d refl also)
 
 -- one record more
-pub numbered_more : (n i : ℕ) (rs : List Record) (ds : List (List ℕ)) (r : Record) (d : List ℕ)
+pub numbered_more : (n i : ℕ) (rs : List HistoryRecord) (ds : List (List ℕ)) (r : HistoryRecord) (d : List ℕ)
     → i < length rs → i < length ds → r ≡ get_or rs i r → d ≡ get_or ds i d
     → length (take i rs) ≡ i → length (take i ds) ≡ i
     → numbered n (take i rs) (take i ds) ++ changed (n + i) r d ∷ []
@@ -36,7 +36,7 @@ numbered_more n i rs ds r d h k is also first second =
     ∙ ap (λ ys. numbered n (take (i + 1) rs) ys) (sym (one_more ds i d k also))
 
 -- the recent records of a history are its last changes
-pub recent_numbered : (o : Overview) (records : List Record) (before : ℕ) → IsOverview o records
+pub recent_numbered : (o : Overview) (records : List HistoryRecord) (before : ℕ) → IsOverview o records
     → before ≡ o.count - length o.recent.items
     → reverse (numbered (before + 1) (map (λ t. t.row) o.recent.items)
     (map (λ t. t.digest) o.recent.items))

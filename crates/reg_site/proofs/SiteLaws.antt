@@ -15,7 +15,7 @@ use Rattle.reg_core.specs.declared.reply.Reply.TheVariants.{Accepted, Refused}
 use Rattle.reg_core.specs.declared.told.Told.TheVariants as tells
 use Rattle.reg_early.specs.Moment.{utc_day}
 use Rattle.reg_history.specs.Chain.{chained}
-use Rattle.reg_changes.specs.declared.change.Record.{Record}
+use Rattle.reg_changes.specs.declared.change.HistoryRecord.{HistoryRecord}
 use Rattle.reg_notes.specs.declared.note.Note.{Note}
 use Rattle.reg_notes.specs.declared.notes.Notes.{Notes}
 use Rattle.reg_ranges.specs.Tables.{Table}
@@ -99,7 +99,7 @@ on_top : (stem extension : List ℕ) → is_name stem ≡ true → is_name exten
     → PathStaysInside (stem ++ (codes "." ++ extension))
 on_top stem extension h typed = named_inside [] stem extension (inl refl) h typed
 
-pages_inside : (notes : Option Notes) (records : List Record) (pages : List Page)
+pages_inside : (notes : Option Notes) (records : List HistoryRecord) (pages : List Page)
     → AllByRecursion (λ page. is_name page.name ≡ true) pages
     → AllByRecursion Inside (flat_map (page_files notes records) pages)
 pages_inside notes records [] h = tt
@@ -137,7 +137,7 @@ pool_inside prefixes = (
   (on_top (codes "style") (codes "css") refl refl, tt),
 )
 
-changes_inside : (authority : Option Note) (records : List Record) (digests : List (List ℕ))
+changes_inside : (authority : Option Note) (records : List HistoryRecord) (digests : List (List ℕ))
     → AllByRecursion Inside (change_files authority records digests)
 changes_inside authority records digests = (
   on_top (codes "changes") (codes "html") refl refl,

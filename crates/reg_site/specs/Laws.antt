@@ -19,7 +19,7 @@ use Rattle.reg_core.specs.declared.page.Page.{Page}
 use Rattle.reg_core.specs.declared.reply.Reply.TheVariants.{Accepted}
 use Rattle.reg_core.specs.declared.told.Told.TheVariants as tells
 use Rattle.reg_history.specs.Chain.{chained}
-use Rattle.reg_changes.specs.declared.change.Record.{Record}
+use Rattle.reg_changes.specs.declared.change.HistoryRecord.{HistoryRecord}
 use Rattle.reg_notes.specs.Notes.{entry_thing}
 use Rattle.reg_notes.specs.declared.notes.Notes.{Notes}
 use Rattle.reg_pages.specs.Blocks.{block_row, row_by}
@@ -32,7 +32,7 @@ use Rattle.reg_site.specs.Site.{blocks_at, pages_at, prefixes_at, site, site_fil
 -- the same history, whatever else they hold
 abbrev pub SameRegistersSameSite : Type 0
 SameRegistersSameSite =
-    (notes : Option Notes) (records : List Record) (w v : World) (moment : ℕ)
+    (notes : Option Notes) (records : List HistoryRecord) (w v : World) (moment : ℕ)
     → published w ≡ published v
     → site notes records (published w) moment ≡ site notes records (published v) moment
 
@@ -53,7 +53,7 @@ ListingsAreOfPages =
 -- sums, where the history is the same.
 abbrev pub MomentsStandOnTheIndex : Type 0
 MomentsStandOnTheIndex =
-    (notes : Option Notes) (records : List Record) (p : Published) (m n : ℕ) → utc_day m ≡ utc_day n
+    (notes : Option Notes) (records : List HistoryRecord) (p : Published) (m n : ℕ) → utc_day m ≡ utc_day n
     → steady_files notes (chained records).text records (chained records).digests (pages_at p m)
     (prefixes_at p m) (blocks_at p m)
     ≡ steady_files notes (chained records).text records (chained records).digests (pages_at p n)
@@ -79,7 +79,7 @@ PathStaysInside path = IsNamedInside path ⊎ (path ≡ codes "SHA256SUMS")
 -- no file leaves the folder of the site, where the registries have names of their form
 abbrev pub FilesStayInside : Type 0
 FilesStayInside =
-    (notes : Option Notes) (records : List Record) (pages : List Page) (prefixes : List ℕ)
+    (notes : Option Notes) (records : List HistoryRecord) (pages : List Page) (prefixes : List ℕ)
     (rows : List Listed) (moment : ℕ) → AllByRecursion (λ page. is_name page.name ≡ true) pages
     → AllByRecursion (λ file. PathStaysInside file.0)
     (site_files notes records pages prefixes rows moment)
@@ -112,5 +112,5 @@ pub record AgreeOnPublished (a b : Option Notes) (p : Published) (moment : ℕ) 
 -- the authority, the registries and the entries that are published give the same site.
 abbrev pub NotesOnNothingAreHidden : Type 0
 NotesOnNothingAreHidden =
-    (a b : Option Notes) (records : List Record) (p : Published) (moment : ℕ)
+    (a b : Option Notes) (records : List HistoryRecord) (p : Published) (moment : ℕ)
     → AgreeOnPublished a b p moment → site a records p moment ≡ site b records p moment

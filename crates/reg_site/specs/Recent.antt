@@ -3,7 +3,7 @@ use Rattle.std.specs.Prelude.{ℕ, ◌+◌, ◌-◌, List, [], ◌∷◌, ◌++�
 use Rattle.std.specs.Str.{is_utf8}
 use Rattle.reg_history.specs.Chain.{chained}
 use Rattle.reg_changes.specs.Recorded.{change_word, description_of, registry_of, value_of}
-use Rattle.reg_changes.specs.declared.change.Record.{Record}
+use Rattle.reg_changes.specs.declared.change.HistoryRecord.{HistoryRecord}
 use Rattle.reg_ranges.specs.Texts.{read_text}
 use Rattle.reg_site.specs.Changes.{Changed, urn}
 
@@ -12,7 +12,7 @@ abbrev pub text_of : List ℕ → List ℕ
 text_of bytes = unwrap_or (read_text is_utf8 bytes) []
 
 -- a record as texts, by its number and its digest
-abbrev pub changed : ℕ → Record → List ℕ → Changed
+abbrev pub changed : ℕ → HistoryRecord → List ℕ → Changed
 changed number r digest = record {
   number = number;
   moment = r.moment;
@@ -24,20 +24,20 @@ changed number r digest = record {
 }
 
 -- records that have numbers from this one on, with their digests
-abbrev pub numbered : ℕ → List Record → List (List ℕ) → List Changed
+abbrev pub numbered : ℕ → List HistoryRecord → List (List ℕ) → List Changed
 numbered number [] digests = []
 numbered number (r ∷ records) [] = []
 numbered number (r ∷ records) (digest ∷ digests) =
     changed number r digest ∷ numbered (number + 1) records digests
 
 -- the last 200 records with these digests, of which the last one comes first
-abbrev pub last_changes : List Record → List (List ℕ) → List Changed
+abbrev pub last_changes : List HistoryRecord → List (List ℕ) → List Changed
 last_changes records digests =
     let before = length records - 200 in
     reverse (numbered (before + 1) (drop before records) (drop before digests))
 
 -- the same of a history
-abbrev pub recent : List Record → List Changed
+abbrev pub recent : List HistoryRecord → List Changed
 recent records = last_changes records (chained records).digests
 
 -- The id of a feed, by the digest of the first record: it is the same for good.

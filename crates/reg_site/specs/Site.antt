@@ -16,7 +16,7 @@ use Rattle.reg_core.specs.declared.reply.Reply.TheVariants.{Accepted, Refused}
 use Rattle.reg_history.specs.Chain.{chained, last_digest}
 use Rattle.reg_history.specs.Moment.{moment_text}
 use Rattle.reg_changes.specs.Recorded.{last_changed}
-use Rattle.reg_changes.specs.declared.change.Record.{Record}
+use Rattle.reg_changes.specs.declared.change.HistoryRecord.{HistoryRecord}
 use Rattle.reg_notes.specs.declared.note.Note.{Note}
 use Rattle.reg_notes.specs.declared.notes.Notes.{Notes}
 use Rattle.reg_print.specs.Answer.{body_text}
@@ -94,7 +94,7 @@ abbrev pub site_title : Option Note → List ℕ
 site_title authority = title_of authority (codes "Registries")
 
 -- the files of a registry: its page, its listing and its JSON as an office answers them, and its XML
-abbrev pub page_files : Option Notes → List Record → Page → Files
+abbrev pub page_files : Option Notes → List HistoryRecord → Page → Files
 page_files notes records page =
     (path_of (file.RegistryPage page.name), registry_page notes (last_changed records page.name) page)
     ∷ (path_of (file.RegistryCsv page.name), told_text (tells.Sheet page))
@@ -121,7 +121,7 @@ pool_files prefixes =
     (path_of file.Pool, told_text (tells.Pool prefixes)) ∷ (path_of file.Style, STYLE.now) ∷ []
 
 -- the last changes of a history whose records have these digests
-abbrev pub change_files : Option Note → List Record → List (List ℕ) → Files
+abbrev pub change_files : Option Note → List HistoryRecord → List (List ℕ) → Files
 change_files authority records digests =
     (path_of file.ChangesPage, changes_page authority (last_changes records digests))
     ∷ (
@@ -131,7 +131,7 @@ change_files authority records digests =
     ∷ []
 
 -- registries beside others, each with the moment of its last change
-abbrev pub rows_by : List Record → List Page → List IndexRow
+abbrev pub rows_by : List HistoryRecord → List Page → List IndexRow
 rows_by records pages = map (λ page. (summary page, last_changed records page.name)) pages
 
 -- the first page, and the index for programs
@@ -148,7 +148,7 @@ index_files authority digests registers prefixes rows moment =
 -- ---- The site
 
 -- the files that show what is published and what changed last
-abbrev pub shown_files : Option Notes → List Record → List (List ℕ) → List Page → List ℕ → List Listed
+abbrev pub shown_files : Option Notes → List HistoryRecord → List (List ℕ) → List Page → List ℕ → List Listed
     → Files
 shown_files notes records digests pages prefixes rows =
     flat_map (page_files notes records) pages
@@ -157,13 +157,13 @@ shown_files notes records digests pages prefixes rows =
 
 -- the files on which no moment stands but those of the changes: the history first, and then those that
 -- show what is published
-abbrev pub steady_files : Option Notes → List ℕ → List Record → List (List ℕ) → List Page → List ℕ
+abbrev pub steady_files : Option Notes → List ℕ → List HistoryRecord → List (List ℕ) → List Page → List ℕ
     → List Listed → Files
 steady_files notes text records digests pages prefixes rows =
     one_file file.Changes text ++ shown_files notes records digests pages prefixes rows
 
 -- all files but the sums
-abbrev pub summed_files : Option Notes → List ℕ → List Record → List (List ℕ) → List Page → List ℕ
+abbrev pub summed_files : Option Notes → List ℕ → List HistoryRecord → List (List ℕ) → List Page → List ℕ
     → List Listed → ℕ → Files
 summed_files notes text records digests pages prefixes rows moment =
     steady_files notes text records digests pages prefixes rows
@@ -174,17 +174,17 @@ abbrev pub with_sums_file : Files → Files
 with_sums_file files = files ++ one_file file.Sums (sums_text files)
 
 -- all files of a site, in the order in which they are published, by the text and the digests of a history
-abbrev pub files_by : Option Notes → List ℕ → List Record → List (List ℕ) → List Page → List ℕ
+abbrev pub files_by : Option Notes → List ℕ → List HistoryRecord → List (List ℕ) → List Page → List ℕ
     → List Listed → ℕ → Files
 files_by notes text records digests pages prefixes rows moment =
     with_sums_file (summed_files notes text records digests pages prefixes rows moment)
 
 -- the same by its records alone, which tell both
-abbrev pub site_files : Option Notes → List Record → List Page → List ℕ → List Listed → ℕ → Files
+abbrev pub site_files : Option Notes → List HistoryRecord → List Page → List ℕ → List Listed → ℕ → Files
 site_files notes records pages prefixes rows moment =
     files_by notes (chained records).text records (chained records).digests pages prefixes rows moment
 
 -- the site of what is published, with these notes and this history
-abbrev pub site : Option Notes → List Record → Published → ℕ → Files
+abbrev pub site : Option Notes → List HistoryRecord → Published → ℕ → Files
 site notes records p moment =
     site_files notes records (pages_at p moment) (prefixes_at p moment) (blocks_at p moment) moment

@@ -6,7 +6,7 @@ ghost use Rattle.reg_site.specs.Changes.{shown};
 ghost use Rattle.reg_site.specs.Recent.{changed, day_part, feed_id, last_changes, numbered, text_of};
 
 use crate::changes::Change;
-use reg_changes::change::Record;
+use reg_changes::change::HistoryRecord;
 use reg_history::overview::{Overview, Tied};
 use reg_notes::words::as_text;
 use std::alloc::{AllocError, Global};
@@ -21,7 +21,7 @@ pub fn last_changes<'a>(
     alloc: Global,
     overview: &'a Overview,
 ) -> Result<Vec<Change<'a>>, AllocError>
-    ensures { IfOk result (λ v. (records : List Record) → IsOverview overview.now records
+    ensures { IfOk result (λ v. (records : List HistoryRecord) → IsOverview overview.now records
         → map shown v.items ≡ last_changes records (chained records).digests) }
 {
     let before = overview.count.saturating_sub(overview.recent.len() as u64);
@@ -56,7 +56,7 @@ fn next_number(number: u64) -> Result<u64, AllocError>
     number.checked_add(1).ok_or(AllocError)
 }
 
-fn changed<'a>(number: u64, row: &'a Record, digest: &'a [u8]) -> Change<'a>
+fn changed<'a>(number: u64, row: &'a HistoryRecord, digest: &'a [u8]) -> Change<'a>
     ensures { shown result ≡ changed number row.now digest.now }
 {
     Change {

@@ -3,7 +3,7 @@ use Rattle.std.proofs.Common.{◌≡◌, ℕ, List, Option, Some, None, Result, 
 use Rattle.std.specs.declared.alloc.Global.{Global}
 use Rattle.std.specs.Prelude.{IfErr, IsErrAnd}
 use Rattle.reg_history.specs.Chain.{chained, says}
-use Rattle.reg_changes.specs.declared.change.Record.{Record}
+use Rattle.reg_changes.specs.declared.change.HistoryRecord.{HistoryRecord}
 use Rattle.reg_history.specs.Noted.{some_begins}
 use Rattle.reg_history.specs.History.{TellsWrong}
 use Rattle.reg_changes.specs.Said.{said_by}
@@ -45,7 +45,7 @@ module _ (Found : Part → Option (List ℕ) → Type 0) (Names : List (List ℕ
   tells_unreadable text (unreadable.Wrong number) found told = (text, found, told)
 
   -- a registry has no name
-  pub tells_nameless : (records : List Record) (why : Unverified) → HasHistory Found records
+  pub tells_nameless : (records : List HistoryRecord) (why : Unverified) → HasHistory Found records
       → IsNameless why → TellsWhy Found Names None why
   tells_nameless records un.Memory has h = tt
   tells_nameless records un.Read has h = tt
@@ -64,7 +64,7 @@ module _ (Found : Part → Option (List ℕ) → Type 0) (Names : List (List ℕ
   tells_nameless records (un.Flawed flaw.Digest) has h = absurd h
 
   -- a subject is published otherwise
-  pub tells_unlike : (records : List Record) (facts : List Fact) (why : Unverified)
+  pub tells_unlike : (records : List HistoryRecord) (facts : List Fact) (why : Unverified)
       → HasHistory Found records → AreFactsOf Found facts
       → IsUnlikeBy (says records) facts why → TellsWhy Found Names None why
   tells_unlike records facts un.Memory has are h = tt
@@ -95,7 +95,7 @@ module _ (Found : Part → Option (List ℕ) → Type 0) (Names : List (List ℕ
   )
 
   -- no digest begins with the digits that were noted, or these are too few
-  pub tells_unnoted : (records : List Record) (digests : List (List ℕ)) (digits : List ℕ)
+  pub tells_unnoted : (records : List HistoryRecord) (digests : List (List ℕ)) (digits : List ℕ)
       (noted : Option (List ℕ)) (why : Unverified) → HasHistory Found records
       → digests ≡ (chained records).digests → noted ≡ Some digits
       → IsUnnotedBy digests digits why → TellsWhy Found Names noted why

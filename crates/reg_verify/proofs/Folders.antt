@@ -12,7 +12,7 @@ use Rattle.reg_changes.specs.declared.change.Fact.{Fact}
 use Rattle.reg_print.specs.Listing.{listing_text}
 use Rattle.reg_site.specs.Site.{told_text}
 use Rattle.reg_client.specs.Reading.{IsToldBy}
-use Rattle.reg_changes.specs.declared.change.Record.{Record}
+use Rattle.reg_changes.specs.declared.change.HistoryRecord.{HistoryRecord}
 use Rattle.reg_history.specs.Chain.{says as says_of}
 use Rattle.reg_history.specs.History.{IsHistory, SaysJust}
 use Rattle.reg_changes.specs.Said.{said_by}
@@ -99,7 +99,7 @@ module _ (Found : Part → Option (List ℕ) → Type 0) (Names : List (List ℕ
   pub verified_by : (h : History) (digests : List (List ℕ)) (facts : List Fact)
       → IsHistoryIn Found h → HasIndex Found h.chain.digests.items → AreFactsOf Found facts
       → HasNoStray Names (said_by h.said)
-      → ((records : List Record) → IsHistory h records → SaysJust records facts)
+      → ((records : List HistoryRecord) → IsHistory h records → SaysJust records facts)
       → digests ≡ h.chain.digests.items → IsVerified Found Names None digests
   verified_by h digests facts is index are none says same = record {
     records = is.0;

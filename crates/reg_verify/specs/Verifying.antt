@@ -7,7 +7,7 @@ use Rattle.reg_core.specs.declared.holding.Listed.{Listed}
 use Rattle.reg_core.specs.declared.page.Page.{Page}
 use Rattle.reg_core.specs.declared.told.Told.TheVariants as tells
 use Rattle.reg_history.specs.Chain.{chained, last_digest, says}
-use Rattle.reg_changes.specs.declared.change.Record.{Record}
+use Rattle.reg_changes.specs.declared.change.HistoryRecord.{HistoryRecord}
 use Rattle.reg_history.specs.Noted.{some_begins}
 use Rattle.reg_history.specs.History.{IsHistory, SaysJust, TellsWrong}
 use Rattle.reg_history.specs.Unlike.{TellsUnlike}
@@ -37,14 +37,14 @@ Finds Tells held folder file bytes = Tells → held folder (place_of file) ≡ b
 -- ---- The history
 
 -- the history has these records, of which none is earlier than the one before it
-pub record HasHistory (Found : Part → Option (List ℕ) → Type 0) (records : List Record) : Type 0
+pub record HasHistory (Found : Part → Option (List ℕ) → Type 0) (records : List HistoryRecord) : Type 0
   where
     pub found : Found part.History (Some (chained records).text)
     pub in_order : (chained records).in_order ≡ true
 
 -- it is the history that was read
 abbrev pub IsHistoryIn : (Part → Option (List ℕ) → Type 0) → History → Type 0
-IsHistoryIn Found h = (records : List Record) × HasHistory Found records × IsHistory h records
+IsHistoryIn Found h = (records : List HistoryRecord) × HasHistory Found records × IsHistory h records
 
 -- the index names a record that a history with these digests has
 pub record HasIndex (Found : Part → Option (List ℕ) → Type 0) (digests : List (List ℕ)) : Type 0
@@ -112,7 +112,7 @@ IsNotedIn digests (Some digits) = (16 ≤ length digits) × (some_begins digits 
 -- the listing of a registry.
 pub record IsVerified (Found : Part → Option (List ℕ) → Type 0) (Names : List (List ℕ) → Type 0)
     (noted : Option (List ℕ)) (digests : List (List ℕ)) : Type 0 where
-  pub records : List Record
+  pub records : List HistoryRecord
   pub facts : List Fact
   pub history : HasHistory Found records
   pub tied : digests ≡ (chained records).digests
@@ -143,9 +143,9 @@ TellsFlaw Found Names noted flaw.Header =
     (text : List ℕ) × Found part.History (Some text) × TellsWrong text unreadable.Header
 TellsFlaw Found Names noted (flaw.Record number) =
     (text : List ℕ) × Found part.History (Some text) × TellsWrong text (unreadable.Wrong number)
-TellsFlaw Found Names noted flaw.Name = (records : List Record) × HasHistory Found records
+TellsFlaw Found Names noted flaw.Name = (records : List HistoryRecord) × HasHistory Found records
 TellsFlaw Found Names noted flaw.Index =
-    (records : List Record) × (bytes : List ℕ) × (named : NamedRecord)
+    (records : List HistoryRecord) × (bytes : List ℕ) × (named : NamedRecord)
     × HasHistory Found records × Found part.Index (Some bytes)
     × (named_record bytes ≡ Some named)
     × (IsInHistory (chained records).digests named → ⊥)
@@ -157,15 +157,15 @@ TellsFlaw Found Names noted (flaw.Listing name) =
     (page : Page) × (bytes : List ℕ) × IsPageIn Found name page
     × Found (part.Listing name) (Some bytes) × (bytes ≢ listing_text page)
 TellsFlaw Found Names noted (flaw.Stray file) =
-    (records : List Record) × HasHistory Found records
+    (records : List HistoryRecord) × HasHistory Found records
     × HasStray Names (says records) (string_bytes file)
 TellsFlaw Found Names noted (flaw.Subject subject) =
-    (records : List Record) × (facts : List Fact) × HasHistory Found records
+    (records : List HistoryRecord) × (facts : List Fact) × HasHistory Found records
     × AreFactsOf Found facts × TellsUnlike (says records) facts (unlike.Subject subject)
 TellsFlaw Found Names noted flaw.Short =
     (digits : List ℕ) × (noted ≡ Some digits) × (length digits < 16)
 TellsFlaw Found Names noted flaw.Digest =
-    (records : List Record) × (digits : List ℕ) × HasHistory Found records
+    (records : List HistoryRecord) × (digits : List ℕ) × HasHistory Found records
     × (noted ≡ Some digits) × (some_begins digits (chained records).digests ≡ false)
 
 -- why a folder is not verified: memory was wanting, a file could not be read or is too large; or this is

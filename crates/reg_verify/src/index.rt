@@ -5,7 +5,7 @@ ghost use Rattle.reg_verify.specs.Index.{IsInHistory, changes_in, digest_in, nam
 ghost use Rattle.reg_verify.specs.Strays.{Lists};
 ghost use Rattle.reg_verify.specs.Verifying.{Finds, HasHistory, HasIndex, TellsWhy};
 ghost use Rattle.reg_history.specs.Chain.{chained};
-ghost use Rattle.reg_changes.specs.declared.change.Record.{Record};
+ghost use Rattle.reg_changes.specs.declared.change.HistoryRecord.{HistoryRecord};
 ghost use Rattle.std.specs.Prelude.{List};
 
 use crate::files::bytes_of;
@@ -32,7 +32,7 @@ pub(crate) fn find_record<F: Reads>(
 ) -> Result<(), Unverified>
     ensures found { OnOk result
         (HasIndex (Finds F.Tells F.held folder.now) chain.now.digests.items) }
-    ensures why { IfErr result (λ why. (records : List Record)
+    ensures why { IfErr result (λ why. (records : List HistoryRecord)
         → HasHistory (Finds F.Tells F.held folder.now) records
         → chain.now.digests.items ≡ (chained records).digests
         → TellsWhy (Finds F.Tells F.held folder.now)

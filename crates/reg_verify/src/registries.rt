@@ -1,6 +1,6 @@
 //! What the files of a published folder publish, as facts.
 ghost use Rattle.std.specs.Prelude.{true, List, Some, None, OnOk, IfOk, IfErr};
-ghost use Rattle.reg_changes.specs.declared.change.Record.{Record};
+ghost use Rattle.reg_changes.specs.declared.change.HistoryRecord.{HistoryRecord};
 ghost use Rattle.reg_print.specs.Listing.{listing_text};
 ghost use Rattle.reg_verify.specs.declared.part.Part.TheVariants as part;
 ghost use Rattle.reg_verify.specs.Strays.{Lists};
@@ -28,7 +28,7 @@ pub(crate) fn facts_in<F: Reads>(
 ) -> Result<Vec<Fact>, Unverified>
     ensures facts { IfOk result
         (λ facts. AreFactsOf (Finds F.Tells F.held folder.now) facts.items) }
-    ensures why { IfErr result (λ why. (records : List Record)
+    ensures why { IfErr result (λ why. (records : List HistoryRecord)
         → HasHistory (Finds F.Tells F.held folder.now) records
         → TellsWhy (Finds F.Tells F.held folder.now)
         (Lists F.Tells F.listed folder.now) None why) }

@@ -2,7 +2,7 @@
 ghost use Rattle.std.specs.Prelude.{◌≡◌, ◌++◌, List, None, Some, IfOk, IfErr, OnOk};
 ghost use Rattle.std.specs.Option.{option_copied};
 ghost use Rattle.reg_history.specs.Chain.{says};
-ghost use Rattle.reg_changes.specs.declared.change.Record.{Record};
+ghost use Rattle.reg_changes.specs.declared.change.HistoryRecord.{HistoryRecord};
 ghost use Rattle.reg_history.specs.History.{IsHistory, SaysJust};
 ghost use Rattle.reg_verify.specs.Strays.{Lists};
 ghost use Rattle.reg_verify.specs.Verifying.{Finds, IsHistoryIn, IsNotedIn, IsUnlikeBy, IsUnnotedBy, IsVerified, TellsWhy, last_text, verified_text};
@@ -79,9 +79,9 @@ fn history_in<F: Reads>(alloc: Global, folder: &F) -> Result<History, Unverified
 // The digests of a history that says just these facts.
 fn compared(alloc: Global, history: History, facts: &[Fact]) -> Result<Chain, Unverified>
     ensures same { IfOk result (λ chain. chain ≡ history.chain) }
-    ensures says { OnOk result ((records : List Record) → IsHistory history records
+    ensures says { OnOk result ((records : List HistoryRecord) → IsHistory history records
         → SaysJust records facts.now) }
-    ensures why { IfErr result (λ why. (records : List Record) → IsHistory history records
+    ensures why { IfErr result (λ why. (records : List HistoryRecord) → IsHistory history records
         → IsUnlikeBy (says records) facts.now why) }
 {
     match history.says_just(alloc, facts) {

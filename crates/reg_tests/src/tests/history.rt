@@ -1,6 +1,6 @@
 //! Histories: their bytes against Python's `csv` and `hashlib`, and what is noticed of them.
 use crate::tests::expecting::{expect_text, expect_true};
-use reg_changes::change::{Class, Details, Fact, Standing, Subject};
+use reg_changes::change::{Class, Details, Fact, PublishedStanding, Subject};
 use reg_changes::field::Field;
 use reg_changes::said::Unrecorded;
 use reg_history::history::{HEADER, History, Unreadable, read};
@@ -42,8 +42,8 @@ fn subject(
     })
 }
 
-fn standing(alloc: Global, expires: &str, held: &str) -> Result<Standing, AllocError> {
-    Ok(Standing {
+fn standing(alloc: Global, expires: &str, held: &str) -> Result<PublishedStanding, AllocError> {
+    Ok(PublishedStanding {
         expires: Field::new(alloc, expires)?,
         held: Field::new(alloc, held)?,
     })

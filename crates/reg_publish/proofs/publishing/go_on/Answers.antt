@@ -3,7 +3,7 @@ use Rattle.reg_history.specs.Chain.{chained, says}
 use Rattle.reg_history.specs.History.{IsHistory}
 use Rattle.reg_history.specs.Recording.{Aim, Awaits}
 use Rattle.reg_changes.specs.declared.change.Fact.{Fact}
-use Rattle.reg_changes.specs.declared.change.Record.{Record}
+use Rattle.reg_changes.specs.declared.change.HistoryRecord.{HistoryRecord}
 use Rattle.reg_publish.specs.Faults.{IsLostBy, unrecorded_as}
 use Rattle.reg_publish.specs.Told.{facts_told}
 use Rattle.reg_publish.specs.declared.faults.PublishFault.{PublishFault}
@@ -24,7 +24,7 @@ pub returns-in_err-end-clause-lost : goal.returns-in_err-end-clause-lost
 returns-in_err-end-clause-lost c =
     let facts = facts_told c.args.told.now in
     let why = c.in_err-end.field-0.0 in
-    let Tells : PublishFault → Type 0 = λ why. (records : List Record) → IsHistory c.args.history records
+    let Tells : PublishFault → Type 0 = λ why. (records : List HistoryRecord) → IsHistory c.args.history records
     → (chained records).text ≡ c.args.text.items → IsLostBy (says records) facts why in
     handed_on Tells c.from_residual-in_err-end.result (unrecorded_as why)
     c.from_residual-in_err-end.ensures.1

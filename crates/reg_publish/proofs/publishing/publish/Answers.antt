@@ -2,7 +2,7 @@ use Rattle.std.proofs.Common.{List, ◌++◌, ap, ◌∙◌, subst}
 use Rattle.std.specs.Option.{option_copied}
 use Rattle.reg_history.specs.Chain.{chained}
 use Rattle.reg_history.specs.History.{Continues, news}
-use Rattle.reg_changes.specs.declared.change.Record.{Record}
+use Rattle.reg_changes.specs.declared.change.HistoryRecord.{HistoryRecord}
 use Rattle.reg_site.specs.Files.{path_of}
 use Rattle.reg_site.specs.Site.{site, site_files}
 use Rattle.reg_site.specs.declared.files.File.TheVariants as file
@@ -23,9 +23,9 @@ returns-clause-done g c =
     let moment = c.args.moment in
     let told = c.in_ok-told.told in
     let history = c.in_ok-text.ensures.history in
-    let records : List Record = history.0 in
+    let records : List HistoryRecord = history.0 in
     let ends = c.in_ok-recorded.ensures.goes_on records history.2 history.1 in
-    let now : List Record = records ++ news records moment (facts_told told) in
+    let now : List HistoryRecord = records ++ news records moment (facts_told told) in
     let digests = (chained now).digests in
     record {
       records = records;

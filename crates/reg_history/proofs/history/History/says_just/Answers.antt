@@ -1,7 +1,7 @@
 use Rattle.std.proofs.Common.{List, sym, ap, ◌∙◌}
 use Rattle.std.specs.Prelude.{slice_get}
 use Rattle.reg_history.specs.Chain.{says}
-use Rattle.reg_changes.specs.declared.change.Record.{Record}
+use Rattle.reg_changes.specs.declared.change.HistoryRecord.{HistoryRecord}
 use Rattle.reg_history.specs.History.{IsHistory}
 use Rattle.reg_history.specs.Unlike.{TellsUnlike, unlike_of}
 use Rattle.reg_history.proofs.Histories.{first-none, says_just}
@@ -18,7 +18,7 @@ returns-in-None-clause-says c = λ records is s.
 pub returns-in_err-changes-clause-unlike : goal.returns-in_err-changes-clause-unlike
 returns-in_err-changes-clause-unlike c =
     handed_on
-    (λ why. (records : List Record) → IsHistory c.args.self records
+    (λ why. (records : List HistoryRecord) → IsHistory c.args.self records
     → TellsUnlike (says records) c.args.facts.now why)
     c.from_residual.result (unlike_of c.in_err-changes.field-0.0) c.from_residual.ensures.1
     (λ records is.

@@ -2,7 +2,7 @@ use Rattle.std.proofs.Common.{◌++◌, sym, ap, ◌∙◌, subst}
 use Rattle.std.specs.Prelude.{Option, option_to_list}
 use Rattle.reg_history.specs.Chain.{at, record_of}
 use Rattle.reg_history.specs.Recording.{IsRecorded}
-use Rattle.reg_changes.specs.declared.change.Change.{Change}
+use Rattle.reg_changes.specs.declared.change.PublishedChange.{PublishedChange}
 use Rattle.reg_history.specs.declared.recorder.Recorded.{Recorded}
 use Rattle.reg_history.proofs.Recordings.{recorded_more}
 use Rattle.reg_history.proofs.recorder.Recorded.add.Goals as goal
@@ -10,7 +10,7 @@ use Rattle.reg_history.proofs.recorder.Recorded.add.Goals as goal
 pub returns : goal.returns
 returns c = λ records is.
     let w : Recorded = record { text = c.extend_from_slice.new.self; overview = c.add.new.self } in
-    let To : Option Change → Type 0 = λ o.
+    let To : Option PublishedChange → Type 0 = λ o.
     IsRecorded w (records ++ at c.args.moment.now (option_to_list o)) in
     subst To (sym c.in-Some.is)
     (recorded_more c.args.self.now w records (record_of c.args.moment.now c.in-Some.change)
