@@ -7,15 +7,15 @@ use Rattle.reg_html.specs.Markup.{all_of, markup_then}
 use Rattle.reg_html.proofs.Pieces.{Leads, shown}
 use Rattle.reg_pages.proofs.Portioned.{at_place}
 use Rattle.reg_site.specs.Bar.{entry_part, joined, joins, merged, part}
-use Rattle.reg_site.specs.declared.bar.Part.{Part}
+use Rattle.reg_site.specs.declared.bar.PicturePart.{PicturePart}
 
 -- the bytes of the parts that are still to be appended, by the last one and the entries from a place on
-abbrev pub parts_left : ℕ → Part → List PageEntry → ℕ → List ℕ → List ℕ
+abbrev pub parts_left : ℕ → PicturePart → List PageEntry → ℕ → List ℕ → List ℕ
 parts_left most last entries i rest =
     markup_then (all_of (map part (merged last (map (entry_part most) (drop i entries))))) rest
 
 -- the entry joins the last part
-pub merges : (most : ℕ) (last : Part) (entries : List PageEntry) (i : ℕ) (e : PageEntry)
+pub merges : (most : ℕ) (last : PicturePart) (entries : List PageEntry) (i : ℕ) (e : PageEntry)
     → i < length entries → e ≡ get_or entries i e → joins last (entry_part most e) ≡ true
     → {old y : List ℕ} {all : List ℕ → List ℕ}
     → Leads old y (parts_left most last entries i) all
@@ -33,7 +33,7 @@ merges most last entries i e h is together {y = y} leads =
     }
 
 -- the entry does not join the last part, which is appended
-pub stands_apart : (most : ℕ) (last : Part) (entries : List PageEntry) (i : ℕ) (e : PageEntry)
+pub stands_apart : (most : ℕ) (last : PicturePart) (entries : List PageEntry) (i : ℕ) (e : PageEntry)
     → i < length entries → e ≡ get_or entries i e → joins last (entry_part most e) ≡ false
     → {old y z : List ℕ} {all : List ℕ → List ℕ}
     → Leads old y (parts_left most last entries i) all → Shown y z (part last)
@@ -52,7 +52,7 @@ stands_apart most last entries i e h is apart {y = y} leads piece =
     }
 
 -- no entry is left, and the last part is appended
-pub comes_last : (most : ℕ) (last : Part) (entries : List PageEntry) (i : ℕ) (ps : List Part)
+pub comes_last : (most : ℕ) (last : PicturePart) (entries : List PageEntry) (i : ℕ) (ps : List PicturePart)
     → length entries ≤ i → {old y z : List ℕ}
     → Leads old y (parts_left most last entries i) (markup_then (all_of (map part ps)))
     → Shown y z (part last) → Shown old z (all_of (map part ps))

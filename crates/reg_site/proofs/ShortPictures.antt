@@ -5,10 +5,10 @@ use Rattle.std.specs.List.{AllByRecursion}
 use Rattle.std.proofs.lemmas.Bool.Decides.{nat_tests}
 use Rattle.reg_core.specs.declared.entry.PageEntry.{PageEntry}
 use Rattle.reg_site.specs.Bar.{PicturesAreShort, cell_count, cell_of, entry_part, entry_parts, joined, joins, merged}
-use Rattle.reg_site.specs.declared.bar.Part.{Part}
+use Rattle.reg_site.specs.declared.bar.PicturePart.{PicturePart}
 
 -- a part that has a cell of these
-record IsWithin (cells : ℕ) (p : Part) : Type 0 where
+record IsWithin (cells : ℕ) (p : PicturePart) : Type 0 where
   below : p.start < cells
   some : p.start < p.end
 
@@ -17,7 +17,7 @@ decide true = inl refl
 decide false = inr refl
 
 -- a part that does not join the one before it begins behind it
-apart : (last next : Part) → joins last next ≡ false → last.end ≤ next.start
+apart : (last next : PicturePart) → joins last next ≡ false → last.end ≤ next.start
 apart last next parted = grind (arith, nat_tests, parted)
 
 below_count : (n count all : ℕ) → n < all → 0 < count → n * count / all < count
@@ -25,7 +25,7 @@ below_count n count all h some =
     let product : count * (n + 1) ≤ count * all = mul-le-mul_left count (omega arith) in
     (div-lt_iff_lt-mul {k = all} {x = n * count} {y = count} (omega arith)).1 (omega (arith, product))
 
-length-merged : (cells : ℕ) (last : Part) (parts : List Part) → IsWithin cells last
+length-merged : (cells : ℕ) (last : PicturePart) (parts : List PicturePart) → IsWithin cells last
     → AllByRecursion (IsWithin cells) parts → length (merged last parts) + last.start ≤ cells
 length-merged cells last [] h hs = omega arith
 length-merged cells last (next ∷ more) h hs = elim (decide (joins last next)) [

@@ -7,18 +7,18 @@ use Rattle.reg_early.specs.declared.term.Status.TheVariants as status
 use Rattle.reg_html.specs.Document.{attribute, plain}
 use Rattle.reg_html.specs.Markup.{Attribute, Markup, nothing, text, element, beside, all_of}
 use Rattle.reg_site.specs.Summary.{rest_of}
-use Rattle.reg_site.specs.declared.bar.Kind.{Kind}
-use Rattle.reg_site.specs.declared.bar.Kind.TheVariants.{Assigned, Temporary, Expired, Free as FreeKind, SetAside as SetAsideKind, Reserved as ReservedKind}
-use Rattle.reg_site.specs.declared.bar.Part.{Part}
+use Rattle.reg_site.specs.declared.bar.PartKind.{PartKind}
+use Rattle.reg_site.specs.declared.bar.PartKind.TheVariants.{Assigned, Temporary, Expired, Free as FreeKind, SetAside as SetAsideKind, Reserved as ReservedKind}
+use Rattle.reg_site.specs.declared.bar.PicturePart.{PicturePart}
 use Rattle.reg_site.specs.declared.summary.Rest.{Rest}
 use Rattle.reg_site.specs.declared.summary.Rest.TheVariants.{Free, SetAside, Reserved}
-use Rattle.reg_site.specs.declared.summary.Share.{Share}
+use Rattle.reg_site.specs.declared.summary.RangeShare.{RangeShare}
 use Rattle.reg_site.specs.declared.summary.Summary.{Summary}
 
 -- ---- Kinds
 
 -- the two kinds are the same
-abbrev pub same_kind : Kind → Kind → Bool
+abbrev pub same_kind : PartKind → PartKind → Bool
 same_kind Assigned Assigned = true
 same_kind Temporary Temporary = true
 same_kind Expired Expired = true
@@ -28,19 +28,19 @@ same_kind ReservedKind ReservedKind = true
 same_kind _ _ = false
 
 -- the kind of an entry, by its status
-abbrev pub kind_of_status : Status → Kind
+abbrev pub kind_of_status : Status → PartKind
 kind_of_status status.Assigned = Assigned
 kind_of_status status.Temporary = Temporary
 kind_of_status status.Expired = Expired
 
 -- the kind of values without an entry
-abbrev pub kind_of_rest : Rest → Kind
+abbrev pub kind_of_rest : Rest → PartKind
 kind_of_rest Free = FreeKind
 kind_of_rest SetAside = SetAsideKind
 kind_of_rest Reserved = ReservedKind
 
 -- the class of a kind, by which the style sheet knows it
-abbrev pub kind_class : Kind → List ℕ
+abbrev pub kind_class : PartKind → List ℕ
 kind_class Assigned = codes "assigned"
 kind_class Temporary = codes "temporary"
 kind_class Expired = codes "expired"
@@ -50,7 +50,7 @@ kind_class ReservedKind = codes "reserved"
 
 -- Where a part begins, from above, and how high it is. No two kinds are alike, so they can be told
 -- apart without their colours.
-abbrev pub kind_top : Kind → List ℕ
+abbrev pub kind_top : PartKind → List ℕ
 kind_top Assigned = codes "0"
 kind_top Temporary = codes "0"
 kind_top Expired = codes "18"
@@ -59,7 +59,7 @@ kind_top SetAsideKind = codes "8"
 kind_top ReservedKind = codes "11"
 
 -- how high a part of a kind is
-abbrev pub kind_height : Kind → List ℕ
+abbrev pub kind_height : PartKind → List ℕ
 kind_height Assigned = codes "24"
 kind_height Temporary = codes "12"
 kind_height Expired = codes "6"
@@ -84,7 +84,7 @@ cell_of most value = end_of most (min value most)
 -- ---- Parts
 
 -- a range, as long as it has values
-abbrev pub share_part : ℕ → Share → Part
+abbrev pub share_part : ℕ → RangeShare → PicturePart
 share_part most s =
     record {
       kind = kind_of_rest (rest_of s.treatment);
@@ -93,7 +93,7 @@ share_part most s =
     }
 
 -- an entry, where its value is: one cell
-abbrev pub entry_part : ℕ → PageEntry → Part
+abbrev pub entry_part : ℕ → PageEntry → PicturePart
 entry_part most e =
     record {
       kind = kind_of_status e.status;
@@ -103,12 +103,12 @@ entry_part most e =
 
 -- Whether a part is not shown apart from the one before it: it lies in the same cell, or it is of the
 -- same kind and its neighbour.
-abbrev pub joins : Part → Part → Bool
+abbrev pub joins : PicturePart → PicturePart → Bool
 joins last next =
     nat_lt next.start last.end || (same_kind last.kind next.kind && next.start == last.end)
 
 -- the part that two parts make
-abbrev pub joined : Part → Part → Part
+abbrev pub joined : PicturePart → PicturePart → PicturePart
 joined last next = record {
   kind = last.kind;
   start = last.start;
@@ -116,18 +116,18 @@ joined last next = record {
 }
 
 -- parts in order, of which each is merged with those that it joins
-abbrev pub merged : Part → List Part → List Part
+abbrev pub merged : PicturePart → List PicturePart → List PicturePart
 merged last [] = last ∷ []
 merged last (next ∷ more) =
     if joins last next then merged (joined last next) more else last ∷ merged next more
 
 -- the same of all parts
-abbrev pub merged_all : List Part → List Part
+abbrev pub merged_all : List PicturePart → List PicturePart
 merged_all [] = []
 merged_all (first ∷ more) = merged first more
 
 -- the parts of entries, where they are
-abbrev pub entry_parts : ℕ → List PageEntry → List Part
+abbrev pub entry_parts : ℕ → List PageEntry → List PicturePart
 entry_parts most entries = merged_all (map (entry_part most) entries)
 
 -- ---- The picture
@@ -142,7 +142,7 @@ rect class start top long height =
     nothing
 
 -- a part of the picture
-abbrev pub part : Part → Markup
+abbrev pub part : PicturePart → Markup
 part p =
     rect (kind_class p.kind) p.start (kind_top p.kind) (p.end - p.start) (kind_height p.kind)
 
@@ -177,7 +177,7 @@ item class word n =
     (beside (text word) (beside (text (codes ": ")) (text (decimal n))))
 
 -- the same of a kind
-abbrev pub counted : Kind → List ℕ → ℕ → Markup
+abbrev pub counted : PartKind → List ℕ → ℕ → Markup
 counted kind word n = item (kind_class kind) word n
 
 -- how many values there are of each kind
@@ -201,7 +201,7 @@ bar s entries =
 -- ---- The law
 
 -- whether a part covers a cell
-abbrev pub covers : ℕ → Part → Bool
+abbrev pub covers : ℕ → PicturePart → Bool
 covers cell p = nat_le p.start cell && nat_lt cell p.end
 
 -- The picture of entries has at most 400 parts.

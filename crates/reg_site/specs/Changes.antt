@@ -7,7 +7,7 @@ use Rattle.reg_html.specs.Markup.{Attribute, Markup, nothing, text, element, bes
 use Rattle.reg_html.specs.Table.{cell, head_cell, row_of, table}
 use Rattle.reg_notes.specs.declared.note.Note.{Note}
 use Rattle.reg_pages.specs.Noted.{apply_line}
-use Rattle.reg_site.specs.declared.changes.Change.{Change}
+use Rattle.reg_site.specs.declared.changes.ChangeRow.{ChangeRow}
 
 -- ---- A change
 
@@ -22,7 +22,7 @@ pub record Changed : Type 0 where
   pub digest : List ℕ
 
 -- a change that the code has, without where its texts lie in memory
-abbrev pub shown : Change → Changed
+abbrev pub shown : ChangeRow → Changed
 shown c = record {
   number = c.number;
   moment = c.moment.now;

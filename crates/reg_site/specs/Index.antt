@@ -17,7 +17,7 @@ use Rattle.reg_notes.specs.declared.note.Note.{Note}
 use Rattle.reg_pages.specs.Noted.{apply_line}
 use Rattle.reg_site.specs.Records.{title_of}
 use Rattle.reg_site.specs.IndexTree.{IndexRow}
-use Rattle.reg_site.specs.declared.summary.Share.{Share}
+use Rattle.reg_site.specs.declared.summary.RangeShare.{RangeShare}
 use Rattle.reg_site.specs.declared.summary.Summary.{Summary}
 
 -- ---- The registries
@@ -28,7 +28,7 @@ share_texts values policy =
     plain (codes "li") (all_of (text values ∷ text (codes " ") ∷ text policy ∷ []))
 
 -- a range with its policy
-abbrev pub share_item : Share → Markup
+abbrev pub share_item : RangeShare → Markup
 share_item s = share_texts (run_text s.values) (treatment_name s.treatment)
 
 -- where the page of a registry is

@@ -12,7 +12,7 @@ use Rattle.reg_print.specs.Listing.{closed_under, is_in, whole}
 use Rattle.reg_print.specs.declared.listing.rows.Status as listing
 use Rattle.reg_site.specs.declared.summary.Rest.{Rest}
 use Rattle.reg_site.specs.declared.summary.Rest.TheVariants.{Free, SetAside, Reserved}
-use Rattle.reg_site.specs.declared.summary.Share.{Share}
+use Rattle.reg_site.specs.declared.summary.RangeShare.{RangeShare}
 use Rattle.reg_site.specs.declared.summary.Summary.{Summary}
 
 -- ---- The values of a range
@@ -27,7 +27,7 @@ rest_of (treatment.Under policy) = rest_by (closed_under policy)
 rest_of treatment.Reserved = Reserved
 
 -- a range, and how many of its values have an entry
-abbrev pub share : List PageEntry → Range → Share
+abbrev pub share : List PageEntry → Range → RangeShare
 share entries range = record {
   values = whole range;
   treatment = range.treatment;
@@ -35,7 +35,7 @@ share entries range = record {
 }
 
 -- how many values have no entry
-abbrev pub left : Share → ℕ
+abbrev pub left : RangeShare → ℕ
 left s = (s.values.hi + 1 - s.values.lo) - s.used
 
 -- ---- Counts
@@ -48,11 +48,11 @@ same_rest Reserved Reserved = true
 same_rest _ _ = false
 
 -- how many values of a share are left as this
-abbrev pub left_as : Rest → Share → ℕ
+abbrev pub left_as : Rest → RangeShare → ℕ
 left_as rest s = if same_rest (rest_of s.treatment) rest then left s else 0
 
 -- how many values without an entry stand so
-abbrev pub all_left : Rest → List Share → ℕ
+abbrev pub all_left : Rest → List RangeShare → ℕ
 all_left rest shares = sum_by (left_as rest) shares
 
 abbrev pub same_status : Status → Status → Bool
@@ -64,7 +64,7 @@ same_status _ _ = false
 abbrev pub with_status : Status → List PageEntry → ℕ
 with_status s entries = count_by (λ e. same_status e.status s) entries
 
-abbrev pub shares : Page → List Share
+abbrev pub shares : Page → List RangeShare
 shares page = map (share page.entries) page.table.ranges
 
 -- what is told of a registry beside others

@@ -4,7 +4,7 @@ ghost use Rattle.reg_html.specs.Appended.{Appended, Shown};
 ghost use Rattle.reg_html.specs.Markup.{all_of, opening_then};
 ghost use Rattle.reg_site.specs.Bar.{bar, cell_count, cell_of, counted, end_of, entry_part, entry_parts, joined, joins, item, kind_class, kind_height, kind_of_rest, kind_of_status, kind_top, legend, merged, part, picture, picture_attributes, rect, same_kind, share_part, view};
 
-use crate::summary::{Rest, Share, Summary, rest_of};
+use crate::summary::{RangeShare, Rest, Summary, rest_of};
 use reg_core::entry::PageEntry;
 use reg_early::term::Status;
 use reg_html::markup::Piece::{Markup, Number, Text};
@@ -16,7 +16,7 @@ const MOST_CELLS: u64 = 400;
 
 /// What a part of the picture stands for.
 #[derive(Clone, Copy)]
-pub(crate) enum Kind {
+pub(crate) enum PartKind {
     /// Entries for good.
     Assigned,
     /// Early allocations that stand.
@@ -33,8 +33,8 @@ pub(crate) enum Kind {
 
 /// A part of the picture: the cells from `start` on and below `end`.
 #[derive(Clone, Copy)]
-pub(crate) struct Part {
-    kind: Kind,
+pub(crate) struct PicturePart {
+    kind: PartKind,
     start: u64,
     end: u64,
 }
@@ -93,7 +93,7 @@ fn push_picture_start(out: &mut Vec<u8>, view: &str) -> Result<(), AllocError>
     )
 }
 
-fn push_shares(out: &mut Vec<u8>, most: u32, shares: &[Share]) -> Result<(), AllocError>
+fn push_shares(out: &mut Vec<u8>, most: u32, shares: &[RangeShare]) -> Result<(), AllocError>
     ensures { OnOk result
         (Shown out.old.items out.new.items (all_of (map (λ share. part (share_part most share)) shares.now))) }
 {
@@ -117,7 +117,7 @@ fn push_entries(out: &mut Vec<u8>, most: u32, entries: &[PageEntry]) -> Result<(
 fn push_after(
     out: &mut Vec<u8>,
     most: u32,
-    first: Part,
+    first: PicturePart,
     others: &[PageEntry],
 ) -> Result<(), AllocError>
     ensures { OnOk result
@@ -140,21 +140,21 @@ fn push_after(
 
 // ---- Parts
 
-fn share_part(most: u32, share: &Share) -> Part
+fn share_part(most: u32, share: &RangeShare) -> PicturePart
     ensures { result ≡ share_part most share.now }
 {
-    Part {
+    PicturePart {
         kind: kind_of_rest(rest_of(share.treatment)),
         start: cell_of(most, share.values.lo),
         end: end_of(most, u64::from(share.values.hi) + 1),
     }
 }
 
-fn entry_part(most: u32, entry: &PageEntry) -> Part
+fn entry_part(most: u32, entry: &PageEntry) -> PicturePart
     ensures { result ≡ entry_part most entry.now }
 {
     let start = cell_of(most, entry.value);
-    Part {
+    PicturePart {
         kind: kind_of_status(entry.status),
         start,
         end: start + 1,
@@ -162,16 +162,16 @@ fn entry_part(most: u32, entry: &PageEntry) -> Part
 }
 
 // Whether a part is not shown apart from the one before it.
-fn joins(last: &Part, next: &Part) -> bool
+fn joins(last: &PicturePart, next: &PicturePart) -> bool
     ensures { result ≡ joins last.now next.now }
 {
     next.start < last.end || (same_kind(last.kind, next.kind) && next.start == last.end)
 }
 
-fn joined(last: &Part, next: &Part) -> Part
+fn joined(last: &PicturePart, next: &PicturePart) -> PicturePart
     ensures { result ≡ joined last.now next.now }
 {
-    Part {
+    PicturePart {
         kind: last.kind,
         start: last.start,
         end: last.end.max(next.end),
@@ -179,7 +179,7 @@ fn joined(last: &Part, next: &Part) -> Part
 }
 
 // A part of the picture: its kind, where it begins and how long it is.
-fn push_part(out: &mut Vec<u8>, p: Part) -> Result<(), AllocError>
+fn push_part(out: &mut Vec<u8>, p: PicturePart) -> Result<(), AllocError>
     ensures { OnOk result (Shown out.old.items out.new.items (part p)) }
 {
     push_rect(
@@ -250,78 +250,78 @@ fn cell_of(most: u32, value: u32) -> u64
 
 // ---- Kinds
 
-fn same_kind(a: Kind, b: Kind) -> bool
+fn same_kind(a: PartKind, b: PartKind) -> bool
     ensures { result ≡ same_kind a b }
 {
     matches!(
         (a, b),
-        (Kind::Assigned, Kind::Assigned)
-            | (Kind::Temporary, Kind::Temporary)
-            | (Kind::Expired, Kind::Expired)
-            | (Kind::Free, Kind::Free)
-            | (Kind::SetAside, Kind::SetAside)
-            | (Kind::Reserved, Kind::Reserved)
+        (PartKind::Assigned, PartKind::Assigned)
+            | (PartKind::Temporary, PartKind::Temporary)
+            | (PartKind::Expired, PartKind::Expired)
+            | (PartKind::Free, PartKind::Free)
+            | (PartKind::SetAside, PartKind::SetAside)
+            | (PartKind::Reserved, PartKind::Reserved)
     )
 }
 
-fn kind_of_status(status: Status) -> Kind
+fn kind_of_status(status: Status) -> PartKind
     ensures { result ≡ kind_of_status status }
 {
     match status {
-        Status::Assigned => Kind::Assigned,
-        Status::Temporary => Kind::Temporary,
-        Status::Expired => Kind::Expired,
+        Status::Assigned => PartKind::Assigned,
+        Status::Temporary => PartKind::Temporary,
+        Status::Expired => PartKind::Expired,
     }
 }
 
-fn kind_of_rest(rest: Rest) -> Kind
+fn kind_of_rest(rest: Rest) -> PartKind
     ensures { result ≡ kind_of_rest rest }
 {
     match rest {
-        Rest::Free => Kind::Free,
-        Rest::SetAside => Kind::SetAside,
-        Rest::Reserved => Kind::Reserved,
+        Rest::Free => PartKind::Free,
+        Rest::SetAside => PartKind::SetAside,
+        Rest::Reserved => PartKind::Reserved,
     }
 }
 
 // The class by which the style sheet knows a kind.
-fn kind_class(kind: Kind) -> &'static str
+fn kind_class(kind: PartKind) -> &'static str
     ensures { result.now ≡ kind_class kind }
 {
     match kind {
-        Kind::Assigned => "assigned",
-        Kind::Temporary => "temporary",
-        Kind::Expired => "expired",
-        Kind::Free => "free",
-        Kind::SetAside => "aside",
-        Kind::Reserved => "reserved",
+        PartKind::Assigned => "assigned",
+        PartKind::Temporary => "temporary",
+        PartKind::Expired => "expired",
+        PartKind::Free => "free",
+        PartKind::SetAside => "aside",
+        PartKind::Reserved => "reserved",
     }
 }
 
 // Where a part of a kind begins, from above.
-fn kind_top(kind: Kind) -> &'static str
+fn kind_top(kind: PartKind) -> &'static str
     ensures { result.now ≡ kind_top kind }
 {
     match kind {
-        Kind::Assigned | Kind::Temporary => "0",
-        Kind::Expired => "18",
-        Kind::Free => "2",
-        Kind::SetAside => "8",
-        Kind::Reserved => "11",
+        PartKind::Assigned | PartKind::Temporary => "0",
+        PartKind::Expired => "18",
+        PartKind::Free => "2",
+        PartKind::SetAside => "8",
+        PartKind::Reserved => "11",
     }
 }
 
 // How high a part of a kind is.
-fn kind_height(kind: Kind) -> &'static str
+fn kind_height(kind: PartKind) -> &'static str
     ensures { result.now ≡ kind_height kind }
 {
     match kind {
-        Kind::Assigned => "24",
-        Kind::Temporary => "12",
-        Kind::Expired => "6",
-        Kind::Free => "20",
-        Kind::SetAside => "8",
-        Kind::Reserved => "2",
+        PartKind::Assigned => "24",
+        PartKind::Temporary => "12",
+        PartKind::Expired => "6",
+        PartKind::Free => "20",
+        PartKind::SetAside => "8",
+        PartKind::Reserved => "2",
     }
 }
 
@@ -331,23 +331,23 @@ fn push_legend(out: &mut Vec<u8>, summary: &Summary) -> Result<(), AllocError>
     ensures { OnOk result (Shown out.old.items out.new.items (legend summary.now)) }
 {
     push(out, "<ul>")?;
-    push_counted(out, Kind::Assigned, "Assigned", summary.assigned)?;
-    push_counted(out, Kind::Temporary, "Temporary", summary.temporary)?;
-    push_counted(out, Kind::Expired, "Expired", summary.expired)?;
-    push_counted(out, Kind::Free, "Free", summary.free)?;
+    push_counted(out, PartKind::Assigned, "Assigned", summary.assigned)?;
+    push_counted(out, PartKind::Temporary, "Temporary", summary.temporary)?;
+    push_counted(out, PartKind::Expired, "Expired", summary.expired)?;
+    push_counted(out, PartKind::Free, "Free", summary.free)?;
     push_counted(
         out,
-        Kind::SetAside,
+        PartKind::SetAside,
         "Set aside by policy",
         summary.set_aside,
     )?;
-    push_counted(out, Kind::Reserved, "Reserved", summary.reserved)?;
+    push_counted(out, PartKind::Reserved, "Reserved", summary.reserved)?;
     push(out, "</ul>")?;
     Ok(())
 }
 
 // A word with a number, and how its kind is drawn.
-fn push_counted(out: &mut Vec<u8>, kind: Kind, word: &str, n: u64) -> Result<(), AllocError>
+fn push_counted(out: &mut Vec<u8>, kind: PartKind, word: &str, n: u64) -> Result<(), AllocError>
     ensures { OnOk result (Shown out.old.items out.new.items (counted kind word.now n)) }
 {
     push_item(out, kind_class(kind), word, n)

@@ -22,7 +22,7 @@ const MOST_IN_FEED: usize = 100;
 
 /// A change of the registers, as texts.
 #[derive(Clone, Copy)]
-pub struct Change<'a> {
+pub struct ChangeRow<'a> {
     /// Counted from 1.
     pub number: u64,
     /// When it was published, as `2026-11-28T08:00:00Z`.
@@ -45,7 +45,7 @@ pub struct Change<'a> {
 pub fn changes_page(
     alloc: Global,
     authority: Option<&Note>,
-    changes: &[Change<'_>],
+    changes: &[ChangeRow<'_>],
 ) -> Result<Vec<u8>, AllocError>
     ensures { IfOk result (λ v. v.items ≡ changes_page (option_copied authority.entry) (map shown changes.now)) }
 {
@@ -59,7 +59,7 @@ pub fn changes_page(
 }
 
 // At most so many changes, from the first on.
-fn first_of<'a, 'b>(changes: &'a [Change<'b>], most: usize) -> &'a [Change<'b>]
+fn first_of<'a, 'b>(changes: &'a [ChangeRow<'b>], most: usize) -> &'a [ChangeRow<'b>]
     ensures { result.now ≡ take most changes.now }
 {
     if most < changes.len() {
@@ -86,7 +86,7 @@ fn push_links(out: &mut Vec<u8>) -> Result<(), AllocError>
     )
 }
 
-fn push_changes(out: &mut Vec<u8>, changes: &[Change<'_>]) -> Result<(), AllocError>
+fn push_changes(out: &mut Vec<u8>, changes: &[ChangeRow<'_>]) -> Result<(), AllocError>
     ensures { OnOk result (Shown out.old.items out.new.items (changes_shown (map shown changes.now))) }
 {
     match changes.first() {
@@ -95,7 +95,7 @@ fn push_changes(out: &mut Vec<u8>, changes: &[Change<'_>]) -> Result<(), AllocEr
     }
 }
 
-fn push_table(out: &mut Vec<u8>, changes: &[Change<'_>]) -> Result<(), AllocError>
+fn push_table(out: &mut Vec<u8>, changes: &[ChangeRow<'_>]) -> Result<(), AllocError>
     ensures { OnOk result
         (Shown out.old.items out.new.items (changes_table (map shown changes.now))) }
 {
@@ -113,7 +113,7 @@ fn push_table(out: &mut Vec<u8>, changes: &[Change<'_>]) -> Result<(), AllocErro
     Ok(())
 }
 
-fn push_rows(out: &mut Vec<u8>, changes: &[Change<'_>]) -> Result<(), AllocError>
+fn push_rows(out: &mut Vec<u8>, changes: &[ChangeRow<'_>]) -> Result<(), AllocError>
     ensures { OnOk result
         (Shown out.old.items out.new.items (all_of (map change_row (map shown changes.now)))) }
 {
@@ -123,7 +123,7 @@ fn push_rows(out: &mut Vec<u8>, changes: &[Change<'_>]) -> Result<(), AllocError
     Ok(())
 }
 
-fn push_row(out: &mut Vec<u8>, change: &Change<'_>) -> Result<(), AllocError>
+fn push_row(out: &mut Vec<u8>, change: &ChangeRow<'_>) -> Result<(), AllocError>
     ensures { OnOk result (Shown out.old.items out.new.items (change_row (shown change.now))) }
 {
     let alloc = *out.allocator();
@@ -169,7 +169,7 @@ fn push_row_texts<'a>(
 }
 
 // Where what was changed is shown.
-fn place_of(alloc: Global, change: &Change<'_>) -> Result<String, AllocError>
+fn place_of(alloc: Global, change: &ChangeRow<'_>) -> Result<String, AllocError>
     ensures { IfOk result (λ place. string_bytes place ≡ place_of (shown change.now)) }
 {
     let register = change.register;
@@ -194,7 +194,7 @@ pub fn changes_feed(
     alloc: Global,
     title: &str,
     id: &str,
-    changes: &[Change<'_>],
+    changes: &[ChangeRow<'_>],
 ) -> Result<Vec<u8>, AllocError>
     ensures { IfOk result (λ v. v.items ≡ changes_feed title.now id.now (map shown changes.now)) }
 {
@@ -220,7 +220,7 @@ fn push_feed_start(out: &mut Vec<u8>) -> Result<(), AllocError>
 }
 
 // When the last change was.
-fn last_moment<'a>(changes: &[Change<'a>]) -> &'a str
+fn last_moment<'a>(changes: &[ChangeRow<'a>]) -> &'a str
     ensures { result.now ≡ last_moment (map shown changes.now) }
 {
     match changes.first() {
@@ -253,7 +253,7 @@ fn push_said<'a>(
     push_all(out, &[Markup(before), Text(words), Markup(behind)])
 }
 
-fn push_entries(out: &mut Vec<u8>, changes: &[Change<'_>]) -> Result<(), AllocError>
+fn push_entries(out: &mut Vec<u8>, changes: &[ChangeRow<'_>]) -> Result<(), AllocError>
     ensures { OnOk result
         (Shown out.old.items out.new.items (all_of (map change_entry (map shown changes.now)))) }
 {
@@ -263,7 +263,7 @@ fn push_entries(out: &mut Vec<u8>, changes: &[Change<'_>]) -> Result<(), AllocEr
     Ok(())
 }
 
-fn push_entry(out: &mut Vec<u8>, change: &Change<'_>) -> Result<(), AllocError>
+fn push_entry(out: &mut Vec<u8>, change: &ChangeRow<'_>) -> Result<(), AllocError>
     ensures { OnOk result (Shown out.old.items out.new.items (change_entry (shown change.now))) }
 {
     let alloc = *out.allocator();
@@ -280,7 +280,7 @@ fn push_entry(out: &mut Vec<u8>, change: &Change<'_>) -> Result<(), AllocError>
     )
 }
 
-fn change_title(alloc: Global, change: &Change<'_>) -> Result<String, AllocError>
+fn change_title(alloc: Global, change: &ChangeRow<'_>) -> Result<String, AllocError>
     ensures { IfOk result (λ title. string_bytes title ≡ change_title (shown change.now)) }
 {
     format!(in alloc; "{} {} {}", change.register, change.kind, change.value)

@@ -10,7 +10,7 @@ ghost use Rattle.reg_site.specs.Index.{as_of, as_of_text, authority_said, block_
 use crate::index_tree::Register;
 use crate::policy::treatment_name;
 use crate::records::title_of;
-use crate::summary::{Share, Summary};
+use crate::summary::{RangeShare, Summary};
 use reg_blocks::pool::Pool;
 use reg_blocks::prefix;
 use reg_blocks::size::Size;
@@ -250,7 +250,7 @@ fn push_changed(out: &mut Vec<u8>, changed: &str) -> Result<(), AllocError>
     Ok(())
 }
 
-fn push_shares(out: &mut Vec<u8>, alloc: Global, shares: &[Share]) -> Result<(), AllocError>
+fn push_shares(out: &mut Vec<u8>, alloc: Global, shares: &[RangeShare]) -> Result<(), AllocError>
     ensures { OnOk result
         (Shown out.old.items out.new.items (all_of (map share_item shares.now))) }
 {
@@ -261,7 +261,7 @@ fn push_shares(out: &mut Vec<u8>, alloc: Global, shares: &[Share]) -> Result<(),
 }
 
 // A range with its policy.
-fn push_share(out: &mut Vec<u8>, alloc: Global, share: &Share) -> Result<(), AllocError>
+fn push_share(out: &mut Vec<u8>, alloc: Global, share: &RangeShare) -> Result<(), AllocError>
     ensures { OnOk result (Shown out.old.items out.new.items (share_item share.now)) }
 {
     let values = format!(in alloc; "{}", share.values)?;

@@ -5,7 +5,7 @@ ghost use Rattle.reg_history.specs.Overview.{IsOverview};
 ghost use Rattle.reg_site.specs.Changes.{shown};
 ghost use Rattle.reg_site.specs.Recent.{changed, day_part, feed_id, last_changes, numbered, text_of};
 
-use crate::changes::Change;
+use crate::changes::ChangeRow;
 use reg_changes::change::HistoryRecord;
 use reg_history::overview::{Overview, Tied};
 use reg_notes::words::as_text;
@@ -20,7 +20,7 @@ const DAY_BYTES: usize = 10;
 pub fn last_changes<'a>(
     alloc: Global,
     overview: &'a Overview,
-) -> Result<Vec<Change<'a>>, AllocError>
+) -> Result<Vec<ChangeRow<'a>>, AllocError>
     ensures { IfOk result (λ v. (records : List HistoryRecord) → IsOverview overview.now records
         → map shown v.items ≡ last_changes records (chained records).digests) }
 {
@@ -36,7 +36,7 @@ fn numbered<'a>(
     alloc: Global,
     before: u64,
     recent: &'a VecDeque<Tied>,
-) -> Result<Vec<Change<'a>>, AllocError>
+) -> Result<Vec<ChangeRow<'a>>, AllocError>
     ensures { IfOk result (λ v. map shown v.items
         ≡ numbered (before + 1) (map (λ t. t.row) recent.now.items) (map (λ t. t.digest) recent.now.items)) }
 {
@@ -56,10 +56,10 @@ fn next_number(number: u64) -> Result<u64, AllocError>
     number.checked_add(1).ok_or(AllocError)
 }
 
-fn changed<'a>(number: u64, row: &'a HistoryRecord, digest: &'a [u8]) -> Change<'a>
+fn changed<'a>(number: u64, row: &'a HistoryRecord, digest: &'a [u8]) -> ChangeRow<'a>
     ensures { shown result ≡ changed number row.now digest.now }
 {
-    Change {
+    ChangeRow {
         number,
         moment: row.moment.as_str(),
         register: row.change.registry().as_str(),

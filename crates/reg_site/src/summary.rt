@@ -27,7 +27,7 @@ pub enum Rest {
 
 /// A range of a registry, and how many of its values have an entry.
 #[derive(Clone, Copy, Debug)]
-pub struct Share {
+pub struct RangeShare {
     pub values: Run,
     pub treatment: Treatment,
     pub used: u64,
@@ -40,7 +40,7 @@ pub struct Summary {
     /// The largest value.
     pub max: u32,
     /// The ranges, in order.
-    pub shares: Rows<Share>,
+    pub shares: Rows<RangeShare>,
     /// Values with an entry for good.
     pub assigned: u64,
     /// Values with an early allocation that stands.
@@ -77,7 +77,7 @@ impl Summary {
 }
 
 // The ranges with their counts, at most 64.
-fn shares(alloc: Global, page: &Page) -> Result<Vec<Share>, AllocError>
+fn shares(alloc: Global, page: &Page) -> Result<Vec<RangeShare>, AllocError>
     ensures shares { IfOk result (λ v. v.items ≡ shares page.now) }
     ensures few { IfOk result (λ v. length v.items ≤ most_ranges) }
 {
@@ -88,10 +88,10 @@ fn shares(alloc: Global, page: &Page) -> Result<Vec<Share>, AllocError>
     Ok(shares)
 }
 
-fn share_of(entries: &PageEntries, range: &Range) -> Share
+fn share_of(entries: &PageEntries, range: &Range) -> RangeShare
     ensures { result ≡ share entries.now range.now }
 {
-    Share {
+    RangeShare {
         values: Run {
             lo: range.lo,
             hi: range.hi,
@@ -124,7 +124,7 @@ fn same_status(a: Status, b: Status) -> bool
 }
 
 // How many values of these ranges have no entry and stand so.
-fn all_left(shares: &[Share], rest: Rest) -> u64
+fn all_left(shares: &[RangeShare], rest: Rest) -> u64
     requires { length shares.now ≤ most_ranges }
     ensures { result ≡ all_left rest shares.now }
 {
@@ -135,7 +135,7 @@ fn all_left(shares: &[Share], rest: Rest) -> u64
     all
 }
 
-fn left_as(share: &Share, rest: Rest) -> u64
+fn left_as(share: &RangeShare, rest: Rest) -> u64
     ensures value { result ≡ left_as rest share.now }
     ensures bound { result ≤ 4294967296 }
 {
@@ -157,7 +157,7 @@ fn same_rest(a: Rest, b: Rest) -> bool
     )
 }
 
-impl Share {
+impl RangeShare {
     /// How many of its values have no entry.
     pub fn left(&self) -> u64
         ensures value { result ≡ left self.now }
