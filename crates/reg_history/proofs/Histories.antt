@@ -13,7 +13,7 @@ use Rattle.reg_history.specs.History.{AddsRecord, IsHistory, IsHistoryOf, SaysJu
 use Rattle.reg_history.specs.Overview.{AddsToOverview}
 use Rattle.reg_changes.specs.Replay.{Said, SaysAfter, after, nothing, replay}
 use Rattle.reg_changes.specs.Said.{Says, TellsLoss, said_by}
-use Rattle.reg_history.specs.declared.chain.Line.{Line}
+use Rattle.reg_history.specs.declared.chain.RecordLine.{RecordLine}
 use Rattle.reg_changes.specs.declared.change.PublishedChange.{PublishedChange}
 use Rattle.reg_changes.specs.declared.change.Fact.{Fact}
 use Rattle.reg_history.specs.declared.history.History.{History}
@@ -44,7 +44,7 @@ grows c (r ∷ records) =
 
 -- ---- Records that are added
 
-pub text-more : (records : List HistoryRecord) (r : HistoryRecord) (l : Line)
+pub text-more : (records : List HistoryRecord) (r : HistoryRecord) (l : RecordLine)
     → l.bytes.items ≡ next_line (chained records).digests r
     → (chained (records ++ r ∷ [])).text ≡ (chained records).text ++ l.bytes.items
 text-more records r l line =
@@ -58,7 +58,7 @@ says-more records r =
     ∙ replay-append nothing (map (λ (x : HistoryRecord). x.change) records) (r.change ∷ [])
 
 -- a history with one record more
-pub history-more : (h h' : History) (records : List HistoryRecord) (moment : List ℕ) (change : PublishedChange) (l : Line)
+pub history-more : (h h' : History) (records : List HistoryRecord) (moment : List ℕ) (change : PublishedChange) (l : RecordLine)
     → IsHistory h records → is_le (text_cmp h.moment moment) ≡ true
     → Says h'.said (after (said_by h.said) change)
     → AddsToOverview h'.overview records (record_of moment change) l
@@ -84,7 +84,7 @@ history-more h h' records moment change l is ordered said adds digests now =
       in_order = ap (λ (k : Chained). k.in_order) grown ∙ order;
     }
 
-pub adds_record : (h h' : History) (records : List HistoryRecord) (moment : List ℕ) (change : PublishedChange) (l : Line)
+pub adds_record : (h h' : History) (records : List HistoryRecord) (moment : List ℕ) (change : PublishedChange) (l : RecordLine)
     → IsHistory h records → is_le (text_cmp h.moment moment) ≡ true
     → Says h'.said (after (said_by h.said) change)
     → AddsToOverview h'.overview records (record_of moment change) l

@@ -9,7 +9,7 @@ use Rattle.reg_maps.specs.Maps.{text_cmp}
 use Rattle.reg_history.specs.Chain.{Chained, begun, chained, digest, line, next_digest, record_of}
 use Rattle.reg_history.specs.Overview.{AddsToOverview, IsOverview, Notes, last_of, moment_by, tied}
 use Rattle.reg_changes.specs.Recorded.{last_changed, registry_of}
-use Rattle.reg_history.specs.declared.chain.Line.{Line}
+use Rattle.reg_history.specs.declared.chain.RecordLine.{RecordLine}
 use Rattle.reg_changes.specs.declared.change.PublishedChange.{PublishedChange}
 use Rattle.reg_changes.specs.declared.change.HistoryRecord.{HistoryRecord}
 use Rattle.reg_history.specs.declared.overview.Overview.{Overview}
@@ -86,7 +86,7 @@ changed-more m m' records moment change was noted name =
 -- ---- One record more
 
 pub overview_more : (o o' : Overview) (records : List HistoryRecord) (moment : List ℕ) (change : PublishedChange)
-    (l : Line) (number : ℕ) (before : List ℕ) → IsOverview o records → number ≡ o.count + 1
+    (l : RecordLine) (number : ℕ) (before : List ℕ) → IsOverview o records → number ≡ o.count + 1
     → before ≡ unwrap_or o.last [] → l.bytes.items ≡ line before number (record_of moment change)
     → l.digest ≡ digest before number (record_of moment change) → o'.count ≡ number
     → o'.first ≡ Some (unwrap_or o.first l.digest) → o'.last ≡ Some l.digest

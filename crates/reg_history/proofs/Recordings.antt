@@ -9,7 +9,7 @@ use Rattle.reg_changes.specs.KeepingUp.{KeepsUp}
 use Rattle.reg_history.specs.Recording.{Aim, Ends, IsBegunOn, IsRecorded, Records, moment_of}
 use Rattle.reg_changes.specs.Replay.{IsLost, Said, StandsIf, changes_to, nothing, recorded, replay, without}
 use Rattle.reg_changes.specs.Said.{DoesNotStand, said_by}
-use Rattle.reg_history.specs.declared.chain.Line.{Line}
+use Rattle.reg_history.specs.declared.chain.RecordLine.{RecordLine}
 use Rattle.reg_changes.specs.declared.change.PublishedChange.{PublishedChange}
 use Rattle.reg_changes.specs.declared.change.Details.{Details}
 use Rattle.reg_changes.specs.declared.change.Fact.{Fact}
@@ -25,7 +25,7 @@ use Rattle.reg_changes.proofs.Replayed.{keeps_up-kept, keeps_up-left, keeps_up-n
 -- ---- One record more
 
 -- bytes came to a history, with what is shown of it
-pub recorded_more : (w w' : Recorded) (records : List HistoryRecord) (r : HistoryRecord) (l : Line)
+pub recorded_more : (w w' : Recorded) (records : List HistoryRecord) (r : HistoryRecord) (l : RecordLine)
     → IsRecorded w records → w'.text.items ≡ w.text.items ++ l.bytes.items
     → AddsToOverview w'.overview records r l → IsRecorded w' (records ++ r ∷ [])
 recorded_more w w' records r l is text adds = record {

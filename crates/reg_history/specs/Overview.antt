@@ -4,7 +4,7 @@ use Rattle.std.specs.BTreeMap.{BTreeMap, Updates, get}
 use Rattle.reg_maps.specs.Maps.{text_cmp}
 use Rattle.reg_history.specs.Chain.{chained, next_digest, next_line, record_of}
 use Rattle.reg_changes.specs.Recorded.{last_changed, registry_of}
-use Rattle.reg_history.specs.declared.chain.Line.{Line}
+use Rattle.reg_history.specs.declared.chain.RecordLine.{RecordLine}
 use Rattle.reg_changes.specs.declared.change.PublishedChange.{PublishedChange}
 use Rattle.reg_changes.specs.declared.change.HistoryRecord.{HistoryRecord}
 use Rattle.reg_history.specs.declared.overview.Overview.{Overview}
@@ -38,7 +38,7 @@ abbrev pub Notes : BTreeMap (List ℕ) (List ℕ) → BTreeMap (List ℕ) (List 
 Notes changed changed' moment change = Updates text_cmp changed changed' (registry_of change) (Some moment)
 
 -- a record came to what is shown, with this line
-pub record AddsToOverview (o : Overview) (records : List HistoryRecord) (r : HistoryRecord) (l : Line) : Type 0 where
+pub record AddsToOverview (o : Overview) (records : List HistoryRecord) (r : HistoryRecord) (l : RecordLine) : Type 0 where
   pub grown : IsOverview o (records ++ r ∷ [])
   pub line : l.bytes.items ≡ next_line (chained records).digests r
   pub digest : l.digest ≡ next_digest (chained records).digests r

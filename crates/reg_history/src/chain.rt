@@ -19,12 +19,12 @@ pub const DIGITS: usize = 64;
 
 /// The bytes of a record, and its digest in lower-case hexadecimal.
 #[derive(Drop)]
-pub struct Line {
+pub struct RecordLine {
     pub bytes: Vec<u8>,
     pub digest: [u8; DIGITS],
 }
 
-impl Line {
+impl RecordLine {
     /// The record of this number, by the digits of the digest before it, by which a change was published
     /// at a moment. Only want of memory is an error.
     pub fn of(
@@ -45,7 +45,7 @@ impl Line {
         let digest = digest_of(before, bytes.as_slice());
         bytes.extend_from_slice(&digest)?;
         bytes.push(b'\n')?;
-        Ok(Line { bytes, digest })
+        Ok(RecordLine { bytes, digest })
     }
 }
 

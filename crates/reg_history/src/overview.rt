@@ -3,7 +3,7 @@ ghost use Rattle.std.specs.Prelude.{◌≡◌, ◌≤◌, ◌+◌, ◌-◌, ◌+
 ghost use Rattle.reg_history.specs.Chain.{record_of};
 ghost use Rattle.reg_history.specs.Overview.{AddsToOverview, IsOverview, Notes, last_of, moment_by, tied};
 
-use crate::chain::{DIGITS, Line};
+use crate::chain::{DIGITS, RecordLine};
 use reg_changes::change::{HistoryRecord, PublishedChange};
 use reg_changes::field::Field;
 use std::alloc::{AllocError, Global};
@@ -53,14 +53,14 @@ impl Overview {
         alloc: Global,
         moment: &Field,
         change: &PublishedChange,
-    ) -> Result<Line, AllocError>
+    ) -> Result<RecordLine, AllocError>
         ensures { IfOk result (λ line. (records : List HistoryRecord) → IsOverview self.old records
             → AddsToOverview self.new records (record_of moment.now change.now) line) }
     {
         let Some(number) = self.count.checked_add(1) else {
             return Err(AllocError);
         };
-        let line = Line::of(alloc, number, self.last_digest(), moment, change)?;
+        let line = RecordLine::of(alloc, number, self.last_digest(), moment, change)?;
         note_recent(&mut self.recent, moment, change, line.digest)?;
         note_moment(&mut self.changed, moment, change)?;
         self.count = number;

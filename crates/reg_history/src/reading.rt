@@ -13,14 +13,14 @@ use std::collections::BTreeSet;
 pub(crate) struct Records<'a> {
     reader: Reader<&'a [u8]>,
     row: ByteRecord,
-    fields: Fields,
+    fields: SharedFields,
 }
 
 impl<'a> Records<'a> {
     /// Those of a text without the record of its columns. Only want of memory is an error.
     pub fn of(alloc: Global, text: &'a [u8]) -> Result<Self, AllocError> {
         Ok(Records {
-            fields: Fields::new(alloc)?,
+            fields: SharedFields::new(alloc)?,
             reader: ReaderBuilder::new()
                 .has_headers(false)
                 .from_reader(alloc, text),
@@ -47,15 +47,15 @@ impl<'a> Records<'a> {
 
 // The fields of records. Equal fields of columns with few texts share them.
 #[derive(Drop)]
-struct Fields {
+struct SharedFields {
     alloc: Global,
     none: Field,
     known: BTreeSet<Field>,
 }
 
-impl Fields {
+impl SharedFields {
     fn new(alloc: Global) -> Result<Self, AllocError> {
-        Ok(Fields {
+        Ok(SharedFields {
             alloc,
             none: Field::new(alloc, "")?,
             known: BTreeSet::new(alloc),
