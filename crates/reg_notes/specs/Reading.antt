@@ -12,8 +12,8 @@ use Rattle.reg_notes.specs.Words.{is_words}
 use Rattle.reg_notes.specs.declared.note.Note.{Note}
 use Rattle.reg_notes.specs.declared.reading.NotesFault.{NotesFault}
 use Rattle.reg_notes.specs.declared.reading.NotesFault.TheVariants as fault
-use Rattle.reg_notes.specs.declared.reading.RowPart.{RowPart}
-use Rattle.reg_notes.specs.declared.reading.RowPart.TheVariants as part
+use Rattle.reg_notes.specs.declared.reading.NotesPart.{NotesPart}
+use Rattle.reg_notes.specs.declared.reading.NotesPart.TheVariants as part
 use Rattle.reg_ranges.specs.Numbers.{read_number}
 use Rattle.reg_ranges.specs.RowReading.{text_rows}
 use Rattle.reg_ranges.specs.Texts.{read_text}
@@ -104,7 +104,7 @@ IsFaultOfNotes read (fault.Row n part) = read ≡ Err (fault.Row n part)
 
 -- ---- Faults as texts
 
-abbrev pub part_word : RowPart → List ℕ
+abbrev pub part_word : NotesPart → List ℕ
 part_word part.Columns = codes "columns"
 part_word part.Registry = codes "registry"
 part_word part.Value = codes "value"

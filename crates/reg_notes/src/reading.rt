@@ -22,7 +22,7 @@ pub const MOST_BYTES: usize = 1_048_576;
 
 /// The part of a row that is at fault.
 #[derive(Clone, Copy, Debug, PartialEq, Eq)]
-pub enum RowPart {
+pub enum NotesPart {
     /// The row has not five columns.
     Columns,
     /// `registry` is not empty and not the name of a registry.
@@ -44,21 +44,21 @@ pub enum NotesFault {
     /// The first record is not `registry,value,title,reference,note`, or there is none.
     Header,
     /// The row at this place is at fault. Rows count from 0, after the header.
-    Row(usize, RowPart),
+    Row(usize, NotesPart),
     /// There was no memory for more.
     Memory,
 }
 
-impl fmt::Display for RowPart {
+impl fmt::Display for NotesPart {
     ghost output = { λ p. Some (part_word p) };
 
     fn fmt<W: fmt::Write>(&self, f: &mut fmt::Formatter<W>) -> fmt::Result {
         match self {
-            RowPart::Columns => write!(f, "columns"),
-            RowPart::Registry => write!(f, "registry"),
-            RowPart::Value => write!(f, "value"),
-            RowPart::Text => write!(f, "text"),
-            RowPart::Repeated => write!(f, "repeated"),
+            NotesPart::Columns => write!(f, "columns"),
+            NotesPart::Registry => write!(f, "registry"),
+            NotesPart::Value => write!(f, "value"),
+            NotesPart::Text => write!(f, "text"),
+            NotesPart::Repeated => write!(f, "repeated"),
         }
     }
 }
@@ -90,7 +90,7 @@ impl From<AllocError> for NotesFault {
 
 // The five fields of a row.
 #[derive(Clone, Copy)]
-struct Fields<'a> {
+struct NoteFields<'a> {
     registry: &'a [u8],
     value: &'a [u8],
     title: &'a [u8],
@@ -100,13 +100,13 @@ struct Fields<'a> {
 
 // A thing with its note.
 #[derive(Drop)]
-struct Row {
+struct NotedThing {
     thing: String,
     note: Note,
 }
 
 #[tactic(auto, using(crate::proofs::FiveFields::five_there, crate::proofs::FiveFields::these_five))]
-fn five_fields(row: &ByteRecord) -> Option<Fields<'_>>
+fn five_fields(row: &ByteRecord) -> Option<NoteFields<'_>>
     ensures { MatchOption result (length (fields_of row.now) ≢ 5)
         (λ f. fields_of row.now ≡ f.registry.now ∷ f.value.now ∷ f.title.now ∷ f.reference.now
         ∷ f.note.now ∷ []) }
@@ -114,7 +114,7 @@ fn five_fields(row: &ByteRecord) -> Option<Fields<'_>>
     if row.len() != 5 {
         return None;
     }
-    Some(Fields {
+    Some(NoteFields {
         registry: row.get(0)?,
         value: row.get(1)?,
         title: row.get(2)?,
@@ -132,7 +132,7 @@ fn is_header(row: &ByteRecord) -> bool
     }
 }
 
-fn names_columns(fields: Fields<'_>) -> bool
+fn names_columns(fields: NoteFields<'_>) -> bool
     ensures { result ≡ is_header
         (fields.entry.registry.now ∷ fields.entry.value.now ∷ fields.entry.title.now
         ∷ fields.entry.reference.now ∷ fields.entry.note.now ∷ []) }
@@ -144,18 +144,18 @@ fn names_columns(fields: Fields<'_>) -> bool
         && fields.note == b"note".as_slice()
 }
 
-fn read_row(alloc: Global, n: usize, row: &ByteRecord) -> Result<Row, NotesFault>
+fn read_row(alloc: Global, n: usize, row: &ByteRecord) -> Result<NotedThing, NotesFault>
     ensures row { IfOk result
         (λ r. row_of n (fields_of row.now) ≡ Ok (string_bytes r.thing, r.note)) }
     ensures fault { IfErr result (IsFaultOfNotes (row_of n (fields_of row.now))) }
 {
     match five_fields(row) {
-        None => Err(NotesFault::Row(n, RowPart::Columns)),
+        None => Err(NotesFault::Row(n, NotesPart::Columns)),
         Some(fields) => read_fields(alloc, n, fields),
     }
 }
 
-fn read_fields(alloc: Global, n: usize, fields: Fields<'_>) -> Result<Row, NotesFault>
+fn read_fields(alloc: Global, n: usize, fields: NoteFields<'_>) -> Result<NotedThing, NotesFault>
     ensures row { IfOk result
         (λ r. row_of n
         (fields.entry.registry.now ∷ fields.entry.value.now ∷ fields.entry.title.now
@@ -168,7 +168,7 @@ fn read_fields(alloc: Global, n: usize, fields: Fields<'_>) -> Result<Row, Notes
 {
     let thing = read_thing(alloc, n, fields.registry, fields.value)?;
     let note = read_note(alloc, n, fields.title, fields.reference, fields.note)?;
-    Ok(Row { thing, note })
+    Ok(NotedThing { thing, note })
 }
 
 // What row n is about.
@@ -179,11 +179,11 @@ fn read_thing(alloc: Global, n: usize, registry: &[u8], value: &[u8]) -> Result<
     if registry.is_empty() {
         return read_authority(alloc, n, value);
     }
-    let name = Name::read(registry).ok_or(NotesFault::Row(n, RowPart::Registry))?;
+    let name = Name::read(registry).ok_or(NotesFault::Row(n, NotesPart::Registry))?;
     if value.is_empty() {
         return Ok(String::from_str(alloc, name.as_str())?);
     }
-    let value = read_number(value).ok_or(NotesFault::Row(n, RowPart::Value))?;
+    let value = read_number(value).ok_or(NotesFault::Row(n, NotesPart::Value))?;
     Ok(entry_thing(alloc, name.as_str(), value)?)
 }
 
@@ -195,7 +195,7 @@ fn read_authority(alloc: Global, n: usize, value: &[u8]) -> Result<String, Notes
     if value.is_empty() {
         Ok(String::new(alloc))
     } else {
-        Err(NotesFault::Row(n, RowPart::Value))
+        Err(NotesFault::Row(n, NotesPart::Value))
     }
 }
 
@@ -225,7 +225,7 @@ fn read_words(alloc: Global, n: usize, field: &[u8]) -> Result<Words, NotesFault
 {
     match Words::read(alloc, field)? {
         Some(words) => Ok(words),
-        None => Err(NotesFault::Row(n, RowPart::Text)),
+        None => Err(NotesFault::Row(n, NotesPart::Text)),
     }
 }
 
@@ -269,14 +269,14 @@ fn notes_of(alloc: Global, rows: &mut ByteRecordsIntoIter<&[u8]>) -> Result<Note
 }
 
 // Adds what the next row says, where no earlier row is about the same thing.
-fn add(notes: &mut Notes, row: Row) -> Result<(), NotesFault>
+fn add(notes: &mut Notes, row: NotedThing) -> Result<(), NotesFault>
     ensures counted { OnOk result (note_count notes.new ≡ note_count notes.old + 1) }
     ensures added { (before : List Noted) → AreNotes notes.old before
         → AddsNotes result notes.new (added (note_count notes.old) before (string_bytes row.thing, row.note)) }
 {
     let n = notes.count();
     if notes.at(row.thing.as_str()).is_some() {
-        return Err(NotesFault::Row(n, RowPart::Repeated));
+        return Err(NotesFault::Row(n, NotesPart::Repeated));
     }
     notes.add(row.thing, row.note)?;
     Ok(())

@@ -4,7 +4,7 @@ ghost use Rattle.std.specs.Prelude.{◌≡◌, is_some, IfOk};
 use crate::faults::{JobFailure, Undone};
 use crate::inputs::notes_of;
 use reg_notes::notes::Notes;
-use reg_notes::reading::{NotesFault, RowPart, read_notes};
+use reg_notes::reading::{NotesFault, NotesPart, read_notes};
 use std::alloc::{AllocError, Global};
 
 /// The notes in the file at a path, if there is one. `Large` where it has more than 1,048,576 bytes,
@@ -50,12 +50,12 @@ fn undone(alloc: Global, fault: NotesFault) -> Result<Undone, AllocError> {
 }
 
 // What is wrong with a row.
-fn words_of(part: RowPart) -> &'static str {
+fn words_of(part: NotesPart) -> &'static str {
     match part {
-        RowPart::Columns => "it has not five fields",
-        RowPart::Registry => "the registry has not the form of a name",
-        RowPart::Value => "the value is no number of a registry",
-        RowPart::Text => "a text is too long, or has other characters than it may have",
-        RowPart::Repeated => "an earlier row is on the same thing",
+        NotesPart::Columns => "it has not five fields",
+        NotesPart::Registry => "the registry has not the form of a name",
+        NotesPart::Value => "the value is no number of a registry",
+        NotesPart::Text => "a text is too long, or has other characters than it may have",
+        NotesPart::Repeated => "an earlier row is on the same thing",
     }
 }
