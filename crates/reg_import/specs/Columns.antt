@@ -4,7 +4,7 @@ use Rattle.std.specs.Str.{bytes_eq}
 use Rattle.csv.specs.Records.{field_at, fields_of}
 use Rattle.reg_import.specs.declared.column.Column.{Column}
 use Rattle.reg_import.specs.declared.column.Column.TheVariants as column
-use Rattle.reg_import.specs.declared.fields.Fields.{Fields}
+use Rattle.reg_import.specs.declared.fields.RowFields.{RowFields}
 
 -- the word above a column
 abbrev pub column_word : Column → List ℕ
@@ -80,6 +80,6 @@ field_in header fields column =
     unwrap_or (option_and_then (field_at fields) (place_of header column)) []
 
 -- the same of a row below its header
-abbrev pub stands_in : Fields → Column → List ℕ
+abbrev pub stands_in : RowFields → Column → List ℕ
 stands_in fields column =
     field_in (fields_of fields.header.now) (fields_of fields.row.now) column

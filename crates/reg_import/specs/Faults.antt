@@ -6,8 +6,8 @@ use Rattle.reg_import.specs.declared.column.Column.{Column}
 use Rattle.reg_import.specs.declared.column.Column.TheVariants as column
 use Rattle.reg_import.specs.declared.fault.ImportFault.{ImportFault}
 use Rattle.reg_import.specs.declared.fault.ImportFault.TheVariants as import
-use Rattle.reg_import.specs.declared.fault.RowFault.{RowFault}
-use Rattle.reg_import.specs.declared.fault.RowFault.TheVariants as fault
+use Rattle.reg_import.specs.declared.fault.ImportRowFault.{ImportRowFault}
+use Rattle.reg_import.specs.declared.fault.ImportRowFault.TheVariants as fault
 
 -- that a column has not what it may have
 abbrev pub form_text : Column → List ℕ
@@ -33,7 +33,7 @@ form_text column.Chair = codes "is not 1 to 200 printable ASCII characters"
 form_text column.Director = codes "is not 1 to 200 printable ASCII characters"
 
 -- what is wrong with a row
-abbrev pub row_fault_text : RowFault → List ℕ
+abbrev pub row_fault_text : ImportRowFault → List ℕ
 row_fault_text fault.Columns = codes "it does not have as many fields as the header"
 row_fault_text (fault.Form c) = column_word c ++ (codes " " ++ form_text c)
 row_fault_text fault.Future = codes "First is after today"
@@ -44,7 +44,7 @@ row_fault_text fault.Own = codes "Assignee is the expert"
 row_fault_text fault.Memory = codes "memory"
 
 -- the fault is the one that reading finds, unless memory ran out
-abbrev pub IsFaultOfImport : {A : Type 0} → Result A RowFault → RowFault → Type 0
+abbrev pub IsFaultOfImport : {A : Type 0} → Result A ImportRowFault → ImportRowFault → Type 0
 IsFaultOfImport read fault.Memory = Unit {0}
 IsFaultOfImport read fault.Columns = read ≡ Err fault.Columns
 IsFaultOfImport read (fault.Form c) = read ≡ Err (fault.Form c)
@@ -62,6 +62,6 @@ IsImportFaultOf read (import.Row n f) = read ≡ Err (import.Row n f)
 
 -- each step in turn, as far as none is at fault
 infixl 10 ◌>>=◌
-abbrev pub ◌>>=◌ : {A B : Type 0} → Result A RowFault → (A → Result B RowFault) → Result B RowFault
+abbrev pub ◌>>=◌ : {A B : Type 0} → Result A ImportRowFault → (A → Result B ImportRowFault) → Result B ImportRowFault
 (Ok x) >>= f = f x
 (Err e) >>= f = Err e

@@ -17,8 +17,8 @@ use Rattle.reg_print.specs.Trees.Ask.{ask_tree}
 use Rattle.reg_import.specs.Days.{midnight}
 use Rattle.reg_import.specs.declared.entry.EarlyStanding.{EarlyStanding}
 use Rattle.reg_import.specs.declared.entry.ListedEntry.{ListedEntry}
-use Rattle.reg_import.specs.declared.entry.Standing.{Standing}
-use Rattle.reg_import.specs.declared.entry.Standing.TheVariants.{ForGood, Early}
+use Rattle.reg_import.specs.declared.entry.ListedStanding.{ListedStanding}
+use Rattle.reg_import.specs.declared.entry.ListedStanding.TheVariants.{ForGood, Early}
 use Rattle.reg_import.specs.declared.import.Import.{Import}
 use Rattle.reg_import.specs.declared.lines.Filing.{Filing as FilingRow}
 use Rattle.reg_import.specs.declared.marks.Pass.{Pass}
@@ -176,7 +176,7 @@ filing_lines by f =
 -- ---- Entries
 
 -- what is asked for a new entry
-abbrev pub entry_ask_by : Import → ListedEntry → Standing → Ask
+abbrev pub entry_ask_by : Import → ListedEntry → ListedStanding → Ask
 entry_ask_by by entry (ForGood evidence) =
     ask.Code (record {
       registry = by.registry;
@@ -235,7 +235,7 @@ renewal_lines by entry standing (Some day) =
     filing_lines by (renewal_filing by entry standing day)
 
 -- what is done with an entry once it is there
-abbrev pub later_lines : Import → ListedEntry → Standing → List Line
+abbrev pub later_lines : Import → ListedEntry → ListedStanding → List Line
 later_lines by entry (ForGood evidence) = []
 later_lines by entry (Early standing) =
     hold_lines by entry standing.held ++ renewal_lines by entry standing standing.renewal

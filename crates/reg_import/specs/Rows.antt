@@ -27,10 +27,10 @@ use Rattle.reg_import.specs.declared.entry.EarlyStanding.{EarlyStanding}
 use Rattle.reg_import.specs.declared.entry.EntryKind.{EntryKind}
 use Rattle.reg_import.specs.declared.entry.EntryKind.TheVariants as kind
 use Rattle.reg_import.specs.declared.entry.ListedEntry.{ListedEntry}
-use Rattle.reg_import.specs.declared.entry.Standing.{Standing}
-use Rattle.reg_import.specs.declared.entry.Standing.TheVariants.{ForGood, Early}
-use Rattle.reg_import.specs.declared.fault.RowFault.{RowFault}
-use Rattle.reg_import.specs.declared.fault.RowFault.TheVariants as fault
+use Rattle.reg_import.specs.declared.entry.ListedStanding.{ListedStanding}
+use Rattle.reg_import.specs.declared.entry.ListedStanding.TheVariants.{ForGood, Early}
+use Rattle.reg_import.specs.declared.fault.ImportRowFault.{ImportRowFault}
+use Rattle.reg_import.specs.declared.fault.ImportRowFault.TheVariants as fault
 use Rattle.reg_import.specs.declared.import.Import.{Import}
 
 -- what stands in each column of a row
@@ -41,34 +41,34 @@ abbrev pub is_empty : List ℕ → Bool
 is_empty text = length text == 0
 
 -- what is there, else that the column has not its form
-abbrev pub formed : {A : Type 0} → Option A → Column → Result A RowFault
+abbrev pub formed : {A : Type 0} → Option A → Column → Result A ImportRowFault
 formed read column = ok_or read (fault.Form column)
 
 -- nothing, where this is so; else a fault
-abbrev pub checked : Bool → RowFault → Result (Unit {0}) RowFault
+abbrev pub checked : Bool → ImportRowFault → Result (Unit {0}) ImportRowFault
 checked true fault = Ok tt
 checked false fault = Err fault
 
 -- ---- Texts and marks
 
 -- the text of a column that has one
-abbrev pub text_in : CellsOfRow → Column → Result (List ℕ) RowFault
+abbrev pub text_in : CellsOfRow → Column → Result (List ℕ) ImportRowFault
 text_in row column = formed (read_text is_text (row column)) column
 
 -- the text of a column that may be empty
-abbrev pub note_in : CellsOfRow → Column → Result (Option (List ℕ)) RowFault
+abbrev pub note_in : CellsOfRow → Column → Result (Option (List ℕ)) ImportRowFault
 note_in row column =
     if is_empty (row column) then Ok None else (text_in row column >>= (λ text. Ok (Some text)))
 
 -- a mark: true, false, or empty for false
-abbrev pub mark_in : CellsOfRow → Column → Result Bool RowFault
+abbrev pub mark_in : CellsOfRow → Column → Result Bool ImportRowFault
 mark_in row column =
     if bytes_eq (row column) (codes "true") then Ok true
     else if is_empty (row column) || bytes_eq (row column) (codes "false") then Ok false
     else Err (fault.Form column)
 
 -- whether the entry is held: held, or empty
-abbrev pub held_in : CellsOfRow → Result Bool RowFault
+abbrev pub held_in : CellsOfRow → Result Bool ImportRowFault
 held_in row =
     if bytes_eq (row column.Held) (codes "held") then Ok true
     else if is_empty (row column.Held) then Ok false
@@ -77,28 +77,28 @@ held_in row =
 -- ---- Evidence
 
 -- who can be asked; the assignee where nobody is named
-abbrev pub contact_in : CellsOfRow → List ℕ → Result (List ℕ) RowFault
+abbrev pub contact_in : CellsOfRow → List ℕ → Result (List ℕ) ImportRowFault
 contact_in row assignee =
     if is_empty (row column.Contact) then formed (read_text is_text assignee) column.Contact
     else text_in row column.Contact
 
 -- the RFC of a number, where there is one of it
-abbrev pub rfc_of : PublishedRfc → Result (Option PublishedRfc) RowFault
+abbrev pub rfc_of : PublishedRfc → Result (Option PublishedRfc) ImportRowFault
 rfc_of rfc = if is_within 1 99999 rfc.number then Ok (Some rfc) else Err (fault.Form column.Rfc)
 
 -- the RFC that is named
-abbrev pub rfc_named : CellsOfRow → Result (Option PublishedRfc) RowFault
+abbrev pub rfc_named : CellsOfRow → Result (Option PublishedRfc) ImportRowFault
 rfc_named row = do
   number ← formed (read_number (row column.Rfc)) column.Rfc
   stream ← formed (read_stream (row column.Stream)) column.Stream
   track ← formed (read_track (row column.Track)) column.Track
   rfc_of (record { number = number; stream = stream; track = track })
 
-abbrev pub rfc_in : CellsOfRow → Result (Option PublishedRfc) RowFault
+abbrev pub rfc_in : CellsOfRow → Result (Option PublishedRfc) ImportRowFault
 rfc_in row = if is_empty (row column.Rfc) then Ok None else rfc_named row
 
 -- the evidence for an assignment
-abbrev pub evidence_in : CellsOfRow → List ℕ → Result Evidence RowFault
+abbrev pub evidence_in : CellsOfRow → List ℕ → Result Evidence ImportRowFault
 evidence_in row assignee = do
   contact ← contact_in row assignee
   spec ← note_in row column.Specification
@@ -107,7 +107,7 @@ evidence_in row assignee = do
   Ok (record { contact = Some contact; spec = spec; rfc = rfc; minute = minute })
 
 -- and for an early allocation
-abbrev pub early_evidence_in : CellsOfRow → Result EarlyEvidence RowFault
+abbrev pub early_evidence_in : CellsOfRow → Result EarlyEvidence ImportRowFault
 early_evidence_in row = do
   draft ← note_in row column.Draft
   stable ← mark_in row column.Stable
@@ -125,7 +125,7 @@ early_evidence_in row = do
   })
 
 -- nothing is lacking
-abbrev pub is_met : Option EvidenceItem → Result (Unit {0}) RowFault
+abbrev pub is_met : Option EvidenceItem → Result (Unit {0}) ImportRowFault
 is_met None = Ok tt
 is_met (Some item) = Err (fault.Lacks item)
 
@@ -135,21 +135,21 @@ is_met (Some item) = Err (fault.Lacks item)
 abbrev pub may_renew : ℕ → ℕ → Bool
 may_renew first day = nat_le (year_after first) day && nat_lt day 376200
 
-abbrev pub renewal_on : ℕ → Option ℕ → Result (Option ℕ) RowFault
+abbrev pub renewal_on : ℕ → Option ℕ → Result (Option ℕ) ImportRowFault
 renewal_on first None = Err fault.Expiry
 renewal_on first (Some day) = if may_renew first day then Ok (Some day) else Err fault.Expiry
 
 -- the day on which an early allocation was renewed that began on a day and expires on another: none
 -- where that is a year after the first, and else the day one year before
-abbrev pub renewal_for : ℕ → ℕ → Result (Option ℕ) RowFault
+abbrev pub renewal_for : ℕ → ℕ → Result (Option ℕ) ImportRowFault
 renewal_for first expires =
     if year_after first == expires then Ok None else renewal_on first (year_before expires)
 
-abbrev pub expires_in : CellsOfRow → Result ℕ RowFault
+abbrev pub expires_in : CellsOfRow → Result ℕ ImportRowFault
 expires_in row = formed (read_day (row column.Expires)) column.Expires
 
 -- an early allocation, with what its policy asks for
-abbrev pub early_in : CellsOfRow → Policy → ℕ → Result EarlyStanding RowFault
+abbrev pub early_in : CellsOfRow → Policy → ℕ → Result EarlyStanding ImportRowFault
 early_in row policy first = do
   expires ← expires_in row
   renewal ← renewal_for first expires
@@ -159,7 +159,7 @@ early_in row policy first = do
   Ok (record { expires = expires; renewal = renewal; evidence = evidence; held = held })
 
 -- the evidence of an entry for good, which does not expire and is not held
-abbrev pub for_good_in : CellsOfRow → Policy → List ℕ → Result Evidence RowFault
+abbrev pub for_good_in : CellsOfRow → Policy → List ℕ → Result Evidence ImportRowFault
 for_good_in row policy assignee = do
   stays ← checked (is_empty (row column.Expires)) fault.Expiry
   held ← held_in row
@@ -168,7 +168,7 @@ for_good_in row policy assignee = do
   met ← is_met (first_item (unmet policy evidence))
   Ok evidence
 
-abbrev pub standing_in : CellsOfRow → EntryKind → Policy → ℕ → List ℕ → Result Standing RowFault
+abbrev pub standing_in : CellsOfRow → EntryKind → Policy → ℕ → List ℕ → Result ListedStanding ImportRowFault
 standing_in row kind.Early policy first assignee =
     early_in row policy first >>= (λ standing. Ok (Early standing))
 standing_in row kind.ForGood policy first assignee =
@@ -176,26 +176,26 @@ standing_in row kind.ForGood policy first assignee =
 
 -- ---- Entries
 
-abbrev pub value_in : CellsOfRow → Result ℕ RowFault
+abbrev pub value_in : CellsOfRow → Result ℕ ImportRowFault
 value_in row = formed (read_number (row column.Value)) column.Value
 
-abbrev pub policy_in : CellsOfRow → Result Policy RowFault
+abbrev pub policy_in : CellsOfRow → Result Policy ImportRowFault
 policy_in row = formed (read_policy (row column.Policy)) column.Policy
 
 -- the first day, which is not after today
-abbrev pub first_in : Import → CellsOfRow → Result ℕ RowFault
+abbrev pub first_in : Import → CellsOfRow → Result ℕ ImportRowFault
 first_in import row = do
   first ← formed (read_day (row column.First)) column.First
   if nat_lt import.today first then Err fault.Future else Ok first
 
 -- the assignee, who is not the expert where one has to look at it
-abbrev pub assignee_in : Import → CellsOfRow → Policy → Result (List ℕ) RowFault
+abbrev pub assignee_in : Import → CellsOfRow → Policy → Result (List ℕ) ImportRowFault
 assignee_in import row policy = do
   assignee ← formed (read_text is_name (row column.Assignee)) column.Assignee
   if is_expert_policy policy && bytes_eq assignee import.expert then Err fault.Own else Ok assignee
 
 -- the entry of a row of this kind, or its first fault, from one column to the next
-abbrev pub entry_in : Import → EntryKind → CellsOfRow → Result ListedEntry RowFault
+abbrev pub entry_in : Import → EntryKind → CellsOfRow → Result ListedEntry ImportRowFault
 entry_in import kind row = do
   value ← value_in row
   label ← text_in row column.Description
@@ -232,7 +232,7 @@ is_early word =
     is_word_of word (status.Entry term.Temporary) || is_word_of word (status.Entry term.Expired)
 
 -- which kind of entry the status of a row says; none where its values have no entry
-abbrev pub kind_in : CellsOfRow → Result (Option EntryKind) RowFault
+abbrev pub kind_in : CellsOfRow → Result (Option EntryKind) ImportRowFault
 kind_in row =
     if is_vacant (row column.Status) then Ok None
     else if is_word_of (row column.Status) (status.Entry term.Assigned) then Ok (Some kind.ForGood)
@@ -241,13 +241,13 @@ kind_in row =
 
 -- ---- Rows
 
-abbrev pub entry_if : Import → CellsOfRow → Option EntryKind → Result (Option ListedEntry) RowFault
+abbrev pub entry_if : Import → CellsOfRow → Option EntryKind → Result (Option ListedEntry) ImportRowFault
 entry_if import row None = Ok None
 entry_if import row (Some kind) = entry_in import kind row >>= (λ entry. Ok (Some entry))
 
 -- the entry that a row says, none where its values have none; or its first fault: the count of its
 -- fields, then its status, then its other columns
-unfoldable pub row_in : Import → List (List ℕ) → List (List ℕ) → Result (Option ListedEntry) RowFault
+unfoldable pub row_in : Import → List (List ℕ) → List (List ℕ) → Result (Option ListedEntry) ImportRowFault
 row_in import header fields =
     if length fields == length header
     then (kind_in (field_in header fields) >>= entry_if import (field_in header fields))

@@ -7,7 +7,7 @@ use Rattle.reg_import.specs.Rows.{row_in}
 use Rattle.reg_import.specs.declared.entry.ListedEntry.{ListedEntry}
 use Rattle.reg_import.specs.declared.fault.ImportFault.{ImportFault}
 use Rattle.reg_import.specs.declared.fault.ImportFault.TheVariants.{Header, Row}
-use Rattle.reg_import.specs.declared.fault.RowFault.{RowFault}
+use Rattle.reg_import.specs.declared.fault.ImportRowFault.{ImportRowFault}
 use Rattle.reg_import.specs.declared.import.Import.{Import}
 
 infixl 10 ◌>>=◌
@@ -22,7 +22,7 @@ lines_if by None = []
 lines_if by (Some entry) = entry_lines by entry
 
 -- what the row of a number says
-abbrev pub numbered : {A : Type 0} → ℕ → Result A RowFault → Result A ImportFault
+abbrev pub numbered : {A : Type 0} → ℕ → Result A ImportRowFault → Result A ImportFault
 numbered n (Ok x) = Ok x
 numbered n (Err fault) = Err (Row n fault)
 

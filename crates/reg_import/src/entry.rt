@@ -18,12 +18,12 @@ pub struct ListedEntry {
     /// Whose it is.
     pub assignee: Account,
     /// How long it stands, and on which evidence.
-    pub standing: Standing,
+    pub standing: ListedStanding,
 }
 
 /// How long an entry stands, and on which evidence.
 #[derive(Drop)]
-pub enum Standing {
+pub enum ListedStanding {
     /// For good.
     ForGood(Evidence),
     /// As an early allocation (RFC 7120).

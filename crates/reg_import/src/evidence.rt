@@ -5,8 +5,8 @@ ghost use Rattle.reg_import.specs.Faults.{IsFaultOfImport};
 ghost use Rattle.reg_import.specs.Rows.{contact_in, early_evidence_in, evidence_in, rfc_in};
 
 use crate::column::Column;
-use crate::fault::RowFault;
-use crate::fields::{Fields, mark_in, note_in, stands_in, text_in};
+use crate::fault::ImportRowFault;
+use crate::fields::{RowFields, mark_in, note_in, stands_in, text_in};
 use reg_core::text::{Account, Text};
 use reg_early::evidence::EarlyEvidence;
 use reg_ranges::evidence::{Evidence, Rfc, Stream, Track};
@@ -16,9 +16,9 @@ use std::alloc::Global;
 /// The evidence for an assignment to an account.
 pub(crate) fn evidence_in(
     alloc: Global,
-    fields: &Fields<'_>,
+    fields: &RowFields<'_>,
     assignee: &Account,
-) -> Result<Evidence, RowFault>
+) -> Result<Evidence, ImportRowFault>
     ensures evidence { IfOk result
         (λ evidence. evidence_in (stands_in fields.now) assignee.now ≡ Ok evidence) }
     ensures fault { IfErr result (IsFaultOfImport (evidence_in (stands_in fields.now) assignee.now)) }
@@ -36,7 +36,11 @@ pub(crate) fn evidence_in(
 }
 
 // Who can be asked; the assignee where nobody is named.
-fn contact_in(alloc: Global, fields: &Fields<'_>, assignee: &Account) -> Result<Text, RowFault>
+fn contact_in(
+    alloc: Global,
+    fields: &RowFields<'_>,
+    assignee: &Account,
+) -> Result<Text, ImportRowFault>
     ensures contact { IfOk result
         (λ contact. contact_in (stands_in fields.now) assignee.now ≡ Ok contact) }
     ensures fault { IfErr result (IsFaultOfImport (contact_in (stands_in fields.now) assignee.now)) }
@@ -46,34 +50,36 @@ fn contact_in(alloc: Global, fields: &Fields<'_>, assignee: &Account) -> Result<
     }
     match Text::read(alloc, assignee.as_str().as_bytes())? {
         Some(text) => Ok(text),
-        None => Err(RowFault::Form(Column::Contact)),
+        None => Err(ImportRowFault::Form(Column::Contact)),
     }
 }
 
 // The RFC, where its number is there.
-fn rfc_in(fields: &Fields<'_>) -> Result<Option<Rfc>, RowFault>
+fn rfc_in(fields: &RowFields<'_>) -> Result<Option<Rfc>, ImportRowFault>
     ensures { result ≡ rfc_in (stands_in fields.now) }
 {
     let digits = stands_in(fields, Column::Rfc);
     if digits.is_empty() {
         return Ok(None);
     }
-    let number = read_number(digits).ok_or(RowFault::Form(Column::Rfc))?;
-    let stream = Stream::read(stands_in(fields, Column::Stream)).ok_or(RowFault::Form(
+    let number = read_number(digits).ok_or(ImportRowFault::Form(Column::Rfc))?;
+    let stream = Stream::read(stands_in(fields, Column::Stream)).ok_or(ImportRowFault::Form(
         Column::Stream,
     ))?;
-    let track = Track::read(stands_in(fields, Column::Track)).ok_or(RowFault::Form(Column::Track))?;
+    let track = Track::read(stands_in(fields, Column::Track)).ok_or(ImportRowFault::Form(
+        Column::Track,
+    ))?;
     match Rfc::make(number, stream, track) {
         Some(rfc) => Ok(Some(rfc)),
-        None => Err(RowFault::Form(Column::Rfc)),
+        None => Err(ImportRowFault::Form(Column::Rfc)),
     }
 }
 
 /// The evidence for an early allocation.
 pub(crate) fn early_evidence_in(
     alloc: Global,
-    fields: &Fields<'_>,
-) -> Result<EarlyEvidence, RowFault>
+    fields: &RowFields<'_>,
+) -> Result<EarlyEvidence, ImportRowFault>
     ensures evidence { IfOk result
         (λ evidence. early_evidence_in (stands_in fields.now) ≡ Ok evidence) }
     ensures fault { IfErr result (IsFaultOfImport (early_evidence_in (stands_in fields.now))) }

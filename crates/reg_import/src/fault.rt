@@ -1,7 +1,7 @@
 //! Why a register is not imported.
 ghost use Rattle.std.specs.Prelude.{◌≡◌, Some};
 ghost use Rattle.reg_import.specs.Faults.{form_text, row_fault_text};
-ghost use Rattle.reg_import.specs.declared.fault.RowFault.TheVariants as fault;
+ghost use Rattle.reg_import.specs.declared.fault.ImportRowFault.TheVariants as fault;
 
 use crate::column::Column;
 use reg_ranges::evidence::Item as EvidenceItem;
@@ -11,7 +11,7 @@ use std::fmt;
 
 /// Why a row is not imported.
 #[derive(Clone, Copy, Debug, PartialEq, Eq)]
-pub enum RowFault {
+pub enum ImportRowFault {
     /// It has not as many fields as the header.
     Columns,
     /// What stands in this column has not its form.
@@ -36,7 +36,7 @@ pub enum ImportFault {
     /// The first record is no header of a register, or there is none.
     Header,
     /// The row of this number, counted from 1 below the header, is at fault.
-    Row(usize, RowFault),
+    Row(usize, ImportRowFault),
     /// There was no memory.
     Memory,
 }
@@ -68,32 +68,35 @@ fn form_text(column: Column) -> &'static str
     }
 }
 
-impl fmt::Display for RowFault {
+impl fmt::Display for ImportRowFault {
     ghost output = { λ f. Some (row_fault_text f) };
 
     fn fmt<W: fmt::Write>(&self, f: &mut fmt::Formatter<W>) -> fmt::Result {
         match self {
-            RowFault::Columns => write!(f, "it does not have as many fields as the header"),
-            RowFault::Form(column) => write!(f, "{} {}", column.word(), form_text(*column)),
-            RowFault::Future => write!(f, "First is after today"),
-            RowFault::Expiry => write!(f, "Expires is not a day on which such an entry can expire"),
-            RowFault::Held => write!(f, "Held is set, but the entry does not expire"),
-            RowFault::Lacks(item) => {
+            ImportRowFault::Columns => write!(f, "it does not have as many fields as the header"),
+            ImportRowFault::Form(column) => write!(f, "{} {}", column.word(), form_text(*column)),
+            ImportRowFault::Future => write!(f, "First is after today"),
+            ImportRowFault::Expiry => write!(
+                f,
+                "Expires is not a day on which such an entry can expire"
+            ),
+            ImportRowFault::Held => write!(f, "Held is set, but the entry does not expire"),
+            ImportRowFault::Lacks(item) => {
                 write!(f, "it lacks what its policy needs: {}", item.word())
             }
-            RowFault::Own => write!(f, "Assignee is the expert"),
-            RowFault::Memory => write!(f, "memory"),
+            ImportRowFault::Own => write!(f, "Assignee is the expert"),
+            ImportRowFault::Memory => write!(f, "memory"),
         }
     }
 }
 
-impl Error for RowFault {}
+impl Error for ImportRowFault {}
 
-impl From<AllocError> for RowFault {
+impl From<AllocError> for ImportRowFault {
     ghost from_gives = { λ _ f. f ≡ fault.Memory };
 
-    fn from(_error: AllocError) -> RowFault {
-        RowFault::Memory
+    fn from(_error: AllocError) -> ImportRowFault {
+        ImportRowFault::Memory
     }
 }
 

@@ -6,8 +6,8 @@ ghost use Rattle.reg_import.specs.Rows.{row_in};
 ghost use Rattle.reg_import.specs.Scripts.{IsAppended, numbered, records_script, rows_script, script_of};
 
 use crate::column::is_header;
-use crate::fault::{ImportFault, RowFault};
-use crate::fields::Fields;
+use crate::fault::{ImportFault, ImportRowFault};
+use crate::fields::RowFields;
 use crate::lines::push_entry;
 use crate::records::records_of;
 use crate::row::read_row;
@@ -68,7 +68,7 @@ fn script_of_rows(
 {
     let mut script = Vec::new(alloc);
     for (i, row) in rows.iter().enumerate() {
-        push_row(&mut script, import, i + 1, &Fields { header, row })?;
+        push_row(&mut script, import, i + 1, &RowFields { header, row })?;
     }
     Ok(script)
 }
@@ -78,7 +78,7 @@ fn push_row(
     script: &mut Vec<u8>,
     import: &Import,
     number: usize,
-    fields: &Fields<'_>,
+    fields: &RowFields<'_>,
 ) -> Result<(), ImportFault>
     ensures lines { OnOk result (IsAppended import.now number
         (fields_of fields.now.header.now) (fields_of fields.now.row.now)
@@ -89,7 +89,7 @@ fn push_row(
     match read_row(*script.allocator(), import, fields) {
         Ok(Some(entry)) => Ok(push_entry(script, import, &entry)?),
         Ok(None) => Ok(()),
-        Err(RowFault::Memory) => Err(ImportFault::Memory),
+        Err(ImportRowFault::Memory) => Err(ImportFault::Memory),
         Err(fault) => Err(ImportFault::Row(number, fault)),
     }
 }

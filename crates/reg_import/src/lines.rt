@@ -4,7 +4,7 @@ ghost use Rattle.std.specs.String.{string_bytes};
 ghost use Rattle.reg_import.specs.Lines.{advice_line, approval_line, asking_text, assignment_line, entry_ask, entry_filing, entry_lines, filing_lines, filing_view, grant_line, hold_line, hold_lines, later_lines, line_text, lines_text, renewal_filing, renewal_lines, review_if, review_lines, submission_line, token_for};
 
 use crate::day_reading::midnight;
-use crate::entry::{EarlyStanding, ListedEntry, Standing};
+use crate::entry::{EarlyStanding, ListedEntry, ListedStanding};
 use crate::errands::{
     advice_text, approval_text, assignment_text, grant_text, hold_text, submission_text,
 };
@@ -49,8 +49,8 @@ fn push_later(out: &mut Vec<u8>, import: &Import, entry: &ListedEntry) -> Result
         ≡ out.old.items ++ lines_text (later_lines import.now entry.now entry.now.standing)) }
 {
     match &entry.standing {
-        Standing::ForGood(_) => Ok(()),
-        Standing::Early(standing) => {
+        ListedStanding::ForGood(_) => Ok(()),
+        ListedStanding::Early(standing) => {
             push_hold_if(out, import, entry, standing.held)?;
             push_renewal_if(out, import, entry, standing)?;
             Ok(())
@@ -125,13 +125,13 @@ fn entry_ask(import: &Import, entry: &ListedEntry) -> Result<Ask, AllocError>
     let want = Want::Value(entry.value);
     let label = entry.label.copy()?;
     match &entry.standing {
-        Standing::ForGood(evidence) => Ok(Ask::Code(CodeAsk {
+        ListedStanding::ForGood(evidence) => Ok(Ask::Code(CodeAsk {
             registry,
             want,
             label,
             evidence: evidence.copy()?,
         })),
-        Standing::Early(standing) => Ok(Ask::Early(EarlyAsk {
+        ListedStanding::Early(standing) => Ok(Ask::Early(EarlyAsk {
             registry,
             want,
             label,

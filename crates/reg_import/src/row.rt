@@ -7,10 +7,10 @@ ghost use Rattle.reg_import.specs.Rows.{assignee_in, early_in, entry_in, expires
 
 use crate::column::Column;
 use crate::day_reading::{read_day, year_before};
-use crate::entry::{EarlyStanding, EntryKind, ListedEntry, Standing};
+use crate::entry::{EarlyStanding, EntryKind, ListedEntry, ListedStanding};
 use crate::evidence::{early_evidence_in, evidence_in};
-use crate::fault::RowFault;
-use crate::fields::{Fields, held_in, stands_in, text_in};
+use crate::fault::ImportRowFault;
+use crate::fields::{RowFields, held_in, stands_in, text_in};
 use crate::import::Import;
 use reg_core::text::Account;
 use reg_early::day::{Day, year_after};
@@ -32,15 +32,15 @@ const CLOSING_DAY: u32 = 376_200;
 pub(crate) fn read_row(
     alloc: Global,
     import: &Import,
-    fields: &Fields<'_>,
-) -> Result<Option<ListedEntry>, RowFault>
+    fields: &RowFields<'_>,
+) -> Result<Option<ListedEntry>, ImportRowFault>
     ensures entry { IfOk result (λ entry. row_in import.now
         (fields_of fields.now.header.now) (fields_of fields.now.row.now) ≡ Ok entry) }
     ensures fault { IfErr result (IsFaultOfImport (row_in import.now
         (fields_of fields.now.header.now) (fields_of fields.now.row.now))) }
 {
     if fields.row.len() != fields.header.len() {
-        return Err(RowFault::Columns);
+        return Err(ImportRowFault::Columns);
     }
     match kind_in(fields)? {
         Some(kind) => Ok(Some(entry_in(alloc, import, fields, kind)?)),
@@ -49,7 +49,7 @@ pub(crate) fn read_row(
 }
 
 // Which kind of entry the status of a row says; none where its values have no entry.
-fn kind_in(fields: &Fields<'_>) -> Result<Option<EntryKind>, RowFault>
+fn kind_in(fields: &RowFields<'_>) -> Result<Option<EntryKind>, ImportRowFault>
     ensures { result ≡ kind_in (stands_in fields.now) }
 {
     let word = stands_in(fields, Column::Status);
@@ -60,7 +60,7 @@ fn kind_in(fields: &Fields<'_>) -> Result<Option<EntryKind>, RowFault>
     } else if is_early(word) {
         Ok(Some(EntryKind::Early))
     } else {
-        Err(RowFault::Form(Column::Status))
+        Err(ImportRowFault::Form(Column::Status))
     }
 }
 
@@ -93,9 +93,9 @@ fn is_word_of(word: &[u8], status: Status) -> bool
 fn entry_in(
     alloc: Global,
     import: &Import,
-    fields: &Fields<'_>,
+    fields: &RowFields<'_>,
     kind: EntryKind,
-) -> Result<ListedEntry, RowFault>
+) -> Result<ListedEntry, ImportRowFault>
     ensures entry { IfOk result
         (λ entry. entry_in import.now kind (stands_in fields.now) ≡ Ok entry) }
     ensures fault { IfErr result (IsFaultOfImport (entry_in import.now kind (stands_in fields.now))) }
@@ -116,59 +116,65 @@ fn entry_in(
     })
 }
 
-fn value_in(fields: &Fields<'_>) -> Result<u32, RowFault>
+fn value_in(fields: &RowFields<'_>) -> Result<u32, ImportRowFault>
     ensures { result ≡ value_in (stands_in fields.now) }
 {
-    read_number(stands_in(fields, Column::Value)).ok_or(RowFault::Form(Column::Value))
+    read_number(stands_in(fields, Column::Value)).ok_or(ImportRowFault::Form(Column::Value))
 }
 
-fn policy_in(fields: &Fields<'_>) -> Result<Policy, RowFault>
+fn policy_in(fields: &RowFields<'_>) -> Result<Policy, ImportRowFault>
     ensures { result ≡ policy_in (stands_in fields.now) }
 {
-    Policy::read(stands_in(fields, Column::Policy)).ok_or(RowFault::Form(Column::Policy))
+    Policy::read(stands_in(fields, Column::Policy)).ok_or(ImportRowFault::Form(Column::Policy))
 }
 
 // The first day, which is not after today.
-fn first_in(import: &Import, fields: &Fields<'_>) -> Result<Day, RowFault>
+fn first_in(import: &Import, fields: &RowFields<'_>) -> Result<Day, ImportRowFault>
     ensures { result ≡ first_in import.now (stands_in fields.now) }
 {
-    let first = read_day(stands_in(fields, Column::First)).ok_or(RowFault::Form(Column::First))?;
+    let first = read_day(stands_in(fields, Column::First)).ok_or(ImportRowFault::Form(
+        Column::First,
+    ))?;
     if first > import.today {
-        return Err(RowFault::Future);
+        return Err(ImportRowFault::Future);
     }
     Ok(first)
 }
 
 // The assignee, who is not the expert where one has to look at it.
-fn assignee_in(import: &Import, fields: &Fields<'_>, policy: Policy) -> Result<Account, RowFault>
+fn assignee_in(
+    import: &Import,
+    fields: &RowFields<'_>,
+    policy: Policy,
+) -> Result<Account, ImportRowFault>
     ensures { result ≡ assignee_in import.now (stands_in fields.now) policy }
 {
-    let assignee = Account::read(stands_in(fields, Column::Assignee)).ok_or(RowFault::Form(
+    let assignee = Account::read(stands_in(fields, Column::Assignee)).ok_or(ImportRowFault::Form(
         Column::Assignee,
     ))?;
     if needs_expert(policy) && assignee == import.expert {
-        return Err(RowFault::Own);
+        return Err(ImportRowFault::Own);
     }
     Ok(assignee)
 }
 
 fn standing_in(
     alloc: Global,
-    fields: &Fields<'_>,
+    fields: &RowFields<'_>,
     kind: EntryKind,
     policy: Policy,
     first: Day,
     assignee: &Account,
-) -> Result<Standing, RowFault>
+) -> Result<ListedStanding, ImportRowFault>
     ensures standing { IfOk result (λ standing.
         standing_in (stands_in fields.now) kind policy first assignee.now ≡ Ok standing) }
     ensures fault { IfErr result
         (IsFaultOfImport (standing_in (stands_in fields.now) kind policy first assignee.now)) }
 {
     match kind {
-        EntryKind::Early => Ok(Standing::Early(early_in(alloc, fields, policy, first)?)),
+        EntryKind::Early => Ok(ListedStanding::Early(early_in(alloc, fields, policy, first)?)),
         EntryKind::ForGood => {
-            Ok(Standing::ForGood(for_good_in(alloc, fields, policy, assignee)?))
+            Ok(ListedStanding::ForGood(for_good_in(alloc, fields, policy, assignee)?))
         }
     }
 }
@@ -176,20 +182,20 @@ fn standing_in(
 // That an entry for good does not expire, is not held, and has what its policy asks for.
 fn for_good_in(
     alloc: Global,
-    fields: &Fields<'_>,
+    fields: &RowFields<'_>,
     policy: Policy,
     assignee: &Account,
-) -> Result<Evidence, RowFault>
+) -> Result<Evidence, ImportRowFault>
     ensures evidence { IfOk result
         (λ evidence. for_good_in (stands_in fields.now) policy assignee.now ≡ Ok evidence) }
     ensures fault { IfErr result
         (IsFaultOfImport (for_good_in (stands_in fields.now) policy assignee.now)) }
 {
     if !stands_in(fields, Column::Expires).is_empty() {
-        return Err(RowFault::Expiry);
+        return Err(ImportRowFault::Expiry);
     }
     if held_in(fields)? {
-        return Err(RowFault::Held);
+        return Err(ImportRowFault::Held);
     }
     let evidence = evidence_in(alloc, fields, assignee)?;
     is_met(missing(policy, &evidence))?;
@@ -199,10 +205,10 @@ fn for_good_in(
 // That an early allocation expires on a day on which it can, and has what its policy asks for.
 fn early_in(
     alloc: Global,
-    fields: &Fields<'_>,
+    fields: &RowFields<'_>,
     policy: Policy,
     first: Day,
-) -> Result<EarlyStanding, RowFault>
+) -> Result<EarlyStanding, ImportRowFault>
     ensures standing { IfOk result
         (λ standing. early_in (stands_in fields.now) policy first ≡ Ok standing) }
     ensures fault { IfErr result (IsFaultOfImport (early_in (stands_in fields.now) policy first)) }
@@ -220,24 +226,24 @@ fn early_in(
     })
 }
 
-fn expires_in(fields: &Fields<'_>) -> Result<Day, RowFault>
+fn expires_in(fields: &RowFields<'_>) -> Result<Day, ImportRowFault>
     ensures { result ≡ expires_in (stands_in fields.now) }
 {
-    read_day(stands_in(fields, Column::Expires)).ok_or(RowFault::Form(Column::Expires))
+    read_day(stands_in(fields, Column::Expires)).ok_or(ImportRowFault::Form(Column::Expires))
 }
 
-fn is_met(lacking: Option<EvidenceItem>) -> Result<(), RowFault>
+fn is_met(lacking: Option<EvidenceItem>) -> Result<(), ImportRowFault>
     ensures { result ≡ is_met lacking }
 {
     match lacking {
-        Some(item) => Err(RowFault::Lacks(item)),
+        Some(item) => Err(ImportRowFault::Lacks(item)),
         None => Ok(()),
     }
 }
 
 // The day on which an early allocation was renewed that began on a day and expires on another; none
 // where it was not renewed.
-fn renewal_for(first: Day, expires: Day) -> Result<Option<Day>, RowFault>
+fn renewal_for(first: Day, expires: Day) -> Result<Option<Day>, ImportRowFault>
     ensures { result ≡ renewal_for first expires }
 {
     if year_after(first) == expires {
@@ -245,7 +251,7 @@ fn renewal_for(first: Day, expires: Day) -> Result<Option<Day>, RowFault>
     }
     match year_before(expires) {
         Some(day) if may_renew(first, day) => Ok(Some(day)),
-        _ => Err(RowFault::Expiry),
+        _ => Err(ImportRowFault::Expiry),
     }
 }
 

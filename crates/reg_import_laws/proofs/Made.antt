@@ -40,10 +40,10 @@ use Rattle.reg_import.specs.Lines.{Filing, applicant_token, entry_filing, entry_
 use Rattle.reg_import.specs.Rows.{may_renew, renewal_for, renewal_on}
 use Rattle.reg_import.specs.declared.entry.EarlyStanding.{EarlyStanding}
 use Rattle.reg_import.specs.declared.entry.ListedEntry.{ListedEntry}
-use Rattle.reg_import.specs.declared.entry.Standing.{Standing}
-use Rattle.reg_import.specs.declared.entry.Standing.TheVariants.{ForGood, Early}
-use Rattle.reg_import.specs.declared.fault.RowFault.{RowFault}
-use Rattle.reg_import.specs.declared.fault.RowFault.TheVariants as fault
+use Rattle.reg_import.specs.declared.entry.ListedStanding.{ListedStanding}
+use Rattle.reg_import.specs.declared.entry.ListedStanding.TheVariants.{ForGood, Early}
+use Rattle.reg_import.specs.declared.fault.ImportRowFault.{ImportRowFault}
+use Rattle.reg_import.specs.declared.fault.ImportRowFault.TheVariants as fault
 use Rattle.reg_import.specs.declared.import.Import.{Import}
 use Rattle.reg_import_laws.specs.Imported.{AreMade, EntriesAreMade, IsNewRenewal, IsReadyFor, events_of, registration_said}
 use Rattle.reg_import_laws.proofs.Allowed.{allowed_early, allowed_for_good, allowed_renewal, not_above}
@@ -105,7 +105,7 @@ renewed_on first expires day None is h = absurd (cc)
 renewed_on first expires day (Some d) is h = by (may_renew first d) refl h
   where
     by : (b : Bool) → may_renew first d ≡ b
-        → cond {A = Result (Option ℕ) RowFault} b (Ok (Some d)) (Err fault.Expiry) ≡ Ok (Some day)
+        → cond {A = Result (Option ℕ) ImportRowFault} b (Ok (Some d)) (Err fault.Expiry) ≡ Ok (Some day)
         → Renews first expires day
     by false may h = absurd (cc)
     by true may h =
@@ -135,7 +135,7 @@ no_renewal first expires h = by (year_after first == expires) refl h
     never (Some d) h = refused (may_renew first d) h
       where
         refused : (b : Bool)
-            → cond {A = Result (Option ℕ) RowFault} b (Ok (Some d)) (Err fault.Expiry) ≡ Ok None
+            → cond {A = Result (Option ℕ) ImportRowFault} b (Ok (Some d)) (Err fault.Expiry) ≡ Ok None
             → year_after first ≡ expires
         refused true h = absurd (cc)
         refused false h = absurd (cc)
@@ -275,7 +275,7 @@ module _ (digest_of : List ℕ → List ℕ) (w : World) (by : Import) where
           agents = filed.agents;
         }
 
-  abbrev with_standing : ListedEntry → Standing → ListedEntry
+  abbrev with_standing : ListedEntry → ListedStanding → ListedEntry
   with_standing entry standing = record entry { standing = standing }
 
   -- ---- For good
@@ -573,7 +573,7 @@ module _ (digest_of : List ℕ → List ℕ) (w : World) (by : Import) where
   pub entry_is_made : (entry : ListedEntry) → IsMade entry
   entry_is_made entry = by_standing entry.standing refl
     where
-      by_standing : (s : Standing) → entry.standing ≡ s → IsMade entry
+      by_standing : (s : ListedStanding) → entry.standing ≡ s → IsMade entry
       by_standing (ForGood e) is =
           subst IsMade (ap (with_standing entry) (sym is)) (for_good entry e)
       by_standing (Early st) is =

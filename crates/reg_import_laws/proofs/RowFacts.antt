@@ -18,14 +18,14 @@ use Rattle.reg_import.specs.declared.entry.EarlyStanding.{EarlyStanding}
 use Rattle.reg_import.specs.declared.entry.EntryKind.{EntryKind}
 use Rattle.reg_import.specs.declared.entry.EntryKind.TheVariants as kind
 use Rattle.reg_import.specs.declared.entry.ListedEntry.{ListedEntry}
-use Rattle.reg_import.specs.declared.entry.Standing.{Standing}
-use Rattle.reg_import.specs.declared.entry.Standing.TheVariants.{ForGood, Early}
-use Rattle.reg_import.specs.declared.fault.RowFault.{RowFault}
-use Rattle.reg_import.specs.declared.fault.RowFault.TheVariants as fault
+use Rattle.reg_import.specs.declared.entry.ListedStanding.{ListedStanding}
+use Rattle.reg_import.specs.declared.entry.ListedStanding.TheVariants.{ForGood, Early}
+use Rattle.reg_import.specs.declared.fault.ImportRowFault.{ImportRowFault}
+use Rattle.reg_import.specs.declared.fault.ImportRowFault.TheVariants as fault
 use Rattle.reg_import.specs.declared.import.Import.{Import}
 
 -- it has what its policy asks for, and its renewal gives its day of expiry
-abbrev pub IsShown : Policy → ℕ → Standing → Type 0
+abbrev pub IsShown : Policy → ℕ → ListedStanding → Type 0
 IsShown policy first (ForGood evidence) = first_item (unmet policy evidence) ≡ None
 IsShown policy first (Early standing) =
     (first_item (early_unmet policy standing.evidence) ≡ None)
@@ -37,17 +37,17 @@ pub record IsRead (by : Import) (entry : ListedEntry) : Type 0 where
   pub shown : IsShown entry.policy entry.first entry.standing
 
 -- a step that went on
-went_on : {A B : Type 0} (a : Result A RowFault) (f : A → Result B RowFault) (y : B)
+went_on : {A B : Type 0} (a : Result A ImportRowFault) (f : A → Result B ImportRowFault) (y : B)
     → (a >>= f) ≡ Ok y → (x : A) × (a ≡ Ok x) × (f x ≡ Ok y)
 went_on {A} {B} (Ok x) f y h = (x, refl, h)
 went_on {A} {B} (Err e) f y h = absurd (cc)
 
-passed : {A : Type 0} (b : Bool) (r : Result A RowFault) (e : RowFault) (y : A)
+passed : {A : Type 0} (b : Bool) (r : Result A ImportRowFault) (e : ImportRowFault) (y : A)
     → cond b r (Err e) ≡ Ok y → r ≡ Ok y
 passed {A} true r e y h = h
 passed {A} false r e y h = absurd (cc)
 
-refused_not : {A : Type 0} (b : Bool) (x : A) (e : RowFault) (y : A)
+refused_not : {A : Type 0} (b : Bool) (x : A) (e : ImportRowFault) (y : A)
     → cond b (Err e) (Ok x) ≡ Ok y → (b ≡ false) × (x ≡ y)
 refused_not {A} true x e y h = absurd (cc)
 refused_not {A} false x e y h = (refl, cc)
@@ -57,7 +57,7 @@ met None u h = refl
 met (Some item) u h = absurd (cc)
 
 -- that an assignee is not the expert, as the test of a row
-abbrev not_expert : Import → Policy → List ℕ → Result (List ℕ) RowFault
+abbrev not_expert : Import → Policy → List ℕ → Result (List ℕ) ImportRowFault
 not_expert by policy assignee =
     if is_expert_policy policy && bytes_eq assignee by.expert then Err fault.Own else Ok assignee
 
@@ -72,13 +72,13 @@ another by row policy assignee h =
     subst (λ (a : List ℕ). (is_expert_policy policy && bytes_eq a by.expert) ≡ false) test.1 test.0
 
 -- what comes after each step of an entry for good
-abbrev good_end : Policy → Evidence → Result Evidence RowFault
+abbrev good_end : Policy → Evidence → Result Evidence ImportRowFault
 good_end policy e = is_met (first_item (unmet policy e)) >>= (λ met. Ok e)
 
-abbrev good_free : CellsOfRow → Policy → List ℕ → Unit {0} → Result Evidence RowFault
+abbrev good_free : CellsOfRow → Policy → List ℕ → Unit {0} → Result Evidence ImportRowFault
 good_free row policy assignee free = evidence_in row assignee >>= good_end policy
 
-abbrev good_held : CellsOfRow → Policy → List ℕ → Bool → Result Evidence RowFault
+abbrev good_held : CellsOfRow → Policy → List ℕ → Bool → Result Evidence ImportRowFault
 good_held row policy assignee held =
     checked (not held) fault.Held >>= good_free row policy assignee
 
@@ -97,15 +97,15 @@ for_good row policy assignee evidence h =
     (met (first_item (unmet policy read.0)) end.0 end.1)
 
 -- what comes after each step of an early allocation
-abbrev early_end : Policy → ℕ → Option ℕ → EarlyEvidence → Bool → Result EarlyStanding RowFault
+abbrev early_end : Policy → ℕ → Option ℕ → EarlyEvidence → Bool → Result EarlyStanding ImportRowFault
 early_end policy expires renewal e held =
     is_met (first_item (early_unmet policy e))
     >>= (λ met. Ok (record { expires = expires; renewal = renewal; evidence = e; held = held }))
 
-abbrev early_read : CellsOfRow → Policy → ℕ → Option ℕ → EarlyEvidence → Result EarlyStanding RowFault
+abbrev early_read : CellsOfRow → Policy → ℕ → Option ℕ → EarlyEvidence → Result EarlyStanding ImportRowFault
 early_read row policy expires renewal e = held_in row >>= early_end policy expires renewal e
 
-abbrev early_renewal : CellsOfRow → Policy → ℕ → Option ℕ → Result EarlyStanding RowFault
+abbrev early_renewal : CellsOfRow → Policy → ℕ → Option ℕ → Result EarlyStanding ImportRowFault
 early_renewal row policy expires renewal =
     early_evidence_in row >>= early_read row policy expires renewal
 
@@ -132,7 +132,7 @@ early row policy first standing h =
     (met (first_item (early_unmet policy read.0)) end.0 end.1, renewal.1)
 
 shown : (row : CellsOfRow) (k : EntryKind) (policy : Policy) (first : ℕ) (assignee : List ℕ)
-    (standing : Standing) → standing_in row k policy first assignee ≡ Ok standing
+    (standing : ListedStanding) → standing_in row k policy first assignee ≡ Ok standing
     → IsShown policy first standing
 shown row kind.ForGood policy first assignee standing h =
     let read = went_on (for_good_in row policy assignee) (λ e. Ok (ForGood e)) standing h in
@@ -144,7 +144,7 @@ shown row kind.Early policy first assignee standing h =
     subst (IsShown policy first) same (early row policy first read.0 read.1)
 
 -- what comes after each step of an entry
-abbrev entry_of : ℕ → List ℕ → Policy → ℕ → List ℕ → Standing → Result ListedEntry RowFault
+abbrev entry_of : ℕ → List ℕ → Policy → ℕ → List ℕ → ListedStanding → Result ListedEntry ImportRowFault
 entry_of value label policy first assignee standing =
     Ok (record {
       value = value;
@@ -156,20 +156,20 @@ entry_of value label policy first assignee standing =
     })
 
 abbrev with_assignee : EntryKind → CellsOfRow → ℕ → List ℕ → Policy → ℕ → List ℕ
-    → Result ListedEntry RowFault
+    → Result ListedEntry ImportRowFault
 with_assignee k row value label policy first assignee =
     standing_in row k policy first assignee >>= entry_of value label policy first assignee
 
 abbrev with_first : Import → EntryKind → CellsOfRow → ℕ → List ℕ → Policy → ℕ
-    → Result ListedEntry RowFault
+    → Result ListedEntry ImportRowFault
 with_first by k row value label policy first =
     assignee_in by row policy >>= with_assignee k row value label policy first
 
-abbrev with_policy : Import → EntryKind → CellsOfRow → ℕ → List ℕ → Policy → Result ListedEntry RowFault
+abbrev with_policy : Import → EntryKind → CellsOfRow → ℕ → List ℕ → Policy → Result ListedEntry ImportRowFault
 with_policy by k row value label policy =
     first_in by row >>= with_first by k row value label policy
 
-abbrev with_label : Import → EntryKind → CellsOfRow → ℕ → List ℕ → Result ListedEntry RowFault
+abbrev with_label : Import → EntryKind → CellsOfRow → ℕ → List ℕ → Result ListedEntry ImportRowFault
 with_label by k row value label = policy_in row >>= with_policy by k row value label
 
 read_entry : (by : Import) (k : EntryKind) (row : CellsOfRow) (entry : ListedEntry)

@@ -25,8 +25,8 @@ use Rattle.reg_import.specs.Lines.{Errand, grant, submit, assign, advise, approv
 use Rattle.reg_import.specs.Rows.{row_in}
 use Rattle.reg_import.specs.declared.entry.EarlyStanding.{EarlyStanding}
 use Rattle.reg_import.specs.declared.entry.ListedEntry.{ListedEntry}
-use Rattle.reg_import.specs.declared.entry.Standing.{Standing}
-use Rattle.reg_import.specs.declared.entry.Standing.TheVariants.{ForGood, Early}
+use Rattle.reg_import.specs.declared.entry.ListedStanding.{ListedStanding}
+use Rattle.reg_import.specs.declared.entry.ListedStanding.TheVariants.{ForGood, Early}
 use Rattle.reg_import.specs.declared.import.Import.{Import}
 
 -- ---- Commands
@@ -48,7 +48,7 @@ command_of (hold registry value) = Clerk (SetHold registry value true)
 -- ---- Entries
 
 -- the term that a row says: it was renewed where there is a day of renewal
-abbrev pub term_said : ℕ → Standing → Term
+abbrev pub term_said : ℕ → ListedStanding → Term
 term_said first (ForGood evidence) = permanent_term first
 term_said first (Early standing) =
     record {
@@ -107,7 +107,7 @@ module _ (digest_of : List ℕ → List ℕ) where
         → digest_of (applicant_token by (renewal_filing by entry standing day))
         ≢ digest_of (expert_token by (entry_filing by entry))
 
-  abbrev pub RenewalsAreNew : World → Import → ListedEntry → Standing → Type 0
+  abbrev pub RenewalsAreNew : World → Import → ListedEntry → ListedStanding → Type 0
   RenewalsAreNew w by entry (ForGood evidence) = Unit {0}
   RenewalsAreNew w by entry (Early standing) =
       (day : ℕ) → standing.renewal ≡ Some day → IsNewRenewal w by entry standing day
