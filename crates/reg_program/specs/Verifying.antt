@@ -6,17 +6,17 @@ use Rattle.reg_history.specs.Chain.{chained}
 use Rattle.reg_changes.specs.declared.change.HistoryRecord.{HistoryRecord}
 use Rattle.reg_verify.specs.Flaws.{flaw_text}
 use Rattle.reg_verify.specs.Verifying.{IsNotedIn, IsVerified, TellsFlaw, verified_text}
-use Rattle.reg_verify.specs.declared.flaw.Flaw.{Flaw}
+use Rattle.reg_verify.specs.declared.flaw.FolderFlaw.{FolderFlaw}
 use Rattle.reg_verify.specs.declared.flaw.Unverified.{Unverified}
 use Rattle.reg_verify.specs.declared.flaw.Unverified.TheVariants as un
-use Rattle.reg_verify.specs.declared.part.Part.{Part}
+use Rattle.reg_verify.specs.declared.part.FolderPart.{FolderPart}
 use Rattle.reg_program.specs.declared.faults.JobFailure.TheVariants.{History, Large, Memory, Read, Write}
 use Rattle.reg_program.specs.declared.faults.Undone.{Undone}
 use Rattle.reg_program.specs.declared.faults.Undone.TheVariants.{Fault, Explained, Refused}
 
 -- The folder whose files are found and named so is verified, and that is printed: how many changes its history has,
 -- and the digest of the last one.
-abbrev pub PrintsVerified : (Part → Option (List ℕ) → Type 0) → (List (List ℕ) → Type 0)
+abbrev pub PrintsVerified : (FolderPart → Option (List ℕ) → Type 0) → (List (List ℕ) → Type 0)
     → Option (List ℕ) → Option (List ℕ) → Option (List ℕ) → Type 0
 PrintsVerified Found Names noted had has =
     (digests : List (List ℕ)) × IsVerified Found Names noted digests
@@ -33,10 +33,10 @@ IsSaidOf (un.Flawed flaw) (Fault failure) = ⊥
 IsSaidOf (un.Flawed flaw) (Refused line) = ⊥
 
 -- this is wrong in the folder; or there was no memory, a file was not read, or nothing could be written
-abbrev pub IsUnverified : (Part → Option (List ℕ) → Type 0) → (List (List ℕ) → Type 0)
+abbrev pub IsUnverified : (FolderPart → Option (List ℕ) → Type 0) → (List (List ℕ) → Type 0)
     → Option (List ℕ) → Undone → Type 0
 IsUnverified Found Names noted (Explained failure text) =
-    (flaw : Flaw) × TellsFlaw Found Names noted flaw × (failure ≡ History)
+    (flaw : FolderFlaw) × TellsFlaw Found Names noted flaw × (failure ≡ History)
     × (string_bytes text ≡ flaw_text flaw)
 IsUnverified Found Names noted (Fault Memory) = ⊤
 IsUnverified Found Names noted (Fault Read) = ⊤

@@ -15,13 +15,13 @@ use Rattle.reg_verify.specs.Flaws.{unread_as, unreadable_as}
 use Rattle.reg_verify.specs.Strays.{HasStray}
 use Rattle.reg_verify.proofs.StrayFiles.{stray_said}
 use Rattle.reg_verify.specs.Verifying.{AreFactsOf, HasHistory, IsHistoryIn, IsNameless, IsUnlikeBy, IsUnnotedBy, TellsWhy}
-use Rattle.reg_verify.specs.declared.flaw.Flaw.TheVariants as flaw
+use Rattle.reg_verify.specs.declared.flaw.FolderFlaw.TheVariants as flaw
 use Rattle.reg_verify.specs.declared.flaw.Unverified.{Unverified}
 use Rattle.reg_verify.specs.declared.flaw.Unverified.TheVariants as un
-use Rattle.reg_verify.specs.declared.folder.Unread.{Unread}
-use Rattle.reg_verify.specs.declared.folder.Unread.TheVariants as unread
-use Rattle.reg_verify.specs.declared.part.Part.{Part}
-use Rattle.reg_verify.specs.declared.part.Part.TheVariants as part
+use Rattle.reg_verify.specs.declared.folder.UnreadFile.{UnreadFile}
+use Rattle.reg_verify.specs.declared.folder.UnreadFile.TheVariants as unread
+use Rattle.reg_verify.specs.declared.part.FolderPart.{FolderPart}
+use Rattle.reg_verify.specs.declared.part.FolderPart.TheVariants as part
 
 -- an error that is handed on tells what it told
 pub handed_on : {T : Type 0} {E : Type 0} (Tells : E → Type 0) (r : Result T E) (e : E)
@@ -29,9 +29,9 @@ pub handed_on : {T : Type 0} {E : Type 0} (Tells : E → Type 0) (r : Result T E
 handed_on Tells (Ok x) e h told = tt
 handed_on {T} {E} Tells (Err y) e h told = subst Tells (sym h) told
 
-module _ (Found : Part → Option (List ℕ) → Type 0) (Names : List (List ℕ) → Type 0) where
+module _ (Found : FolderPart → Option (List ℕ) → Type 0) (Names : List (List ℕ) → Type 0) where
   -- a file was not read
-  pub tells_unread : (why : Unread) → TellsWhy Found Names None (unread_as why)
+  pub tells_unread : (why : UnreadFile) → TellsWhy Found Names None (unread_as why)
   tells_unread unread.Memory = tt
   tells_unread unread.Read = tt
   tells_unread unread.Large = tt

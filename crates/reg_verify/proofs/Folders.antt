@@ -21,8 +21,8 @@ use Rattle.reg_verify.specs.Index.{IsInHistory, NamedRecord, named_record}
 use Rattle.reg_verify.specs.Strays.{HasNoStray}
 use Rattle.reg_verify.proofs.StrayFiles.{none_said}
 use Rattle.reg_verify.specs.Verifying.{AddsBlocks, AddsPage, AddsPool, AreFactsOf, AreFactsOfPages, HasIndex, HasPage, IsHistoryIn, IsNotedIn, IsPageIn, IsVerified}
-use Rattle.reg_verify.specs.declared.part.Part.{Part}
-use Rattle.reg_verify.specs.declared.part.Part.TheVariants as part
+use Rattle.reg_verify.specs.declared.part.FolderPart.{FolderPart}
+use Rattle.reg_verify.specs.declared.part.FolderPart.TheVariants as part
 
 -- the page that is told, if one is
 abbrev page_or : Page → Told → Page
@@ -35,7 +35,7 @@ told_name : (name : List ℕ) (page : Page) → IsToldBy (Registry name) (tells.
 told_name name page told =
     ap (λ (t : Told). (page_or page t).name) told.1 ∙ told.2
 
-module _ (Found : Part → Option (List ℕ) → Type 0) where
+module _ (Found : FolderPart → Option (List ℕ) → Type 0) where
   -- the JSON of a registry tells its page
   pub page_told : (name : List ℕ) (told : Told) (page : Page)
       → Found (part.Registry name) (Some (told_text told)) → IsToldBy (Registry name) told
@@ -94,7 +94,7 @@ module _ (Found : Part → Option (List ℕ) → Type 0) where
       record { bytes = bytes; named = named; found = found; names = names; has = has }
 
 -- what is verified, by its parts
-module _ (Found : Part → Option (List ℕ) → Type 0) (Names : List (List ℕ) → Type 0) where
+module _ (Found : FolderPart → Option (List ℕ) → Type 0) (Names : List (List ℕ) → Type 0) where
   -- a history that says just what the files publish, and has the record of the index, where no file is stray
   pub verified_by : (h : History) (digests : List (List ℕ)) (facts : List Fact)
       → IsHistoryIn Found h → HasIndex Found h.chain.digests.items → AreFactsOf Found facts

@@ -3,16 +3,16 @@ use Rattle.std.specs.Prelude.{ℕ, ◌&&◌, Bool, List, ◌++◌, codes, nat_le
 use Rattle.std.specs.Fmt.{decimal}
 use Rattle.std.specs.List.{list_all}
 use Rattle.reg_verify.specs.Parts.{place_of}
-use Rattle.reg_verify.specs.declared.part.Part.{Part}
+use Rattle.reg_verify.specs.declared.part.FolderPart.{FolderPart}
 use Rattle.reg_changes.specs.declared.change.Class.{Class}
 use Rattle.reg_changes.specs.declared.change.Class.TheVariants as class
 use Rattle.reg_changes.specs.declared.change.Subject.{Subject}
 use Rattle.reg_history.specs.declared.history.Unreadable.{Unreadable}
 use Rattle.reg_history.specs.declared.history.Unreadable.TheVariants as unreadable
-use Rattle.reg_verify.specs.declared.folder.Unread.{Unread}
-use Rattle.reg_verify.specs.declared.folder.Unread.TheVariants as unread
-use Rattle.reg_verify.specs.declared.flaw.Flaw.{Flaw}
-use Rattle.reg_verify.specs.declared.flaw.Flaw.TheVariants as flaw
+use Rattle.reg_verify.specs.declared.folder.UnreadFile.{UnreadFile}
+use Rattle.reg_verify.specs.declared.folder.UnreadFile.TheVariants as unread
+use Rattle.reg_verify.specs.declared.flaw.FolderFlaw.{FolderFlaw}
+use Rattle.reg_verify.specs.declared.flaw.FolderFlaw.TheVariants as flaw
 use Rattle.reg_verify.specs.declared.flaw.Unverified.{Unverified}
 use Rattle.reg_verify.specs.declared.flaw.Unverified.TheVariants as un
 
@@ -38,10 +38,10 @@ abbrev pub subject_text : Subject → List ℕ
 subject_text subject =
     subject_file subject ++ (codes " differs from the history at " ++ plain subject.value)
 
-abbrev pub missing_text : Part → List ℕ
+abbrev pub missing_text : FolderPart → List ℕ
 missing_text file = place_of file ++ codes " is not there"
 
-abbrev pub misspelt_text : Part → List ℕ
+abbrev pub misspelt_text : FolderPart → List ℕ
 misspelt_text file = place_of file ++ codes " is not as publish writes it"
 
 abbrev pub listing_flaw : List ℕ → List ℕ
@@ -54,7 +54,7 @@ stray_text file =
     codes "registries/" ++ (plain file ++ codes " is of no registry of the history")
 
 -- what is said of it
-abbrev pub flaw_text : Flaw → List ℕ
+abbrev pub flaw_text : FolderFlaw → List ℕ
 flaw_text (flaw.Missing file) = missing_text file
 flaw_text flaw.Header = codes "changes.csv does not begin with the header of a history"
 flaw_text (flaw.Record number) =
@@ -78,7 +78,7 @@ unreadable_as unreadable.Header = un.Flawed flaw.Header
 unreadable_as (unreadable.Wrong number) = un.Flawed (flaw.Record number)
 
 -- why a file was not read
-abbrev pub unread_as : Unread → Unverified
+abbrev pub unread_as : UnreadFile → Unverified
 unread_as unread.Memory = un.Memory
 unread_as unread.Read = un.Read
 unread_as unread.Large = un.Large

@@ -20,34 +20,34 @@ use Rattle.reg_history.specs.declared.history.Unreadable.TheVariants as unreadab
 use Rattle.reg_print.specs.Listing.{listing_text}
 use Rattle.reg_site.specs.Site.{told_text}
 use Rattle.reg_verify.specs.Parts.{place_of}
-use Rattle.reg_verify.specs.declared.part.Part.{Part}
-use Rattle.reg_verify.specs.declared.part.Part.TheVariants as part
+use Rattle.reg_verify.specs.declared.part.FolderPart.{FolderPart}
+use Rattle.reg_verify.specs.declared.part.FolderPart.TheVariants as part
 use Rattle.reg_verify.specs.Strays.{HasNoStray, HasStray}
 use Rattle.reg_verify.specs.Index.{IsInHistory, NamedRecord, named_record}
-use Rattle.reg_verify.specs.declared.flaw.Flaw.{Flaw}
-use Rattle.reg_verify.specs.declared.flaw.Flaw.TheVariants as flaw
+use Rattle.reg_verify.specs.declared.flaw.FolderFlaw.{FolderFlaw}
+use Rattle.reg_verify.specs.declared.flaw.FolderFlaw.TheVariants as flaw
 use Rattle.reg_verify.specs.declared.flaw.Unverified.{Unverified}
 use Rattle.reg_verify.specs.declared.flaw.Unverified.TheVariants as un
 
 -- where it is known which files a folder has: this file has these bytes, or is not there
-abbrev pub Finds : {F : Type 0} → Type 0 → (F → List ℕ → Option (List ℕ)) → F → Part
+abbrev pub Finds : {F : Type 0} → Type 0 → (F → List ℕ → Option (List ℕ)) → F → FolderPart
     → Option (List ℕ) → Type 0
 Finds Tells held folder file bytes = Tells → held folder (place_of file) ≡ bytes
 
 -- ---- The history
 
 -- the history has these records, of which none is earlier than the one before it
-pub record HasHistory (Found : Part → Option (List ℕ) → Type 0) (records : List HistoryRecord) : Type 0
+pub record HasHistory (Found : FolderPart → Option (List ℕ) → Type 0) (records : List HistoryRecord) : Type 0
   where
     pub found : Found part.History (Some (chained records).text)
     pub in_order : (chained records).in_order ≡ true
 
 -- it is the history that was read
-abbrev pub IsHistoryIn : (Part → Option (List ℕ) → Type 0) → History → Type 0
+abbrev pub IsHistoryIn : (FolderPart → Option (List ℕ) → Type 0) → History → Type 0
 IsHistoryIn Found h = (records : List HistoryRecord) × HasHistory Found records × IsHistory h records
 
 -- the index names a record that a history with these digests has
-pub record HasIndex (Found : Part → Option (List ℕ) → Type 0) (digests : List (List ℕ)) : Type 0
+pub record HasIndex (Found : FolderPart → Option (List ℕ) → Type 0) (digests : List (List ℕ)) : Type 0
   where
     pub bytes : List ℕ
     pub named : NamedRecord
@@ -58,40 +58,40 @@ pub record HasIndex (Found : Part → Option (List ℕ) → Type 0) (digests : L
 -- ---- What is published
 
 -- the JSON and the listing of a registry are those of this page
-pub record HasPage (Found : Part → Option (List ℕ) → Type 0) (page : Page) : Type 0 where
+pub record HasPage (Found : FolderPart → Option (List ℕ) → Type 0) (page : Page) : Type 0 where
   pub tree : Found (part.Registry page.name) (Some (told_text (tells.Page page)))
   pub listing : Found (part.Listing page.name) (Some (listing_text page))
 
 -- the JSON of the registry of this name is that of the page
-pub record IsPageIn (Found : Part → Option (List ℕ) → Type 0) (name : List ℕ) (page : Page) : Type 0
+pub record IsPageIn (Found : FolderPart → Option (List ℕ) → Type 0) (name : List ℕ) (page : Page) : Type 0
   where
     pub named : page.name ≡ name
     pub tree : Found (part.Registry name) (Some (told_text (tells.Page page)))
 
 -- the facts of one registry more
-abbrev pub AddsPage : (Part → Option (List ℕ) → Type 0) → List Fact → List Fact → Type 0
+abbrev pub AddsPage : (FolderPart → Option (List ℕ) → Type 0) → List Fact → List Fact → Type 0
 AddsPage Found facts facts' =
     (page : Page) × HasPage Found page × (facts' ≡ facts ++ page_facts page)
 
 -- those of the pool
-abbrev pub AddsPool : (Part → Option (List ℕ) → Type 0) → List Fact → List Fact → Type 0
+abbrev pub AddsPool : (FolderPart → Option (List ℕ) → Type 0) → List Fact → List Fact → Type 0
 AddsPool Found facts facts' =
     (prefixes : List ℕ) × Found part.Pool (Some (told_text (tells.Pool prefixes)))
     × (facts' ≡ facts ++ map prefix_fact prefixes)
 
 -- those of the blocks
-abbrev pub AddsBlocks : (Part → Option (List ℕ) → Type 0) → List Fact → List Fact → Type 0
+abbrev pub AddsBlocks : (FolderPart → Option (List ℕ) → Type 0) → List Fact → List Fact → Type 0
 AddsBlocks Found facts facts' =
     (rows : List Listed) × Found part.Blocks (Some (told_text (tells.Blocks rows)))
     × (facts' ≡ facts ++ map (λ row. block_fact row.block) rows)
 
 -- they are the facts of registries whose files are there
-abbrev pub AreFactsOfPages : (Part → Option (List ℕ) → Type 0) → List Fact → Type 0
+abbrev pub AreFactsOfPages : (FolderPart → Option (List ℕ) → Type 0) → List Fact → Type 0
 AreFactsOfPages Found facts =
     (pages : List Page) × All (HasPage Found) pages × (facts ≡ flat_map page_facts pages)
 
 -- they are the facts of registries, a pool and blocks whose files are there
-pub record AreFactsOf (Found : Part → Option (List ℕ) → Type 0) (facts : List Fact) : Type 0 where
+pub record AreFactsOf (Found : FolderPart → Option (List ℕ) → Type 0) (facts : List Fact) : Type 0 where
   pub pages : List Page
   pub prefixes : List ℕ
   pub rows : List Listed
@@ -110,7 +110,7 @@ IsNotedIn digests (Some digits) = (16 ≤ length digits) × (some_begins digits 
 -- The history of the folder has these digests, the record that the index names, and the digest that was
 -- noted, if one was. What it says is just what the files publish, and no other file there is the JSON or
 -- the listing of a registry.
-pub record IsVerified (Found : Part → Option (List ℕ) → Type 0) (Names : List (List ℕ) → Type 0)
+pub record IsVerified (Found : FolderPart → Option (List ℕ) → Type 0) (Names : List (List ℕ) → Type 0)
     (noted : Option (List ℕ)) (digests : List (List ℕ)) : Type 0 where
   pub records : List HistoryRecord
   pub facts : List Fact
@@ -136,8 +136,8 @@ verified_text digests =
 -- ---- Not verified
 
 -- what is wrong, where a digest was noted by these digits
-abbrev pub TellsFlaw : (Part → Option (List ℕ) → Type 0) → (List (List ℕ) → Type 0)
-    → Option (List ℕ) → Flaw → Type 0
+abbrev pub TellsFlaw : (FolderPart → Option (List ℕ) → Type 0) → (List (List ℕ) → Type 0)
+    → Option (List ℕ) → FolderFlaw → Type 0
 TellsFlaw Found Names noted (flaw.Missing f) = Found f None
 TellsFlaw Found Names noted flaw.Header =
     (text : List ℕ) × Found part.History (Some text) × TellsWrong text unreadable.Header
@@ -170,7 +170,7 @@ TellsFlaw Found Names noted flaw.Digest =
 
 -- why a folder is not verified: memory was wanting, a file could not be read or is too large; or this is
 -- wrong
-abbrev pub TellsWhy : (Part → Option (List ℕ) → Type 0) → (List (List ℕ) → Type 0)
+abbrev pub TellsWhy : (FolderPart → Option (List ℕ) → Type 0) → (List (List ℕ) → Type 0)
     → Option (List ℕ) → Unverified → Type 0
 TellsWhy Found Names noted un.Memory = ⊤
 TellsWhy Found Names noted un.Read = ⊤

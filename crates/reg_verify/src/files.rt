@@ -7,9 +7,9 @@ ghost use Rattle.reg_verify.specs.declared.flaw.Unverified.TheVariants as un;
 ghost use Rattle.reg_verify.specs.Strays.{Lists};
 ghost use Rattle.reg_verify.specs.Verifying.{Finds, TellsWhy};
 
-use crate::flaw::{Flaw, Unverified};
+use crate::flaw::{FolderFlaw, Unverified};
 use crate::folder::Reads;
-use crate::part::Part;
+use crate::part::FolderPart;
 use reg_blocks::pool::Pool;
 use reg_client::reading::told_of;
 use reg_core::command::PublicCommand;
@@ -23,7 +23,7 @@ use std::alloc::Global;
 pub(crate) fn bytes_of<F: Reads>(
     alloc: Global,
     folder: &F,
-    file: &Part,
+    file: &FolderPart,
 ) -> Result<Vec<u8>, Unverified>
     ensures bytes { IfOk result
         (λ bytes. Finds F.Tells F.held folder.now file.now (Some bytes.items)) }
@@ -33,7 +33,7 @@ pub(crate) fn bytes_of<F: Reads>(
     let place = file.place(alloc)?;
     match folder.read(alloc, place.as_str())? {
         Some(bytes) => Ok(bytes),
-        None => Err(Unverified::Flawed(Flaw::Missing(*file))),
+        None => Err(Unverified::Flawed(FolderFlaw::Missing(*file))),
     }
 }
 
@@ -74,7 +74,7 @@ pub(crate) fn blocks_in(told: &Told) -> Result<&[Listed], Unverified>
 pub(crate) fn told_in<F: Reads>(
     alloc: Global,
     folder: &F,
-    file: &Part,
+    file: &FolderPart,
     command: &PublicCommand,
 ) -> Result<Told, Unverified>
     ensures told { IfOk result
@@ -87,6 +87,6 @@ pub(crate) fn told_in<F: Reads>(
     match told_of(alloc, command, bytes.as_slice()) {
         Ok(told) => Ok(told),
         Err(Unpublished::Memory) => Err(Unverified::Memory),
-        Err(_) => Err(Unverified::Flawed(Flaw::Misspelt(*file))),
+        Err(_) => Err(Unverified::Flawed(FolderFlaw::Misspelt(*file))),
     }
 }

@@ -4,8 +4,8 @@ ghost use Rattle.std.specs.List.{list_all};
 ghost use Rattle.reg_verify.specs.Flaws.{flaw_text, is_printable, listing_flaw, missing_text, misspelt_text, plain, stray_text, subject_file, subject_text, unread_as, unreadable_as};
 ghost use Rattle.reg_verify.specs.declared.flaw.Unverified.TheVariants as un;
 
-use crate::folder::Unread;
-use crate::part::Part;
+use crate::folder::UnreadFile;
+use crate::part::FolderPart;
 use reg_changes::change::{Class, Subject};
 use reg_core::text::Name;
 use reg_history::history::Unreadable;
@@ -21,14 +21,14 @@ pub enum Unverified {
     /// A file has more than 268,435,456 bytes.
     Large,
     /// This is wrong in it.
-    Flawed(Flaw),
+    Flawed(FolderFlaw),
 }
 
 /// What is wrong in a published folder.
 #[derive(Drop)]
-pub enum Flaw {
+pub enum FolderFlaw {
     /// This file is not there.
-    Missing(Part),
+    Missing(FolderPart),
     /// The history does not begin with its header.
     Header,
     /// The record of this number of the history is not as it has to be after those before it.
@@ -40,7 +40,7 @@ pub enum Flaw {
     /// The index names no record.
     Unnamed,
     /// This file is not spelled as an office spells its answer.
-    Misspelt(Part),
+    Misspelt(FolderPart),
     /// The listing of this registry is not that of its JSON.
     Listing(Name),
     /// This file of the folder `registries` is the JSON or the listing of a registry that the history does
@@ -54,34 +54,39 @@ pub enum Flaw {
     Digest,
 }
 
-impl Flaw {
+impl FolderFlaw {
     /// What is said of it to people. Only want of memory is an error.
     pub fn text(&self, alloc: Global) -> Result<String, AllocError>
         ensures { IfOk result (λ text. string_bytes text ≡ flaw_text self.now) }
     {
         match self {
-            Flaw::Missing(file) => missing_text(alloc, *file),
-            Flaw::Header => {
+            FolderFlaw::Missing(file) => missing_text(alloc, *file),
+            FolderFlaw::Header => {
                 String::from_str(
                     alloc,
                     "changes.csv does not begin with the header of a history",
                 )
             }
-            Flaw::Record(number) => format!(in alloc; "record {number} of changes.csv is wrong"),
-            Flaw::Name => String::from_str(alloc, "changes.csv has a registry whose name is none"),
-            Flaw::Index => {
+            FolderFlaw::Record(number) => format!(in alloc;
+                "record {number} of changes.csv is wrong"
+            ),
+            FolderFlaw::Name => String::from_str(
+                alloc,
+                "changes.csv has a registry whose name is none",
+            ),
+            FolderFlaw::Index => {
                 String::from_str(
                     alloc,
                     "index.json names a record that changes.csv does not have",
                 )
             }
-            Flaw::Misspelt(file) => misspelt_text(alloc, *file),
-            Flaw::Unnamed => String::from_str(alloc, "index.json names no record"),
-            Flaw::Listing(name) => listing_text(alloc, *name),
-            Flaw::Stray(file) => stray_text(alloc, file.as_str()),
-            Flaw::Subject(subject) => subject_text(alloc, subject),
-            Flaw::Short => String::from_str(alloc, "give at least 16 digits of the digest"),
-            Flaw::Digest => {
+            FolderFlaw::Misspelt(file) => misspelt_text(alloc, *file),
+            FolderFlaw::Unnamed => String::from_str(alloc, "index.json names no record"),
+            FolderFlaw::Listing(name) => listing_text(alloc, *name),
+            FolderFlaw::Stray(file) => stray_text(alloc, file.as_str()),
+            FolderFlaw::Subject(subject) => subject_text(alloc, subject),
+            FolderFlaw::Short => String::from_str(alloc, "give at least 16 digits of the digest"),
+            FolderFlaw::Digest => {
                 String::from_str(alloc, "no digest of changes.csv begins with these digits")
             }
         }
@@ -96,10 +101,10 @@ impl From<AllocError> for Unverified {
     }
 }
 
-impl From<Flaw> for Unverified {
+impl From<FolderFlaw> for Unverified {
     ghost from_gives = { λ flaw why. why ≡ un.Flawed flaw };
 
-    fn from(flaw: Flaw) -> Unverified {
+    fn from(flaw: FolderFlaw) -> Unverified {
         Unverified::Flawed(flaw)
     }
 }
@@ -110,32 +115,32 @@ impl From<Unreadable> for Unverified {
     fn from(fault: Unreadable) -> Unverified {
         match fault {
             Unreadable::Memory => Unverified::Memory,
-            Unreadable::Header => Unverified::Flawed(Flaw::Header),
-            Unreadable::Wrong(number) => Unverified::Flawed(Flaw::Record(number)),
+            Unreadable::Header => Unverified::Flawed(FolderFlaw::Header),
+            Unreadable::Wrong(number) => Unverified::Flawed(FolderFlaw::Record(number)),
         }
     }
 }
 
-impl From<Unread> for Unverified {
+impl From<UnreadFile> for Unverified {
     ghost from_gives = { λ unread why. why ≡ unread_as unread };
 
-    fn from(why: Unread) -> Unverified {
+    fn from(why: UnreadFile) -> Unverified {
         match why {
-            Unread::Memory => Unverified::Memory,
-            Unread::Read => Unverified::Read,
-            Unread::Large => Unverified::Large,
+            UnreadFile::Memory => Unverified::Memory,
+            UnreadFile::Read => Unverified::Read,
+            UnreadFile::Large => Unverified::Large,
         }
     }
 }
 
-fn missing_text(alloc: Global, file: Part) -> Result<String, AllocError>
+fn missing_text(alloc: Global, file: FolderPart) -> Result<String, AllocError>
     ensures { IfOk result (λ text. string_bytes text ≡ missing_text file) }
 {
     let place = file.place(alloc)?;
     format!(in alloc; "{place} is not there")
 }
 
-fn misspelt_text(alloc: Global, file: Part) -> Result<String, AllocError>
+fn misspelt_text(alloc: Global, file: FolderPart) -> Result<String, AllocError>
     ensures { IfOk result (λ text. string_bytes text ≡ misspelt_text file) }
 {
     let place = file.place(alloc)?;

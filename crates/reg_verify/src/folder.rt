@@ -13,7 +13,7 @@ const MOST_BYTES: usize = 268_435_456;
 
 /// Why a file was not read, or the names of files.
 #[derive(Clone, Copy, Debug, PartialEq, Eq)]
-pub enum Unread {
+pub enum UnreadFile {
     /// There was no memory.
     Memory,
     /// It cannot be read.
@@ -22,9 +22,9 @@ pub enum Unread {
     Large,
 }
 
-impl From<AllocError> for Unread {
-    fn from(_error: AllocError) -> Unread {
-        Unread::Memory
+impl From<AllocError> for UnreadFile {
+    fn from(_error: AllocError) -> UnreadFile {
+        UnreadFile::Memory
     }
 }
 
@@ -42,13 +42,13 @@ pub trait Reads {
     ghost listed: { Self → List (List ℕ) } = { λ _. [] };
 
     /// The bytes of the file at a place in it; none where there is no file.
-    fn read(&self, alloc: Global, place: &str) -> Result<Option<Vec<u8>>, Unread>
+    fn read(&self, alloc: Global, place: &str) -> Result<Option<Vec<u8>>, UnreadFile>
         ensures { Tells → IfOk result
             (λ found. option_map (λ v. v.items) found ≡ held self.now place.now) };
 
     /// The names of the files in its folder `registries`, and of the folders there; none where there is no
     /// such folder. A name that is no UTF-8 cannot be read.
-    fn names(&self, alloc: Global) -> Result<Vec<String>, Unread>
+    fn names(&self, alloc: Global) -> Result<Vec<String>, UnreadFile>
         ensures { Tells → IfOk result
             (λ files. map string_bytes files.items ≡ listed self.now) };
 }
@@ -64,11 +64,11 @@ pub struct SystemFolder<'a, H> {
 }
 
 impl<H: Files + AllocGlobal + Clone + Drop> Reads for SystemFolder<'_, H> {
-    fn read(&self, alloc: Global, place: &str) -> Result<Option<Vec<u8>>, Unread> {
+    fn read(&self, alloc: Global, place: &str) -> Result<Option<Vec<u8>>, UnreadFile> {
         let folder = self.path;
         let path = format!(in alloc; "{folder}/{place}")?;
         if is_longer(self.rt, path.as_str(), MOST_BYTES) {
-            return Err(Unread::Large);
+            return Err(UnreadFile::Large);
         }
         match open_regular(self.rt, path.as_str()) {
             Ok(mut file) => {
@@ -83,7 +83,7 @@ impl<H: Files + AllocGlobal + Clone + Drop> Reads for SystemFolder<'_, H> {
         }
     }
 
-    fn names(&self, alloc: Global) -> Result<Vec<String>, Unread> {
+    fn names(&self, alloc: Global) -> Result<Vec<String>, UnreadFile> {
         let folder = self.path;
         let path = format!(in alloc; "{folder}/registries")?;
         let mut names = Vec::new(alloc);
@@ -104,18 +104,18 @@ impl<H: Files + AllocGlobal + Clone + Drop> Reads for SystemFolder<'_, H> {
 }
 
 // Why a file could not be opened, or a folder not be listed.
-fn not_opened(error: Error) -> Unread {
+fn not_opened(error: Error) -> UnreadFile {
     match error.kind() {
-        ErrorKind::OutOfMemory => Unread::Memory,
-        _ => Unread::Read,
+        ErrorKind::OutOfMemory => UnreadFile::Memory,
+        _ => UnreadFile::Read,
     }
 }
 
 // Why reading failed.
-fn reading_failed(why: Unpublished) -> Unread {
+fn reading_failed(why: Unpublished) -> UnreadFile {
     match why {
-        Unpublished::Memory => Unread::Memory,
-        Unpublished::Large => Unread::Large,
-        _ => Unread::Read,
+        Unpublished::Memory => UnreadFile::Memory,
+        Unpublished::Large => UnreadFile::Large,
+        _ => UnreadFile::Read,
     }
 }

@@ -9,9 +9,9 @@ ghost use Rattle.reg_changes.specs.declared.change.HistoryRecord.{HistoryRecord}
 ghost use Rattle.std.specs.Prelude.{List};
 
 use crate::files::bytes_of;
-use crate::flaw::{Flaw, Unverified};
+use crate::flaw::{FolderFlaw, Unverified};
 use crate::folder::Reads;
-use crate::part::Part;
+use crate::part::FolderPart;
 use reg_history::chain::Chain;
 use serde_json::Value;
 use std::alloc::{AllocError, Global};
@@ -38,12 +38,12 @@ pub(crate) fn find_record<F: Reads>(
         → TellsWhy (Finds F.Tells F.held folder.now)
         (Lists F.Tells F.listed folder.now) None why) }
 {
-    let bytes = bytes_of(alloc, folder, &Part::Index)?;
+    let bytes = bytes_of(alloc, folder, &FolderPart::Index)?;
     let Some(named) = named_record(alloc, bytes.as_slice())? else {
-        return Err(Unverified::Flawed(Flaw::Unnamed));
+        return Err(Unverified::Flawed(FolderFlaw::Unnamed));
     };
     if !is_in(chain, &named) {
-        return Err(Unverified::Flawed(Flaw::Index));
+        return Err(Unverified::Flawed(FolderFlaw::Index));
     }
     Ok(())
 }

@@ -7,7 +7,7 @@ use std::alloc::{AllocError, Global};
 
 /// A file of a published folder that is verified.
 #[derive(Clone, Copy)]
-pub enum Part {
+pub enum FolderPart {
     /// The history.
     History,
     /// The index for programs.
@@ -22,18 +22,18 @@ pub enum Part {
     Blocks,
 }
 
-impl Part {
+impl FolderPart {
     /// Its place, from the folder on. Only want of memory is an error.
     pub fn place(&self, alloc: Global) -> Result<String, AllocError>
         ensures { IfOk result (λ place. string_bytes place ≡ place_of self.now) }
     {
         match self {
-            Part::History => String::from_str(alloc, "changes.csv"),
-            Part::Index => String::from_str(alloc, "index.json"),
-            Part::Registry(name) => registry_place(alloc, *name),
-            Part::Listing(name) => listing_place(alloc, *name),
-            Part::Pool => String::from_str(alloc, "pool.json"),
-            Part::Blocks => String::from_str(alloc, "blocks.csv"),
+            FolderPart::History => String::from_str(alloc, "changes.csv"),
+            FolderPart::Index => String::from_str(alloc, "index.json"),
+            FolderPart::Registry(name) => registry_place(alloc, *name),
+            FolderPart::Listing(name) => listing_place(alloc, *name),
+            FolderPart::Pool => String::from_str(alloc, "pool.json"),
+            FolderPart::Blocks => String::from_str(alloc, "blocks.csv"),
         }
     }
 }

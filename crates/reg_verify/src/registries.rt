@@ -2,15 +2,15 @@
 ghost use Rattle.std.specs.Prelude.{true, List, Some, None, OnOk, IfOk, IfErr};
 ghost use Rattle.reg_changes.specs.declared.change.HistoryRecord.{HistoryRecord};
 ghost use Rattle.reg_print.specs.Listing.{listing_text};
-ghost use Rattle.reg_verify.specs.declared.part.Part.TheVariants as part;
+ghost use Rattle.reg_verify.specs.declared.part.FolderPart.TheVariants as part;
 ghost use Rattle.reg_verify.specs.Strays.{Lists};
 ghost use Rattle.reg_verify.specs.Verifying.{AddsBlocks, AddsPage, AddsPool, AreFactsOf, AreFactsOfPages, Finds, HasHistory, IsPageIn, IsNameless, TellsWhy};
 
 use crate::files::{blocks_in, bytes_of, page_in, pool_in, told_in};
-use crate::flaw::{Flaw, Unverified};
+use crate::flaw::{FolderFlaw, Unverified};
 use crate::folder::Reads;
 use crate::listing::gives_just;
-use crate::part::Part;
+use crate::part::FolderPart;
 use reg_changes::change::{Class, Fact, Subject};
 use reg_changes::said::Said;
 use reg_core::command::PublicCommand;
@@ -71,7 +71,7 @@ fn push_name(names: &mut Vec<Name>, subject: &Subject) -> Result<(), Unverified>
             names.push(name).map_err(AllocError::from)?;
             Ok(())
         }
-        None => Err(Unverified::Flawed(Flaw::Name)),
+        None => Err(Unverified::Flawed(FolderFlaw::Name)),
     }
 }
 
@@ -108,7 +108,7 @@ fn add_registry<F: Reads>(
     let told = told_in(
         alloc,
         folder,
-        &Part::Registry(name),
+        &FolderPart::Registry(name),
         &PublicCommand::Registry(name),
     )?;
     let page = page_in(&told)?;
@@ -123,7 +123,7 @@ fn add_pool<F: Reads>(alloc: Global, folder: &F, facts: &mut Vec<Fact>) -> Resul
     ensures why { IfErr result (TellsWhy (Finds F.Tells F.held folder.now)
         (Lists F.Tells F.listed folder.now) None) }
 {
-    let told = told_in(alloc, folder, &Part::Pool, &PublicCommand::PoolList)?;
+    let told = told_in(alloc, folder, &FolderPart::Pool, &PublicCommand::PoolList)?;
     Ok(add_prefixes(alloc, facts, pool_in(&told)?.prefixes())?)
 }
 
@@ -134,7 +134,12 @@ fn add_listed<F: Reads>(alloc: Global, folder: &F, facts: &mut Vec<Fact>) -> Res
     ensures why { IfErr result (TellsWhy (Finds F.Tells F.held folder.now)
         (Lists F.Tells F.listed folder.now) None) }
 {
-    let told = told_in(alloc, folder, &Part::Blocks, &PublicCommand::BlocksCsv)?;
+    let told = told_in(
+        alloc,
+        folder,
+        &FolderPart::Blocks,
+        &PublicCommand::BlocksCsv,
+    )?;
     Ok(add_blocks(alloc, facts, blocks_in(&told)?)?)
 }
 
@@ -151,11 +156,11 @@ fn find_listing<F: Reads>(
         → TellsWhy (Finds F.Tells F.held folder.now)
         (Lists F.Tells F.listed folder.now) None why) }
 {
-    let bytes = bytes_of(alloc, folder, &Part::Listing(name))?;
+    let bytes = bytes_of(alloc, folder, &FolderPart::Listing(name))?;
     let mut listing = RegistryCsv::of(alloc, page)?;
     if gives_just(alloc, &mut listing, bytes.as_slice())? {
         Ok(())
     } else {
-        Err(Unverified::Flawed(Flaw::Listing(name)))
+        Err(Unverified::Flawed(FolderFlaw::Listing(name)))
     }
 }

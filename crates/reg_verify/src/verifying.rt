@@ -8,10 +8,10 @@ ghost use Rattle.reg_verify.specs.Strays.{Lists};
 ghost use Rattle.reg_verify.specs.Verifying.{Finds, IsHistoryIn, IsNotedIn, IsUnlikeBy, IsUnnotedBy, IsVerified, TellsWhy, last_text, verified_text};
 
 use crate::files::bytes_of;
-use crate::flaw::{Flaw, Unverified};
+use crate::flaw::{FolderFlaw, Unverified};
 use crate::folder::Reads;
 use crate::index::find_record;
-use crate::part::Part;
+use crate::part::FolderPart;
 use crate::registries::facts_in;
 use crate::strays::stray_in;
 use reg_changes::change::Fact;
@@ -62,7 +62,7 @@ fn chain_in<F: Reads>(alloc: Global, folder: &F) -> Result<Chain, Unverified>
     let chain = compared(alloc, history, facts.as_slice())?;
     match stray {
         None => Ok(chain),
-        Some(file) => Err(Unverified::Flawed(Flaw::Stray(file))),
+        Some(file) => Err(Unverified::Flawed(FolderFlaw::Stray(file))),
     }
 }
 
@@ -72,7 +72,7 @@ fn history_in<F: Reads>(alloc: Global, folder: &F) -> Result<History, Unverified
     ensures why { IfErr result (TellsWhy (Finds F.Tells F.held folder.now)
         (Lists F.Tells F.listed folder.now) None) }
 {
-    let text = bytes_of(alloc, folder, &Part::History)?;
+    let text = bytes_of(alloc, folder, &FolderPart::History)?;
     Ok(read(alloc, text.as_slice())?)
 }
 
@@ -87,7 +87,7 @@ fn compared(alloc: Global, history: History, facts: &[Fact]) -> Result<Chain, Un
     match history.says_just(alloc, facts) {
         Ok(chain) => Ok(chain),
         Err(Unlike::Memory) => Err(Unverified::Memory),
-        Err(Unlike::Subject(subject)) => Err(Unverified::Flawed(Flaw::Subject(subject))),
+        Err(Unlike::Subject(subject)) => Err(Unverified::Flawed(FolderFlaw::Subject(subject))),
     }
 }
 
@@ -97,12 +97,12 @@ fn find_noted(chain: &Chain, digits: &[u8]) -> Result<(), Unverified>
     ensures why { IfErr result (IsUnnotedBy chain.now.digests.items digits.now) }
 {
     if digits.len() < LEAST_DIGITS {
-        return Err(Unverified::Flawed(Flaw::Short));
+        return Err(Unverified::Flawed(FolderFlaw::Short));
     }
     if chain.has_front(digits) {
         Ok(())
     } else {
-        Err(Unverified::Flawed(Flaw::Digest))
+        Err(Unverified::Flawed(FolderFlaw::Digest))
     }
 }
 
