@@ -16,8 +16,8 @@ use Rattle.reg_early.specs.declared.evidence.EarlyEvidence.{EarlyEvidence}
 use Rattle.reg_early.specs.declared.term.Status.TheVariants as term
 use Rattle.reg_core.specs.Names.{is_name}
 use Rattle.reg_print.specs.Listing.{status_word}
-use Rattle.reg_print.specs.declared.listing.rows.Status.{Status}
-use Rattle.reg_print.specs.declared.listing.rows.Status.TheVariants as status
+use Rattle.reg_print.specs.declared.listing.rows.RowStatus.{RowStatus}
+use Rattle.reg_print.specs.declared.listing.rows.RowStatus.TheVariants as status
 use Rattle.reg_import.specs.Columns.{field_in}
 use Rattle.reg_import.specs.Days.{read_day, year_before}
 use Rattle.reg_import.specs.Faults.{◌>>=◌}
@@ -214,7 +214,7 @@ entry_in import kind row = do
 
 -- ---- Status
 
-abbrev pub is_word_of : List ℕ → Status → Bool
+abbrev pub is_word_of : List ℕ → RowStatus → Bool
 is_word_of word status = bytes_eq word (status_word status)
 
 -- values of this status have no entry

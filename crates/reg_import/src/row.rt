@@ -16,7 +16,7 @@ use reg_core::text::Account;
 use reg_early::day::{Day, year_after};
 use reg_early::requirements::early_missing;
 use reg_early::term;
-use reg_print::listing::rows::Status;
+use reg_print::listing::rows::RowStatus;
 use reg_ranges::evidence::{Evidence, Item as EvidenceItem};
 use reg_ranges::number::read_number;
 use reg_ranges::policy::Policy;
@@ -55,7 +55,7 @@ fn kind_in(fields: &RowFields<'_>) -> Result<Option<EntryKind>, ImportRowFault>
     let word = stands_in(fields, Column::Status);
     if is_vacant(word) {
         Ok(None)
-    } else if is_word_of(word, Status::Entry(term::Status::Assigned)) {
+    } else if is_word_of(word, RowStatus::Entry(term::Status::Assigned)) {
         Ok(Some(EntryKind::ForGood))
     } else if is_early(word) {
         Ok(Some(EntryKind::Early))
@@ -68,22 +68,22 @@ fn kind_in(fields: &RowFields<'_>) -> Result<Option<EntryKind>, ImportRowFault>
 fn is_early(word: &[u8]) -> bool
     ensures { result ≡ is_early word.now }
 {
-    is_word_of(word, Status::Entry(term::Status::Temporary))
-        || is_word_of(word, Status::Entry(term::Status::Expired))
+    is_word_of(word, RowStatus::Entry(term::Status::Temporary))
+        || is_word_of(word, RowStatus::Entry(term::Status::Expired))
 }
 
 // Whether values of this status have no entry.
 fn is_vacant(word: &[u8]) -> bool
     ensures { result ≡ is_vacant word.now }
 {
-    is_word_of(word, Status::Unassigned)
-        || is_word_of(word, Status::Reserved)
-        || is_word_of(word, Status::PrivateUse)
-        || is_word_of(word, Status::ExperimentalUse)
-        || is_word_of(word, Status::HierarchicalAllocation)
+    is_word_of(word, RowStatus::Unassigned)
+        || is_word_of(word, RowStatus::Reserved)
+        || is_word_of(word, RowStatus::PrivateUse)
+        || is_word_of(word, RowStatus::ExperimentalUse)
+        || is_word_of(word, RowStatus::HierarchicalAllocation)
 }
 
-fn is_word_of(word: &[u8], status: Status) -> bool
+fn is_word_of(word: &[u8], status: RowStatus) -> bool
     ensures { result ≡ is_word_of word.now status }
 {
     word == status.word().as_bytes()

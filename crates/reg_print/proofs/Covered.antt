@@ -6,7 +6,7 @@ use Rattle.std.proofs.lemmas.Bool.Decides.{nat_tests}
 use Rattle.reg_ranges.specs.declared.range.Range.{Range}
 use Rattle.reg_ranges.proofs.Increasing.{Rises, rises_any}
 use Rattle.reg_core.specs.declared.entry.PageEntry.{PageEntry}
-use Rattle.reg_print.specs.declared.listing.rows.Status.{Status}
+use Rattle.reg_print.specs.declared.listing.rows.RowStatus.{RowStatus}
 use Rattle.reg_print.specs.Listing.{ListedRow, closed_status, is_in, free_row, entry_row, free_rows, rows_from, rows_by}
 use Rattle.reg_print.specs.Laws.{Cover, RowsCoverRanges}
 
@@ -80,7 +80,7 @@ from_covers range next (e ∷ es) h within =
     (entry_row range e ∷ rows_from range (e.value + 1) es) low
     (refl, omega arith, from_covers range (e.value + 1) es (omega arith) within.2)
 
-by_covers : (range : Range) (entries : List PageEntry) (closed : Option Status)
+by_covers : (range : Range) (entries : List PageEntry) (closed : Option RowStatus)
     → Rises 0 (values_of entries)
     → range.lo ≤ range.hi → Cover range.lo (range.hi + 1) (rows_by closed entries range)
 by_covers range entries (Some status) ascends some = (refl, some, refl)

@@ -16,8 +16,8 @@ use Rattle.reg_core.specs.declared.entry.PageEntry.{PageEntry}
 use Rattle.reg_core.specs.declared.page.Page.{Page}
 use Rattle.reg_print.specs.declared.listing.rows.Run.{Run}
 use Rattle.reg_print.specs.declared.listing.rows.ListingRow.{ListingRow}
-use Rattle.reg_print.specs.declared.listing.rows.Status.{Status}
-use Rattle.reg_print.specs.declared.listing.rows.Status.TheVariants.{Unassigned, Reserved, PrivateUse, ExperimentalUse, HierarchicalAllocation, Entry}
+use Rattle.reg_print.specs.declared.listing.rows.RowStatus.{RowStatus}
+use Rattle.reg_print.specs.declared.listing.rows.RowStatus.TheVariants.{Unassigned, Reserved, PrivateUse, ExperimentalUse, HierarchicalAllocation, Entry}
 
 -- ---- Rows
 
@@ -25,7 +25,7 @@ use Rattle.reg_print.specs.declared.listing.rows.Status.TheVariants.{Unassigned,
 pub record ListedRow : Type 0 where
   pub values : Run
   pub description : List ℕ
-  pub status : Status
+  pub status : RowStatus
   pub policy : Option Policy
   pub entry : Option PageEntry
 
@@ -42,7 +42,7 @@ row_view row =
     }
 
 -- how all values under a policy stand that assigns no single values (RFC 8126 sections 4.1 to 4.3)
-abbrev pub closed_under : Policy → Option Status
+abbrev pub closed_under : Policy → Option RowStatus
 closed_under policy.PrivateUse = Some PrivateUse
 closed_under policy.ExperimentalUse = Some ExperimentalUse
 closed_under policy.HierarchicalAllocation = Some HierarchicalAllocation
@@ -55,7 +55,7 @@ closed_under policy.StandardsAction = None
 closed_under policy.IesgApproval = None
 
 -- how all values of a range stand in which no values are assigned one by one
-abbrev pub closed_status : Treatment → Option Status
+abbrev pub closed_status : Treatment → Option RowStatus
 closed_status (treatment.Under p) = closed_under p
 closed_status treatment.Reserved = Some Reserved
 
@@ -68,7 +68,7 @@ abbrev pub whole : Range → Run
 whole range = record { lo = range.lo; hi = range.hi }
 
 -- values without an entry
-abbrev pub without_entry : Run → List ℕ → Status → Option Policy → ListedRow
+abbrev pub without_entry : Run → List ℕ → RowStatus → Option Policy → ListedRow
 without_entry run description status policy =
     record {
       values = run;
@@ -79,7 +79,7 @@ without_entry run description status policy =
           None;
     }
 
-abbrev pub closed_row : Status → Range → ListedRow
+abbrev pub closed_row : RowStatus → Range → ListedRow
 closed_row status range =
     without_entry (whole range) (unwrap_or range.note []) status (policy_of range.treatment)
 
@@ -117,7 +117,7 @@ open_rows range entries = rows_from range range.lo (filter (is_in range) entries
 
 -- one row with the note where no values are assigned one by one, and else those of the entries and
 -- the runs between
-abbrev pub rows_by : Option Status → List PageEntry → Range → List ListedRow
+abbrev pub rows_by : Option RowStatus → List PageEntry → Range → List ListedRow
 rows_by (Some status) entries range = closed_row status range ∷ []
 rows_by None entries range = open_rows range entries
 
@@ -130,7 +130,7 @@ page_rows page = flat_map (range_rows page.entries) page.table.ranges
 -- ---- Text
 
 -- the word of a status in a listing
-abbrev pub status_word : Status → List ℕ
+abbrev pub status_word : RowStatus → List ℕ
 status_word Unassigned = codes "Unassigned"
 status_word Reserved = codes "Reserved"
 status_word PrivateUse = codes "Private Use"

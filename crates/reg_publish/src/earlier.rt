@@ -96,7 +96,7 @@ fn names_record(chain: &Chain, index: &[u8]) -> bool
     }
 }
 
-fn has_record(chain: &Chain, named: Named<'_>) -> bool
+fn has_record(chain: &Chain, named: IndexedRecord<'_>) -> bool
     ensures { IsTrue result
         ↔ HasRecord chain.now.digests.items named.entry.number named.entry.digest.now }
 {
@@ -110,7 +110,7 @@ fn has_record(chain: &Chain, named: Named<'_>) -> bool
 
 // A record by its number and its digest.
 #[derive(Clone, Copy)]
-struct Named<'a> {
+struct IndexedRecord<'a> {
     number: u32,
     digest: &'a [u8],
 }
@@ -123,7 +123,7 @@ const BEFORE_DIGEST: &[u8] = b",\"digest\":\"";
 const BEHIND_DIGEST: &[u8] = b"\",\"registers\":[";
 
 // The record that an index for programs names; none where it names none.
-fn named_record(index: &[u8]) -> Option<Named<'_>>
+fn named_record(index: &[u8]) -> Option<IndexedRecord<'_>>
     ensures { option_map (λ named. (named.number, named.digest.now)) result ≡ named_record index.now }
 {
     let rest = behind_first(MARK, index)?;
@@ -131,7 +131,7 @@ fn named_record(index: &[u8]) -> Option<Named<'_>>
     let number = read_number(digits)?;
     let rest = behind(BEFORE_DIGEST, rest)?;
     let digest = digest_in(rest)?;
-    Some(Named { number, digest })
+    Some(IndexedRecord { number, digest })
 }
 
 // The digest with which a text begins, where what follows it in an index stands behind it.

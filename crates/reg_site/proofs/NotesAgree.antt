@@ -10,7 +10,7 @@ use Rattle.reg_changes.specs.declared.change.HistoryRecord.{HistoryRecord}
 use Rattle.reg_notes.specs.Notes.{entry_thing}
 use Rattle.reg_notes.specs.declared.notes.Notes.{Notes}
 use Rattle.reg_print.specs.Listing.{ListedRow, closed_status, entry_row, free_row, free_rows, is_in, page_rows, range_rows, rows_by, rows_from}
-use Rattle.reg_print.specs.declared.listing.rows.Status.{Status}
+use Rattle.reg_print.specs.declared.listing.rows.RowStatus.{RowStatus}
 use Rattle.reg_ranges.specs.declared.range.Range.{Range}
 use Rattle.reg_site.specs.Laws.{AgreeOnPage, NotesOnNothingAreHidden}
 use Rattle.reg_pages.specs.Noted.{noted_in, note_of_row}
@@ -65,7 +65,7 @@ rows_agree a b name range next (e ∷ es) h =
 
 range_agrees : (a b : Option Notes) (name : List ℕ) (es : List PageEntry) (range : Range)
     → AllByRecursion (SaysSameOf a b name) es
-    → (closed : Option Status) → AllByRecursion (SaysSame a b name) (rows_by closed es range)
+    → (closed : Option RowStatus) → AllByRecursion (SaysSame a b name) (rows_by closed es range)
 range_agrees a b name es range h (Some status) = (refl, tt)
 range_agrees a b name es range h None =
     rows_agree a b name range range.lo (filter (is_in range) es)

@@ -7,8 +7,8 @@ use Rattle.reg_html.specs.Markup.{Attribute, Markup, nothing, text, element, bes
 use Rattle.reg_notes.specs.declared.note.Note.{Note}
 use Rattle.reg_notes.specs.declared.notes.Notes.{Notes}
 use Rattle.reg_print.specs.Listing.{ListedRow, expiry_text, first_text, page_rows, row_view, run_text, whole}
-use Rattle.reg_print.specs.declared.listing.rows.Status.{Status}
-use Rattle.reg_print.specs.declared.listing.rows.Status.TheVariants.{Unassigned, Reserved, PrivateUse, ExperimentalUse, HierarchicalAllocation, Entry}
+use Rattle.reg_print.specs.declared.listing.rows.RowStatus.{RowStatus}
+use Rattle.reg_print.specs.declared.listing.rows.RowStatus.TheVariants.{Unassigned, Reserved, PrivateUse, ExperimentalUse, HierarchicalAllocation, Entry}
 use Rattle.reg_ranges.specs.declared.range.Range.{Range}
 use Rattle.reg_pages.specs.Noted.{noted_in, note_of_row}
 use Rattle.reg_site.specs.Policy.{treatment_name}
@@ -32,7 +32,7 @@ early_text word first expires =
 
 -- what a row is for: of an entry its label, and the days of an early allocation; else the words for values
 -- that have none, and the note of their range
-abbrev pub described : Status → List ℕ → List ℕ → List ℕ → List ℕ
+abbrev pub described : RowStatus → List ℕ → List ℕ → List ℕ → List ℕ
 described (Entry term.Assigned) label first expires = label
 described (Entry term.Temporary) label first expires =
     label ++ early_text (codes "TEMPORARY") first expires

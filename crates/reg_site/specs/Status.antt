@@ -3,15 +3,15 @@ use Rattle.std.specs.Prelude.{ℕ, Bool, true, false, ◌&&◌, List, codes, Opt
 use Rattle.reg_core.specs.declared.entry.PageEntry.{PageEntry}
 use Rattle.reg_early.specs.declared.term.Status.TheVariants as term
 use Rattle.reg_print.specs.Listing.{ListedRow, status_word}
-use Rattle.reg_print.specs.declared.listing.rows.Status.{Status}
-use Rattle.reg_print.specs.declared.listing.rows.Status.TheVariants.{Unassigned, Reserved, PrivateUse, ExperimentalUse, HierarchicalAllocation, Entry}
+use Rattle.reg_print.specs.declared.listing.rows.RowStatus.{RowStatus}
+use Rattle.reg_print.specs.declared.listing.rows.RowStatus.TheVariants.{Unassigned, Reserved, PrivateUse, ExperimentalUse, HierarchicalAllocation, Entry}
 
 -- a clerk holds the entry
 abbrev pub is_held : Option PageEntry → Bool
 is_held None = false
 is_held (Some e) = e.term.held
 
-abbrev pub is_temporary : Status → Bool
+abbrev pub is_temporary : RowStatus → Bool
 is_temporary (Entry term.Temporary) = true
 is_temporary (Entry term.Assigned) = false
 is_temporary (Entry term.Expired) = false

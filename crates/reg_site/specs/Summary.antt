@@ -9,7 +9,7 @@ use Rattle.reg_early.specs.declared.term.Status.TheVariants as status
 use Rattle.reg_core.specs.declared.entry.PageEntry.{PageEntry}
 use Rattle.reg_core.specs.declared.page.Page.{Page}
 use Rattle.reg_print.specs.Listing.{closed_under, is_in, whole}
-use Rattle.reg_print.specs.declared.listing.rows.Status as listing
+use Rattle.reg_print.specs.declared.listing.rows.RowStatus as listing
 use Rattle.reg_site.specs.declared.summary.Rest.{Rest}
 use Rattle.reg_site.specs.declared.summary.Rest.TheVariants.{Free, SetAside, Reserved}
 use Rattle.reg_site.specs.declared.summary.RangeShare.{RangeShare}
@@ -18,7 +18,7 @@ use Rattle.reg_site.specs.declared.summary.Summary.{Summary}
 -- ---- The values of a range
 
 -- where values are assigned one by one those without an entry are free, and elsewhere set aside
-abbrev pub rest_by : Option listing.Status → Rest
+abbrev pub rest_by : Option listing.RowStatus → Rest
 rest_by None = Free
 rest_by (Some closed) = SetAside
 

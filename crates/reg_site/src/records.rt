@@ -18,7 +18,7 @@ use reg_pages::noted::{of_registry, of_row};
 use reg_pages::portions::{Next, Portions};
 use reg_pages::reference::push_xref;
 use reg_print::listing::registry::{expiry_text, first_text};
-use reg_print::listing::rows::{ListingRow, Run, Status, rows};
+use reg_print::listing::rows::{ListingRow, RowStatus, Run, rows};
 use reg_ranges::range::Range;
 use std::alloc::{AllocError, Global};
 
@@ -217,7 +217,7 @@ fn push_record(
 // What a row is for.
 fn described(
     alloc: Global,
-    status: Status,
+    status: RowStatus,
     label: &str,
     first: &str,
     expires: &str,
@@ -226,16 +226,18 @@ fn described(
         (λ words. string_bytes words ≡ described status label.now first.now expires.now) }
 {
     match status {
-        Status::Entry(term::Status::Assigned) => String::from_str(alloc, label),
-        Status::Entry(term::Status::Temporary) => {
+        RowStatus::Entry(term::Status::Assigned) => String::from_str(alloc, label),
+        RowStatus::Entry(term::Status::Temporary) => {
             early_text(alloc, label, "TEMPORARY", first, expires)
         }
-        Status::Entry(term::Status::Expired) => early_text(alloc, label, "EXPIRED", first, expires),
-        Status::Unassigned
-        | Status::Reserved
-        | Status::PrivateUse
-        | Status::ExperimentalUse
-        | Status::HierarchicalAllocation => String::from_str(alloc, status.word()),
+        RowStatus::Entry(term::Status::Expired) => early_text(
+            alloc, label, "EXPIRED", first, expires,
+        ),
+        RowStatus::Unassigned
+        | RowStatus::Reserved
+        | RowStatus::PrivateUse
+        | RowStatus::ExperimentalUse
+        | RowStatus::HierarchicalAllocation => String::from_str(alloc, status.word()),
     }
 }
 

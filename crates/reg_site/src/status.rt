@@ -4,7 +4,7 @@ ghost use Rattle.reg_print.specs.Listing.{row_view};
 ghost use Rattle.reg_site.specs.Status.{is_held, is_temporary, shown_status};
 
 use reg_early::term;
-use reg_print::listing::rows::{ListingRow, Status};
+use reg_print::listing::rows::{ListingRow, RowStatus};
 
 /// The words of the listing, and of an early allocation that is held that it is.
 pub(crate) fn shown_status(row: &ListingRow<'_>) -> &'static str
@@ -17,10 +17,10 @@ pub(crate) fn shown_status(row: &ListingRow<'_>) -> &'static str
     }
 }
 
-fn is_temporary(status: Status) -> bool
+fn is_temporary(status: RowStatus) -> bool
     ensures { result ≡ is_temporary status }
 {
-    matches!(status, Status::Entry(term::Status::Temporary))
+    matches!(status, RowStatus::Entry(term::Status::Temporary))
 }
 
 fn is_held(row: &ListingRow<'_>) -> bool

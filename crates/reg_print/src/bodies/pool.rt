@@ -7,7 +7,7 @@ use reg_blocks::prefix;
 use std::alloc::AllocError;
 
 /// A number as the text of a prefix.
-pub(crate) struct Prefix;
+pub(crate) struct PrefixText;
 
 /// That a prefix is in the pool.
 pub(crate) struct Pooled;
@@ -19,11 +19,11 @@ impl Print<Itself> for Pool {
     ghost levels = { 1 };
 
     fn print(&self, out: &mut Printer) -> Result<(), AllocError> {
-        out.list::<Prefix, u32>(self.prefixes())
+        out.list::<PrefixText, u32>(self.prefixes())
     }
 }
 
-impl Print<Prefix> for u32 {
+impl Print<PrefixText> for u32 {
     ghost tree = { prefix_tree };
 
     ghost levels = { 0 };

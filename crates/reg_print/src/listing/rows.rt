@@ -14,7 +14,7 @@ use std::fmt;
 
 /// How the values of a row stand (RFC 8126 section 6).
 #[derive(Clone, Copy, Debug, PartialEq, Eq)]
-pub enum Status {
+pub enum RowStatus {
     /// They can be assigned, and are not.
     Unassigned,
     Reserved,
@@ -25,18 +25,18 @@ pub enum Status {
     Entry(term::Status),
 }
 
-impl Status {
+impl RowStatus {
     /// The words by which a listing names it.
     pub fn word(self) -> &'static str
         ensures { result.now ≡ status_word self }
     {
         match self {
-            Status::Unassigned => "Unassigned",
-            Status::Reserved => "Reserved",
-            Status::PrivateUse => "Private Use",
-            Status::ExperimentalUse => "Experimental Use",
-            Status::HierarchicalAllocation => "Hierarchical Allocation",
-            Status::Entry(status) => status.word(),
+            RowStatus::Unassigned => "Unassigned",
+            RowStatus::Reserved => "Reserved",
+            RowStatus::PrivateUse => "Private Use",
+            RowStatus::ExperimentalUse => "Experimental Use",
+            RowStatus::HierarchicalAllocation => "Hierarchical Allocation",
+            RowStatus::Entry(status) => status.word(),
         }
     }
 }
@@ -67,7 +67,7 @@ pub struct ListingRow<'a> {
     pub values: Run,
     /// Empty where there is none.
     pub description: &'a str,
-    pub status: Status,
+    pub status: RowStatus,
     /// None where the values are reserved.
     pub policy: Option<Policy>,
     /// The entry of the one value; none where the values have none.
@@ -149,7 +149,7 @@ fn push_free<'a>(
     Ok(())
 }
 
-fn closed_row(status: Status, range: &Range) -> ListingRow<'_>
+fn closed_row(status: RowStatus, range: &Range) -> ListingRow<'_>
     ensures { row_view result ≡ closed_row status range.now }
 {
     ListingRow {
@@ -167,7 +167,7 @@ fn free_row<'a>(range: &Range, run: Run) -> ListingRow<'a>
     ListingRow {
         values: run,
         description: "",
-        status: Status::Unassigned,
+        status: RowStatus::Unassigned,
         policy: policy_of(range.treatment),
         entry: None,
     }
@@ -183,7 +183,7 @@ fn entry_row<'a>(range: &Range, entry: &'a PageEntry) -> ListingRow<'a>
             hi: value,
         },
         description: entry.label.as_str(),
-        status: Status::Entry(entry.status),
+        status: RowStatus::Entry(entry.status),
         policy: policy_of(range.treatment),
         entry: Some(entry),
     }
@@ -209,14 +209,14 @@ fn policy_of(treatment: Treatment) -> Option<Policy>
 }
 
 /// How all values of a range stand in which no values are assigned one by one; none where they are.
-pub fn closed_status(treatment: Treatment) -> Option<Status>
+pub fn closed_status(treatment: Treatment) -> Option<RowStatus>
     ensures { result ≡ closed_status treatment }
 {
     match treatment {
-        Treatment::Reserved => Some(Status::Reserved),
-        Treatment::Under(Policy::PrivateUse) => Some(Status::PrivateUse),
-        Treatment::Under(Policy::ExperimentalUse) => Some(Status::ExperimentalUse),
-        Treatment::Under(Policy::HierarchicalAllocation) => Some(Status::HierarchicalAllocation),
+        Treatment::Reserved => Some(RowStatus::Reserved),
+        Treatment::Under(Policy::PrivateUse) => Some(RowStatus::PrivateUse),
+        Treatment::Under(Policy::ExperimentalUse) => Some(RowStatus::ExperimentalUse),
+        Treatment::Under(Policy::HierarchicalAllocation) => Some(RowStatus::HierarchicalAllocation),
         Treatment::Under(
             Policy::FirstComeFirstServed
             | Policy::ExpertReview
