@@ -18,7 +18,7 @@ use reg_http::dates::Dates;
 use reg_program::console::Console;
 use reg_program::faults::{JobFailure, Undone};
 use reg_program::publishing::Directories;
-use reg_program::stores::{Look, OfficesIn, Stores};
+use reg_program::stores::{LookedAt, OfficesIn, Stores};
 use reg_program::tasks::{Offices, Task};
 use reg_sql::keeper::SqlKeeper;
 use reg_sql::look::look_at;
@@ -148,9 +148,9 @@ impl<S: Alter + Drop> Stores for OneOffice<S> {
         drop(keeper);
     }
 
-    fn look(&mut self, rt: &HostRuntime, path: &str) -> Result<Look<SqlKeeper<S>>, Undone> {
+    fn look(&mut self, rt: &HostRuntime, path: &str) -> Result<LookedAt<SqlKeeper<S>>, Undone> {
         match self.keeper.take() {
-            Some(keeper) => Ok(Look {
+            Some(keeper) => Ok(LookedAt {
                 version: self.version,
                 keeper,
             }),

@@ -34,7 +34,7 @@ use Rattle.reg_print.specs.declared.answer.Answer.TheVariants as answer
 use Rattle.reg_program.specs.Asking.{IsPrinted, IsUnprinted, printed}
 use Rattle.reg_program.specs.Looking.{applicant_looks, clerk_looks, expert_looks, only_looks}
 use Rattle.reg_program.specs.Undone.{IsOfPrinting, IsRefusedBy, MayUndo, answer_line}
-use Rattle.reg_program.specs.declared.asking.Form.{Form}
+use Rattle.reg_program.specs.declared.asking.AnswerForm.{AnswerForm}
 use Rattle.reg_program.specs.declared.faults.Undone.{Undone}
 use Rattle.reg_program.specs.declared.faults.Undone.TheVariants.{Fault, Explained, Refused}
 
@@ -73,7 +73,7 @@ printing_unprinted old new step (Fault failure) changed h = inr changed
 printing_unprinted old new step _ changed h = absurd h
 
 -- where it is
-pub is_printed : (form : Form) (had has : Option (List ℕ)) (step : Stepped) (new : World)
+pub is_printed : (form : AnswerForm) (had has : Option (List ℕ)) (step : Stepped) (new : World)
     (told : Reply) (text : List ℕ) → told ≡ step.reply → new ≡ step.world
     → is_refused told ≡ false → text ≡ printed form (answer.Reply told) → Appends had has text
     → IsPrinted form had has step new

@@ -18,8 +18,8 @@ use Rattle.reg_print.specs.declared.answer.Format.{Format}
 use Rattle.reg_print.specs.declared.answer.Format.TheVariants.{Json, Csv}
 use Rattle.reg_program.specs.Doing.{Does}
 use Rattle.reg_program.specs.Undone.{answer_line}
-use Rattle.reg_program.specs.declared.asking.Form.{Form}
-use Rattle.reg_program.specs.declared.asking.Form.TheVariants.{Body, Line}
+use Rattle.reg_program.specs.declared.asking.AnswerForm.{AnswerForm}
+use Rattle.reg_program.specs.declared.asking.AnswerForm.TheVariants.{Body, Line}
 use Rattle.reg_program.specs.declared.asking.Question.{Question}
 use Rattle.reg_program.specs.declared.faults.JobFailure.TheVariants.{Memory}
 use Rattle.reg_program.specs.declared.faults.Undone.{Undone}
@@ -55,12 +55,12 @@ abbrev pub after_body : Format → List ℕ
 after_body Json = 10 ∷ []
 after_body Csv = []
 
-abbrev pub in_form : Form → Answer → List ℕ
+abbrev pub in_form : AnswerForm → Answer → List ℕ
 in_form Body a = body_text a
 in_form Line a = answer_line a
 
 -- what is printed of an answer
-abbrev pub printed : Form → Answer → List ℕ
+abbrev pub printed : AnswerForm → Answer → List ℕ
 printed form a = in_form form a ++ after_body (format_of (answer_body a))
 
 -- ---- One step of an office
@@ -70,7 +70,7 @@ abbrev pub step_of : Question → ℕ → World → Stepped
 step_of question moment world = step_by world (option_copied question.token) moment question.command
 
 -- the step is accepted, the office is as after it, and what it answers is printed
-pub record IsPrinted (form : Form) (had has : Option (List ℕ)) (step : Stepped) (new : World) :
+pub record IsPrinted (form : AnswerForm) (had has : Option (List ℕ)) (step : Stepped) (new : World) :
     Type 0 where
   pub accepted : is_refused step.reply ≡ false
   pub stepped : new ≡ step.world
@@ -87,7 +87,7 @@ IsUnprinted step old new (Explained failure why) = ⊥
 
 -- an office is asked for one step, in this form
 abbrev pub PrintsStep : {S : Type 0} → (S → World) → (S → Type 0) → (S → Type 0) → Bool → S → S
-    → (World → Stepped) → Form → Option (List ℕ) → Option (List ℕ) → Result ⊤ Undone → Type 0
+    → (World → Stepped) → AnswerForm → Option (List ℕ) → Option (List ℕ) → Result ⊤ Undone → Type 0
 PrintsStep world Holds Sound fails before after step form had has result =
     Does world Holds Sound fails before after result
     (λ old new. IsPrinted form had has (step old) new) (λ old new. IsUnprinted (step old) old new)

@@ -30,8 +30,8 @@ use Rattle.reg_program.specs.Served.{PrintsAnswer}
 use Rattle.reg_program.specs.Tasks.{Streams}
 use Rattle.reg_program.specs.Verifying.{IsVerifiedBy}
 use Rattle.reg_program.specs.Version.{version_line}
-use Rattle.reg_program.specs.declared.asking.Form.{Form}
-use Rattle.reg_program.specs.declared.asking.Form.TheVariants.{Body, Line}
+use Rattle.reg_program.specs.declared.asking.AnswerForm.{AnswerForm}
+use Rattle.reg_program.specs.declared.asking.AnswerForm.TheVariants.{Body, Line}
 use Rattle.reg_program.specs.declared.faults.Undone.{Undone}
 use Rattle.reg_program.specs.declared.listening.Serving.{Serving}
 use Rattle.reg_program.specs.declared.tasks.Task.{Task}
@@ -128,7 +128,7 @@ TellsFrom Untouched source Printed Does done =
     (IsAddress source → Untouched × OnOk done Printed) × ((IsAddress source → ⊥) → Does done)
 
 -- the same, and it is printed in this form what the one that is served answers
-abbrev pub AnswersFrom : Type 0 → List ℕ → Form → Streams → (Result ⊤ Undone → Type 0)
+abbrev pub AnswersFrom : Type 0 → List ℕ → AnswerForm → Streams → (Result ⊤ Undone → Type 0)
     → Result ⊤ Undone → Type 0
 AnswersFrom Untouched source form io Does done =
     TellsFrom Untouched source (PrintsAnswer form io.had io.has) Does done

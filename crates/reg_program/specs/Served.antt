@@ -6,8 +6,8 @@ use Rattle.reg_print.specs.declared.answer.Format.{Format}
 use Rattle.reg_client.specs.Answers.{answer_text}
 use Rattle.reg_program.specs.Asking.{after_body}
 use Rattle.reg_program.specs.Undone.{line_by}
-use Rattle.reg_program.specs.declared.asking.Form.{Form}
-use Rattle.reg_program.specs.declared.asking.Form.TheVariants.{Body, Line}
+use Rattle.reg_program.specs.declared.asking.AnswerForm.{AnswerForm}
+use Rattle.reg_program.specs.declared.asking.AnswerForm.TheVariants.{Body, Line}
 use Rattle.reg_program.specs.declared.faults.Undone.{Undone}
 use Rattle.reg_program.specs.declared.faults.Undone.TheVariants.{Fault, Explained, Refused}
 
@@ -36,16 +36,16 @@ abbrev pub is_accepting : ℕ → Bool
 is_accepting status = status == 200 || status == 201
 
 -- the body of an answer, or its status and its body
-abbrev pub told_line : Form → ℕ → List ℕ → List ℕ
+abbrev pub told_line : AnswerForm → ℕ → List ℕ → List ℕ
 told_line Body status body = body
 told_line Line status body = line_by status body
 
 -- what is printed of an answer, as `printed` says it of the answer of an office in a file
-abbrev pub told : Form → ℕ → Format → List ℕ → List ℕ
+abbrev pub told : AnswerForm → ℕ → Format → List ℕ → List ℕ
 told form status format body = told_line form status body ++ after_body format
 
 -- the bytes are an answer of an office with which it accepts a command, and that is printed
-pub record PrintsAnswerOf (bytes : List ℕ) (form : Form) (had has : Option (List ℕ)) : Type 0 where
+pub record PrintsAnswerOf (bytes : List ℕ) (form : AnswerForm) (had has : Option (List ℕ)) : Type 0 where
   pub status : ℕ
   pub format : Format
   pub body : List ℕ
@@ -54,7 +54,7 @@ pub record PrintsAnswerOf (bytes : List ℕ) (form : Form) (had has : Option (Li
   pub wrote : Appends had has (told form status format body)
 
 -- such an answer is printed
-abbrev pub PrintsAnswer : Form → Option (List ℕ) → Option (List ℕ) → Type 0
+abbrev pub PrintsAnswer : AnswerForm → Option (List ℕ) → Option (List ℕ) → Type 0
 PrintsAnswer form had has = (bytes : List ℕ) × PrintsAnswerOf bytes form had has
 
 -- the bytes are any other answer of an office

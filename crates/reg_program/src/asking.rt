@@ -101,7 +101,7 @@ fn command(alloc: Global, method: &[u8], path: &[u8], body: &[u8]) -> Result<Com
 
 /// What is printed of the answer to a command that was accepted. A line feed comes after JSON.
 #[derive(Clone, Copy, Debug, PartialEq, Eq)]
-pub enum Form {
+pub enum AnswerForm {
     /// The body.
     Body,
     /// The status and the body, with a space between.
@@ -116,7 +116,7 @@ pub struct Question<'a> {
     /// The command.
     pub command: Command,
     /// What is printed of the answer.
-    pub form: Form,
+    pub form: AnswerForm,
 }
 
 /// Has an office answer a question, and prints its answer. `Refused` where it refuses it.
@@ -138,7 +138,7 @@ pub fn ask_in<K: Keeper, W: Write>(
 }
 
 // What is printed of a reply that is no refusal.
-fn accepted_text(alloc: Global, reply: Reply, form: Form) -> Result<Vec<u8>, Undone>
+fn accepted_text(alloc: Global, reply: Reply, form: AnswerForm) -> Result<Vec<u8>, Undone>
     ensures accepted { OnOk result (refuses reply ≡ false) }
     ensures text { IfOk result (λ text. text.items ≡ printed form (answer.Reply reply)) }
     ensures refused { IfErr result (IsRefusedBy reply) }
@@ -152,7 +152,7 @@ fn accepted_text(alloc: Global, reply: Reply, form: Form) -> Result<Vec<u8>, Und
 }
 
 // What is printed of an answer.
-fn printed(alloc: Global, answer: &Answer, form: Form) -> Result<Vec<u8>, AllocError>
+fn printed(alloc: Global, answer: &Answer, form: AnswerForm) -> Result<Vec<u8>, AllocError>
     ensures { IfOk result (λ text. text.items ≡ printed form answer.now) }
 {
     let text = in_form(alloc, answer, form)?;
@@ -160,12 +160,12 @@ fn printed(alloc: Global, answer: &Answer, form: Form) -> Result<Vec<u8>, AllocE
 }
 
 // The body of an answer, or its line.
-fn in_form(alloc: Global, answer: &Answer, form: Form) -> Result<Vec<u8>, AllocError>
+fn in_form(alloc: Global, answer: &Answer, form: AnswerForm) -> Result<Vec<u8>, AllocError>
     ensures { IfOk result (λ text. text.items ≡ in_form form answer.now) }
 {
     match form {
-        Form::Body => Ok(body_of(alloc, answer)?.1),
-        Form::Line => answer_line(alloc, answer),
+        AnswerForm::Body => Ok(body_of(alloc, answer)?.1),
+        AnswerForm::Line => answer_line(alloc, answer),
     }
 }
 

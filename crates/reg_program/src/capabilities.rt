@@ -16,7 +16,7 @@ use crate::console::Console;
 use crate::faults::{JobFailure, Undone};
 use crate::inputs::optional_token;
 use crate::publishing::port_of;
-use crate::served::{Sent, answer_of, unaccepted};
+use crate::served::{ServedRequest, answer_of, unaccepted};
 use crate::tasks::{Offices, Task};
 use crate::tokens::{account_of, no_token, print_rows};
 use http::Method;
@@ -112,7 +112,7 @@ pub fn list_served<W: Write>(
     let alloc = rt.alloc();
     let token = optional_token(rt, alloc, token)?;
     let method = Method::GET;
-    let sent = Sent {
+    let sent = ServedRequest {
         method: method.as_str(),
         path: "/desk/tokens",
         body: b"",
@@ -136,7 +136,7 @@ pub fn revoke_served<W: Write>(
     let token = optional_token(rt, alloc, token)?;
     let path = revocation_path(alloc, which)?;
     let method = Method::DELETE;
-    let sent = Sent {
+    let sent = ServedRequest {
         method: method.as_str(),
         path: path.as_str(),
         body: b"",

@@ -4,7 +4,7 @@ ghost use Rattle.std.specs.String.{string_bytes};
 ghost use Rattle.reg_program.specs.Performing.{AnswersDefinition, AnswersListing, AnswersRequest, CarriesRequest, IsDefinedBy, IsListedBy, TriesIn, TriesTask};
 ghost use Rattle.reg_program.specs.Tasks.{streams_by};
 
-use crate::asking::{Form, Question, definition, listing, requested};
+use crate::asking::{AnswerForm, Question, definition, listing, requested};
 use crate::carrying::carry_out;
 use crate::console::Console;
 use crate::faults::Undone;
@@ -52,7 +52,7 @@ fn request_in<D: Dates, O: Offices, R: Read, W: Write, E: Write>(
     let task = Task::Ask(Question {
         token: token.as_deref(),
         command,
-        form: Form::Body,
+        form: AnswerForm::Body,
     });
     carry_out(rt, dates, offices, order.source.as_str(), task, console)
 }
@@ -95,7 +95,7 @@ fn define_in<D: Dates, O: Offices, R: Read, W: Write, E: Write>(
     let task = Task::Ask(Question {
         token: Some(token.as_slice()),
         command,
-        form: Form::Line,
+        form: AnswerForm::Line,
     });
     carry_out(rt, dates, offices, order.source.as_str(), task, console)
 }
@@ -136,7 +136,7 @@ fn list_in<D: Dates, O: Offices, R: Read, W: Write, E: Write>(
     let task = Task::Ask(Question {
         token: None,
         command: listing(rt.alloc(), registry)?,
-        form: Form::Body,
+        form: AnswerForm::Body,
     });
     carry_out(rt, dates, offices, file, task, console)
 }

@@ -10,7 +10,8 @@ ghost use Rattle.reg_ranges.specs.Texts.{read_text};
 ghost use Rattle.reg_program.specs.Served.{IsUnprintedOf, PrintsAnswer, PrintsAnswerOf, is_accepting, request_head, request_text, told, told_line, token_line};
 
 use crate::asking::{
-    Form, definition, definition_path, line_by, listing, listing_path, print, requested, with_end,
+    AnswerForm, definition, definition_path, line_by, listing, listing_path, print, requested,
+    with_end,
 };
 use crate::faults::{JobFailure, Undone};
 use crate::inputs::{body_of, bytes_of, optional_token, token_of};
@@ -25,7 +26,7 @@ use std::io::{Read, Write};
 
 /// A request to an office that is served, but for the token of who asks.
 #[derive(Clone, Copy)]
-pub struct Sent<'a> {
+pub struct ServedRequest<'a> {
     /// Its method.
     pub method: &'a str,
     /// Its path.
@@ -43,18 +44,18 @@ pub fn request_served<R: Read, W: Write>(
     input: &mut R,
     output: &mut W,
 ) -> Result<(), Undone>
-    ensures { OnOk result (PrintsAnswer Form.Body (W.contents output.old) (W.contents output.new)) }
+    ensures { OnOk result (PrintsAnswer AnswerForm.Body (W.contents output.old) (W.contents output.new)) }
 {
     let alloc = rt.alloc();
     let token = optional_token(rt, alloc, &order.token)?;
     let body = body_of(alloc, &order.body, input)?;
     drop(requested(alloc, order, body.as_slice())?);
-    let sent = Sent {
+    let sent = ServedRequest {
         method: order.method.as_str(),
         path: order.path.as_str(),
         body: body.as_slice(),
     };
-    ask_served(rt, port, sent, token.as_deref(), Form::Body, output)
+    ask_served(rt, port, sent, token.as_deref(), AnswerForm::Body, output)
 }
 
 /// Defines a registry from a range file, in the office that is served on a port of loopback, and prints
@@ -66,7 +67,7 @@ pub fn define_served<W: Write>(
     order: &Definition,
     output: &mut W,
 ) -> Result<(), Undone>
-    ensures { OnOk result (PrintsAnswer Form.Line (W.contents output.old) (W.contents output.new)) }
+    ensures { OnOk result (PrintsAnswer AnswerForm.Line (W.contents output.old) (W.contents output.new)) }
 {
     let alloc = rt.alloc();
     let token = token_of(rt, alloc, order.clerk.as_str())?;
@@ -74,12 +75,19 @@ pub fn define_served<W: Write>(
     drop(definition(alloc, order, ranges.as_slice())?);
     let path = definition_path(alloc, order)?;
     let method = Method::PUT;
-    let sent = Sent {
+    let sent = ServedRequest {
         method: method.as_str(),
         path: path.as_str(),
         body: ranges.as_slice(),
     };
-    ask_served(rt, port, sent, Some(token.as_slice()), Form::Line, output)
+    ask_served(
+        rt,
+        port,
+        sent,
+        Some(token.as_slice()),
+        AnswerForm::Line,
+        output,
+    )
 }
 
 /// Prints a listing of the office that is served on a port of loopback: of a registry or, without one, of
@@ -90,18 +98,18 @@ pub fn list_served<W: Write>(
     registry: &Option<String>,
     output: &mut W,
 ) -> Result<(), Undone>
-    ensures { OnOk result (PrintsAnswer Form.Body (W.contents output.old) (W.contents output.new)) }
+    ensures { OnOk result (PrintsAnswer AnswerForm.Body (W.contents output.old) (W.contents output.new)) }
 {
     let alloc = rt.alloc();
     drop(listing(alloc, registry)?);
     let path = listing_path(alloc, registry)?;
     let method = Method::GET;
-    let sent = Sent {
+    let sent = ServedRequest {
         method: method.as_str(),
         path: path.as_str(),
         body: b"",
     };
-    ask_served(rt, port, sent, None, Form::Body, output)
+    ask_served(rt, port, sent, None, AnswerForm::Body, output)
 }
 
 // Has the office that is served on a port of loopback answer a request of the caller with this token, or
@@ -109,9 +117,9 @@ pub fn list_served<W: Write>(
 fn ask_served<W: Write>(
     rt: &HostRuntime,
     port: u16,
-    sent: Sent<'_>,
+    sent: ServedRequest<'_>,
     token: Option<&[u8]>,
-    form: Form,
+    form: AnswerForm,
     output: &mut W,
 ) -> Result<(), Undone>
     ensures { OnOk result (PrintsAnswer form (W.contents output.old) (W.contents output.new)) }
@@ -125,7 +133,7 @@ fn ask_served<W: Write>(
 pub fn answer_of(
     rt: &HostRuntime,
     port: u16,
-    sent: Sent<'_>,
+    sent: ServedRequest<'_>,
     token: Option<&[u8]>,
 ) -> Result<Vec<u8>, Undone> {
     let alloc = rt.alloc();
@@ -142,7 +150,7 @@ pub fn answer_of(
 /// its body. Any other token is nobody's, as none is.
 pub fn request_bytes(
     alloc: Global,
-    sent: Sent<'_>,
+    sent: ServedRequest<'_>,
     token: Option<&[u8]>,
 ) -> Result<Vec<u8>, AllocError>
     ensures { IfOk result (λ v. v.items ≡ request_text sent.entry.method.now sent.entry.path.now
@@ -177,7 +185,7 @@ fn authorization(alloc: Global, token: Option<Token>) -> Result<String, AllocErr
     }
 }
 
-fn head(alloc: Global, sent: Sent<'_>, authorization: &str) -> Result<String, AllocError>
+fn head(alloc: Global, sent: ServedRequest<'_>, authorization: &str) -> Result<String, AllocError>
     ensures { IfOk result (λ head. string_bytes head ≡ request_head sent.entry.method.now
         sent.entry.path.now authorization.now (length sent.entry.body.now)) }
 {
@@ -197,7 +205,7 @@ fn head(alloc: Global, sent: Sent<'_>, authorization: &str) -> Result<String, Al
 pub fn print_answer<W: Write>(
     alloc: Global,
     answer: &[u8],
-    form: Form,
+    form: AnswerForm,
     output: &mut W,
 ) -> Result<(), Undone>
     ensures printed { OnOk result
@@ -238,7 +246,7 @@ fn is_accepting(status: StatusCode) -> bool
 }
 
 // What is printed of an answer.
-fn text_of(alloc: Global, answered: &Answered<'_>, form: Form) -> Result<Vec<u8>, AllocError>
+fn text_of(alloc: Global, answered: &Answered<'_>, form: AnswerForm) -> Result<Vec<u8>, AllocError>
     ensures { IfOk result (λ text. text.items ≡ told form answered.now.status
         answered.now.format answered.now.body.now) }
 {
@@ -247,12 +255,12 @@ fn text_of(alloc: Global, answered: &Answered<'_>, form: Form) -> Result<Vec<u8>
 }
 
 // The body of an answer, or its line.
-fn line_in(alloc: Global, answered: &Answered<'_>, form: Form) -> Result<Vec<u8>, AllocError>
+fn line_in(alloc: Global, answered: &Answered<'_>, form: AnswerForm) -> Result<Vec<u8>, AllocError>
     ensures { IfOk result (λ text. text.items ≡ told_line form answered.now.status
         answered.now.body.now) }
 {
     match form {
-        Form::Body => answered.body.to_vec(alloc),
-        Form::Line => line_by(alloc, answered.status.as_u16(), answered.body),
+        AnswerForm::Body => answered.body.to_vec(alloc),
+        AnswerForm::Line => line_by(alloc, answered.status.as_u16(), answered.body),
     }
 }

@@ -21,7 +21,7 @@ use std::io::{Read, Write};
 
 /// An office that was looked at: the version that its store says, and what keeps a copy of it.
 #[derive(Drop)]
-pub struct Look<K> {
+pub struct LookedAt<K> {
     /// The version.
     pub version: i64,
     /// The copy.
@@ -67,7 +67,7 @@ pub trait Stores {
         ensures { Closed self.old self.new keeper };
 
     /// Looks at the office at a path, which stays as it is.
-    fn look(&mut self, rt: &HostRuntime, path: &str) -> Result<Look<Self::Copied>, Undone>
+    fn look(&mut self, rt: &HostRuntime, path: &str) -> Result<LookedAt<Self::Copied>, Undone>
         ensures { MatchResult result
             (λ look. Looked self.old self.new path.now look.version look.keeper)
             (Unlooked self.old self.new path.now) };
@@ -126,7 +126,7 @@ impl<T: Stores, N: Ports, F: Folders> Offices for OfficesIn<T, N, F> {
         path: &str,
         console: &mut Console<'_, R, W, E>,
     ) -> Result<(), Undone> {
-        let Look { version, keeper } = self.stores.look(rt, path)?;
+        let LookedAt { version, keeper } = self.stores.look(rt, path)?;
         let mut office = Office::new(rt.alloc(), keeper);
         let moment = moment_now(dates);
         let done = check_in(rt.alloc(), &mut office, version, moment, console.output);

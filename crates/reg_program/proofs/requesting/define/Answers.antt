@@ -3,7 +3,7 @@ use Rattle.std.specs.String.{string_bytes}
 use Rattle.reg_program.specs.Performing.{Carries, IsDefinedBy}
 use Rattle.reg_program.specs.Served.{PrintsAnswer}
 use Rattle.reg_program.specs.Tasks.{streams_by}
-use Rattle.reg_program.specs.declared.asking.Form.TheVariants.{Line}
+use Rattle.reg_program.specs.declared.asking.AnswerForm.TheVariants.{Line}
 use Rattle.reg_program.proofs.Carried.{file_tells}
 use Rattle.reg_program.proofs.requesting.define.Goals as goal
 

@@ -1,7 +1,7 @@
 //! Offices over a keeper that are asked as jobs ask them.
 use reg_keeper::keeper::Keeper;
 use reg_office::Office;
-use reg_program::asking::{Form, Question, ask_in, listing};
+use reg_program::asking::{AnswerForm, Question, ask_in, listing};
 use reg_program::faults::Undone;
 use reg_program::scripts::found_and_run;
 use std::alloc::Global;
@@ -21,7 +21,7 @@ pub fn list_in<K: Keeper>(
     let question = Question {
         token: None,
         command: listing(alloc, &None)?,
-        form: Form::Body,
+        form: AnswerForm::Body,
     };
     let done = ask_in(alloc, office, MOMENT, &question, output);
     drop(question);

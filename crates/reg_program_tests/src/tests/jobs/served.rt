@@ -1,9 +1,9 @@
 //! What is sent to an office that is served, and what is made of its answers: known bytes.
 use reg_client::answers::answer_in;
 use reg_print::answer::Format;
-use reg_program::asking::Form;
+use reg_program::asking::AnswerForm;
 use reg_program::faults::{JobFailure, Undone};
-use reg_program::served::{Sent, print_answer, request_bytes};
+use reg_program::served::{ServedRequest, print_answer, request_bytes};
 use reg_testing::facts::ensure;
 use std::alloc::{AllocError, Global};
 use std::test::Fail;
@@ -83,7 +83,7 @@ fn other_lengths_are_not_read(rt: HostRuntime) -> Result<(), Fail> {
 }
 
 // Whether this is printed of an answer, and nothing else is.
-fn prints(alloc: Global, answer: &str, form: Form, wanted: &[u8]) -> Result<bool, Fail> {
+fn prints(alloc: Global, answer: &str, form: AnswerForm, wanted: &[u8]) -> Result<bool, Fail> {
     let mut output = Vec::new(alloc);
     let done = print_answer(alloc, answer.as_bytes(), form, &mut output);
     Ok(done.is_ok() && output.as_slice() == wanted)
@@ -94,10 +94,16 @@ fn accepted_answers_are_printed(rt: HostRuntime) -> Result<(), Fail> {
     let alloc = rt.alloc();
     let json = answer(alloc, "201 Created", "application/json", 2, "[]")?;
     let json = json.as_str();
-    ensure(prints(alloc, json, Form::Body, b"[]\n")?, "a body")?;
-    ensure(prints(alloc, json, Form::Line, b"201 []\n")?, "a line")?;
+    ensure(prints(alloc, json, AnswerForm::Body, b"[]\n")?, "a body")?;
+    ensure(
+        prints(alloc, json, AnswerForm::Line, b"201 []\n")?,
+        "a line",
+    )?;
     let csv = answer(alloc, "200 OK", "text/csv", 4, "a,b\n")?;
-    ensure(prints(alloc, csv.as_str(), Form::Body, b"a,b\n")?, "CSV")
+    ensure(
+        prints(alloc, csv.as_str(), AnswerForm::Body, b"a,b\n")?,
+        "CSV",
+    )
 }
 
 #[test]
@@ -110,7 +116,7 @@ fn refusals_are_not_printed(rt: HostRuntime) -> Result<(), Fail> {
         }
     }
     let mut output = Vec::new(alloc);
-    let done = print_answer(alloc, b"200 []", Form::Body, &mut output);
+    let done = print_answer(alloc, b"200 []", AnswerForm::Body, &mut output);
     let is_read = matches!(done, Err(Undone::Fault(JobFailure::Read)));
     ensure(is_read && output.is_empty(), "bytes that are no answer")
 }
@@ -118,7 +124,7 @@ fn refusals_are_not_printed(rt: HostRuntime) -> Result<(), Fail> {
 // Nothing is printed of an answer with this status, and it is a refusal with the status and the body.
 fn assert_refused(alloc: Global, answer: &str, status: &str) -> Result<(), Fail> {
     let mut output = Vec::new(alloc);
-    let done = print_answer(alloc, answer.as_bytes(), Form::Body, &mut output);
+    let done = print_answer(alloc, answer.as_bytes(), AnswerForm::Body, &mut output);
     let Err(Undone::Refused(said)) = done else {
         return Err(status.into());
     };
@@ -136,7 +142,7 @@ const WITHOUT: &[u8] =
 
 // The bytes of a request with this token.
 fn request(alloc: Global, token: Option<&[u8]>) -> Result<Vec<u8>, AllocError> {
-    let sent = Sent {
+    let sent = ServedRequest {
         method: "PUT",
         path: "/agents/bob",
         body: b"{\"reads\":true}",
