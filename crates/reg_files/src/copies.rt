@@ -8,7 +8,7 @@ ghost use Rattle.reg_program.specs.Copying.{IsUncopied, PrintsCopied};
 ghost use Rattle.reg_files.specs.Copies.{CopyIsTold, IsNotCopied, CopyIsPut, IsSeenAlone, IsToldOfSome, IsUnput, TellsCount};
 
 use crate::originals::{Originals, SystemOriginals};
-use crate::targets::{Places, SystemPlaces};
+use crate::targets::{SystemPlaces, Targets};
 use reg_disk::disk::Disk;
 use reg_disk::replacement::Names;
 use reg_program::copying::{Copies, copy_in};
@@ -52,7 +52,7 @@ pub struct CopiesIn<O, P> {
     pub places: P,
 }
 
-impl<O: Originals, P: Places> Copies for CopiesIn<O, P> {
+impl<O: Originals, P: Targets> Copies for CopiesIn<O, P> {
     ghost Copied = { λ copies path folder version requests.
         CopyIsTold (P.Opened copies.places path folder) P.Given.Tells P.Given.done
         (O.Taken copies.originals path) version requests };
@@ -78,7 +78,7 @@ impl<O: Originals, P: Places> Copies for CopiesIn<O, P> {
 /// Takes a copy of the office in the file at a path, lets its bytes take their place in the folder at a path,
 /// and prints the version of the office and how many requests it has. The original and the place say why
 /// there is none.
-pub fn copy_by<O: Originals, P: Places, W: Write>(
+pub fn copy_by<O: Originals, P: Targets, W: Write>(
     alloc: Global,
     originals: &O,
     places: &P,
@@ -99,7 +99,7 @@ pub fn copy_by<O: Originals, P: Places, W: Write>(
 }
 
 // Puts a copy of the office in the file at a path into the folder at a path, and lets the copy go.
-fn put<P: Places, W: Write>(
+fn put<P: Targets, W: Write>(
     alloc: Global,
     mut snapshot: Snapshot,
     places: &P,
@@ -121,7 +121,7 @@ fn put<P: Places, W: Write>(
 }
 
 // The place stays open meanwhile.
-fn put_into<P: Places, W: Write>(
+fn put_into<P: Targets, W: Write>(
     alloc: Global,
     snapshot: &mut Snapshot,
     places: &P,

@@ -26,7 +26,7 @@ pub struct Target<D> {
 }
 
 /// What has the folders that copies are put in.
-pub trait Places {
+pub trait Targets {
     ghost use Rattle.std.specs.Prelude.{ℕ, List};
     ghost use Rattle.reg_program.specs.declared.faults.Undone.{Undone as OfJob};
     ghost use Rattle.reg_disk.specs.Disk.{FileNames};
@@ -58,7 +58,7 @@ pub struct SystemPlaces<'a> {
     pub rt: &'a HostRuntime,
 }
 
-impl<'a> Places for SystemPlaces<'a> {
+impl<'a> Targets for SystemPlaces<'a> {
     type Given = PrivateDisk<'a>;
 
     ghost Opened = { λ _ _ folder names _. AreNamesIn folder names };

@@ -8,7 +8,7 @@ ghost use Rattle.reg_jobs.specs.declared.jobs.JobFault.TheVariants.{Line, Memory
 
 use crate::definition::{MOST_CONNECTIONS, office};
 use crate::jobs::{
-    Definition, Importation, Job, JobFault, Publication, Request, SERVED, Service, Which,
+    Definition, Importation, Job, JobFault, OfficeRequest, Publication, SERVED, Service, Which,
 };
 use clap::error::ErrorKind;
 use clap::{ArgMatches, Error};
@@ -187,7 +187,7 @@ fn request_of(alloc: Global, matches: &ArgMatches) -> Result<Job, JobFault>
         → HasText (codes "PATH") (rows_of (found_of matches.now))
         → MatchResult result IsInRange (λ fault. fault ≡ Memory) }
 {
-    Ok(Job::Request(Request {
+    Ok(Job::Request(OfficeRequest {
         source: text(alloc, matches, "SOURCE")?,
         method: text(alloc, matches, "METHOD")?,
         path: text(alloc, matches, "PATH")?,

@@ -30,7 +30,7 @@ pub enum Job {
     /// Serves the office in a file over HTTP on loopback, one connection after the other.
     Serve(Service),
     /// Has the office in a file, or one that is served, answer one request.
-    Request(Request),
+    Request(OfficeRequest),
     /// Defines a registry from a range file, in the office in a file or in one that is served.
     Define(Definition),
     /// Prints a listing of the office in a file, or of one that is served.
@@ -134,7 +134,7 @@ pub struct Publication {
 
 /// One request of an office.
 #[derive(Drop)]
-pub struct Request {
+pub struct OfficeRequest {
     /// The path of the office's file, or the address at which it is served.
     pub source: String,
     /// The request's method.

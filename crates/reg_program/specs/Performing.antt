@@ -10,7 +10,7 @@ use Rattle.reg_jobs.specs.declared.jobs.Job.TheVariants as job
 use Rattle.reg_jobs.specs.declared.jobs.JobFault.{JobFault}
 use Rattle.reg_jobs.specs.declared.jobs.JobFault.TheVariants as fault
 use Rattle.reg_jobs.specs.declared.jobs.Publication.{Publication}
-use Rattle.reg_jobs.specs.declared.jobs.Request.{Request}
+use Rattle.reg_jobs.specs.declared.jobs.OfficeRequest.{OfficeRequest}
 use Rattle.reg_jobs.specs.declared.jobs.Service.{Service}
 use Rattle.reg_jobs.specs.declared.jobs.Which.{Which}
 use Rattle.reg_jobs.specs.declared.jobs.Which.TheVariants as which
@@ -66,7 +66,7 @@ IsRunning word _ = ⊥
 
 -- the token is the one that its word says, and the command is the one that the method, the path and
 -- the body spell, where so much stands on standard input
-abbrev pub IsRequestedBy : Request → Option (List ℕ) → Task → Type 0
+abbrev pub IsRequestedBy : OfficeRequest → Option (List ℕ) → Task → Type 0
 IsRequestedBy order input (Ask question) =
     (question.form ≡ Body) × IsTokenOf (option_map string_bytes order.token) (option_copied question.token)
     × (body : List ℕ) × AreKnown (body_in (option_map string_bytes order.body) input) body
@@ -159,12 +159,12 @@ RunsIn None clerk Carried Untouched io done = Untouched × RunsInMemory clerk io
 RunsIn (Some file) clerk Carried Untouched io done = Carries Carried file (IsRunning clerk) io done
 
 -- a request is carried out with the office in a file, once what is on standard input was read
-abbrev pub CarriesRequest : Request → ToldOfTasks → Type 0 → Streams → Result ⊤ Undone → Type 0
+abbrev pub CarriesRequest : OfficeRequest → ToldOfTasks → Type 0 → Streams → Result ⊤ Undone → Type 0
 CarriesRequest order Carried Untouched io done =
     CarriesThen Carried (string_bytes order.source) (IsRequestedBy order io.unread) io done
 
 -- a request is answered
-abbrev pub AnswersRequest : Request → ToldOfTasks → Type 0 → Streams → Result ⊤ Undone → Type 0
+abbrev pub AnswersRequest : OfficeRequest → ToldOfTasks → Type 0 → Streams → Result ⊤ Undone → Type 0
 AnswersRequest order Carried Untouched io done =
     AnswersFrom Untouched (string_bytes order.source) Body io
     (CarriesRequest order Carried Untouched io) done

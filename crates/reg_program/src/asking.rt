@@ -18,7 +18,7 @@ use reg_core::command::Command;
 use reg_core::refusal::Refusal;
 use reg_core::reply::Reply;
 use reg_core::wire_refusal::ReadFault;
-use reg_jobs::jobs::{Definition, Request};
+use reg_jobs::jobs::{Definition, OfficeRequest};
 use reg_keeper::keeper::Keeper;
 use reg_office::Office;
 use reg_parse::command::read_command;
@@ -74,7 +74,7 @@ pub fn listing_path(alloc: Global, registry: &Option<String>) -> Result<String, 
 }
 
 /// The command that a request spells with this body. `Refused` where it spells none.
-pub fn requested(alloc: Global, request: &Request, body: &[u8]) -> Result<Command, Undone>
+pub fn requested(alloc: Global, request: &OfficeRequest, body: &[u8]) -> Result<Command, Undone>
     ensures spelled { Spells
         (asked (string_bytes request.now.method) (string_bytes request.now.path) body.now) result }
     ensures looks { string_bytes request.now.method ≡ codes "GET" →

@@ -13,7 +13,7 @@ use crate::publishing::port_of;
 use crate::served::{define_served, list_served, request_served};
 use crate::tasks::{Offices, Task};
 use reg_http::dates::Dates;
-use reg_jobs::jobs::{Definition, Request};
+use reg_jobs::jobs::{Definition, OfficeRequest};
 use std::io::{Read, Write};
 
 /// Has the office that is served at an address, or the one in a file, answer one request.
@@ -21,7 +21,7 @@ pub fn request<D: Dates, O: Offices, R: Read, W: Write, E: Write>(
     rt: &HostRuntime,
     dates: &mut D,
     offices: &mut O,
-    order: &Request,
+    order: &OfficeRequest,
     console: &mut Console<'_, R, W, E>,
 ) -> Result<(), Undone>
     ensures { let io = streams_by R.remaining W.contents D.readings console.old console.new dates.old
@@ -38,7 +38,7 @@ fn request_in<D: Dates, O: Offices, R: Read, W: Write, E: Write>(
     rt: &HostRuntime,
     dates: &mut D,
     offices: &mut O,
-    order: &Request,
+    order: &OfficeRequest,
     console: &mut Console<'_, R, W, E>,
 ) -> Result<(), Undone>
     ensures { let io = streams_by R.remaining W.contents D.readings console.old console.new dates.old

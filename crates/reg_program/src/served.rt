@@ -20,7 +20,7 @@ use http::{Method, StatusCode};
 use reg_client::answers::{Answered, answer_in};
 use reg_client::peer::exchange;
 use reg_core::text::Token;
-use reg_jobs::jobs::{Definition, Request};
+use reg_jobs::jobs::{Definition, OfficeRequest};
 use std::alloc::{AllocError, Global};
 use std::io::{Read, Write};
 
@@ -40,7 +40,7 @@ pub struct ServedRequest<'a> {
 pub fn request_served<R: Read, W: Write>(
     rt: &HostRuntime,
     port: u16,
-    order: &Request,
+    order: &OfficeRequest,
     input: &mut R,
     output: &mut W,
 ) -> Result<(), Undone>
