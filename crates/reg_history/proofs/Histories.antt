@@ -58,7 +58,8 @@ says-more records r =
     ∙ replay-append nothing (map (λ (x : HistoryRecord). x.change) records) (r.change ∷ [])
 
 -- a history with one record more
-pub history-more : (h h' : History) (records : List HistoryRecord) (moment : List ℕ) (change : PublishedChange) (l : RecordLine)
+pub history-more : (h h' : History) (records : List HistoryRecord) (moment : List ℕ)
+    (change : PublishedChange) (l : RecordLine)
     → IsHistory h records → is_le (text_cmp h.moment moment) ≡ true
     → Says h'.said (after (said_by h.said) change)
     → AddsToOverview h'.overview records (record_of moment change) l
@@ -84,7 +85,8 @@ history-more h h' records moment change l is ordered said adds digests now =
       in_order = ap (λ (k : Chained). k.in_order) grown ∙ order;
     }
 
-pub adds_record : (h h' : History) (records : List HistoryRecord) (moment : List ℕ) (change : PublishedChange) (l : RecordLine)
+pub adds_record : (h h' : History) (records : List HistoryRecord) (moment : List ℕ)
+    (change : PublishedChange) (l : RecordLine)
     → IsHistory h records → is_le (text_cmp h.moment moment) ≡ true
     → Says h'.said (after (said_by h.said) change)
     → AddsToOverview h'.overview records (record_of moment change) l
@@ -150,7 +152,8 @@ changes-at moment [] = refl
 changes-at moment (x ∷ xs) = ap (λ t. x ∷ t) (changes-at moment xs)
 
 -- where nothing would be recorded, and nothing is lost, the records say just what the facts say
-pub says_just : (h : History) (records : List HistoryRecord) (facts : List Fact) (changes : List PublishedChange)
+pub says_just : (h : History) (records : List HistoryRecord) (facts : List Fact)
+    (changes : List PublishedChange)
     → IsHistory h records → SaysAfter (said_by h.said) facts changes → changes ≡ []
     → SaysJust records facts
 says_just h records facts changes is says_after none s =

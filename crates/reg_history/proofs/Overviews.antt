@@ -85,8 +85,9 @@ changed-more m m' records moment change was noted name =
 
 -- ---- One record more
 
-pub overview_more : (o o' : Overview) (records : List HistoryRecord) (moment : List ℕ) (change : PublishedChange)
-    (l : RecordLine) (number : ℕ) (before : List ℕ) → IsOverview o records → number ≡ o.count + 1
+pub overview_more : (o o' : Overview) (records : List HistoryRecord) (moment : List ℕ)
+    (change : PublishedChange) (l : RecordLine) (number : ℕ) (before : List ℕ)
+    → IsOverview o records → number ≡ o.count + 1
     → before ≡ unwrap_or o.last [] → l.bytes.items ≡ line before number (record_of moment change)
     → l.digest ≡ digest before number (record_of moment change) → o'.count ≡ number
     → o'.first ≡ Some (unwrap_or o.first l.digest) → o'.last ≡ Some l.digest

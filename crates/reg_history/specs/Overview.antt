@@ -38,7 +38,8 @@ abbrev pub Notes : BTreeMap (List ℕ) (List ℕ) → BTreeMap (List ℕ) (List 
 Notes changed changed' moment change = Updates text_cmp changed changed' (registry_of change) (Some moment)
 
 -- a record came to what is shown, with this line
-pub record AddsToOverview (o : Overview) (records : List HistoryRecord) (r : HistoryRecord) (l : RecordLine) : Type 0 where
+pub record AddsToOverview (o : Overview) (records : List HistoryRecord) (r : HistoryRecord)
+    (l : RecordLine) : Type 0 where
   pub grown : IsOverview o (records ++ r ∷ [])
   pub line : l.bytes.items ≡ next_line (chained records).digests r
   pub digest : l.digest ≡ next_digest (chained records).digests r

@@ -62,6 +62,7 @@ IsImportFaultOf read (import.Row n f) = read ≡ Err (import.Row n f)
 
 -- each step in turn, as far as none is at fault
 infixl 10 ◌>>=◌
-abbrev pub ◌>>=◌ : {A B : Type 0} → Result A ImportRowFault → (A → Result B ImportRowFault) → Result B ImportRowFault
+abbrev pub ◌>>=◌ : {A B : Type 0} → Result A ImportRowFault → (A → Result B ImportRowFault)
+    → Result B ImportRowFault
 (Ok x) >>= f = f x
 (Err e) >>= f = Err e

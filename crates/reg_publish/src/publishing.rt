@@ -106,8 +106,8 @@ fn publish_told<F: Folder>(
     told: &AllTold,
     moment: u64,
 ) -> Result<(), Unpublished>
-    ensures { OnOk result ((records : List HistoryRecord) → IsRecorded recorded records
-        → Places F.Puts folder.old folder.new (site_files (option_copied notes.entry) records
+    ensures { OnOk result ((all : List HistoryRecord) → IsRecorded recorded all
+        → Places F.Puts folder.old folder.new (site_files (option_copied notes.entry) all
         (pages_of told.now.pages.items) (prefixes_of told.now.pool) (blocks_of told.now.blocks) moment)) }
 {
     let mut sums = Sums::new(alloc);

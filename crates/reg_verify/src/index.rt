@@ -32,9 +32,9 @@ pub(crate) fn find_record<F: Reads>(
 ) -> Result<(), Unverified>
     ensures found { OnOk result
         (HasIndex (Finds F.Tells F.held folder.now) chain.now.digests.items) }
-    ensures why { IfErr result (λ why. (records : List HistoryRecord)
-        → HasHistory (Finds F.Tells F.held folder.now) records
-        → chain.now.digests.items ≡ (chained records).digests
+    ensures why { IfErr result (λ why. (all : List HistoryRecord)
+        → HasHistory (Finds F.Tells F.held folder.now) all
+        → chain.now.digests.items ≡ (chained all).digests
         → TellsWhy (Finds F.Tells F.held folder.now)
         (Lists F.Tells F.listed folder.now) None why) }
 {
