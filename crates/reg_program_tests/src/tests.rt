@@ -1,5 +1,7 @@
 //! The tests, by what they ask.
 mod exercise;
 mod jobs;
+mod libraries;
 mod over_http;
 mod sites;
+mod system;

@@ -18,7 +18,7 @@ use std::alloc::Global;
 use std::test::Fail;
 
 // What alice is answered of her request `a-1`, where there is also one of bob's, `r-9`, and there is no
-// registry.
+// registry; and what the clerk is.
 const STORED: &str = r#"
 > 1700000000 alice-token-00001 GET /requests
 < 200 [{"ask":{"contact":"c","kind":"code","label":"L","registry":"flag","value":5},"reference":"a-1","state":"pending"}]
@@ -32,9 +32,14 @@ const STORED: &str = r#"
 < 404 {"error":"request"}
 > 1700000000 alice-token-00001 GET /requests/r-8
 < 404 {"error":"request"}
+> 1700000000 clerk-token-00001 PUT /desk/pool/001A2B
+< 200 {"pool":"001A2B"}
+> 1700000000 - GET /pool
+< 200 ["001A2B"]
 "#;
 
-/// Lines of an office, two requests that are put into it, and lines then.
+/// Lines of an office, two requests that are put into it, and lines of the office that is founded again
+/// over the same keeper.
 #[derive(Drop)]
 struct Stored<'a> {
     first: &'a str,
@@ -50,6 +55,7 @@ impl Exercise for Stored<'_> {
         put(alloc, &mut keeper, b"alice", b"a-1")?;
         put(alloc, &mut keeper, b"bob", b"r-9")?;
         let mut office = Office::new(alloc, keeper);
+        office.found(CLERK)?;
         answers_of(alloc, &mut office, self.last)
     }
 }

@@ -1,5 +1,5 @@
 //! Histories: their bytes against Python's `csv` and `hashlib`, and what is noticed of them.
-use crate::tests::expecting::{expect_text, expect_true};
+use crate::tests::libraries::expecting::{expect_text, expect_true};
 use reg_changes::change::{Class, Details, Fact, PublishedStanding, Subject};
 use reg_changes::field::Field;
 use reg_changes::said::Unrecorded;

@@ -1,6 +1,6 @@
 //! Blocks, prefixes and the pool, and the block that is due.
-use crate::tests::digits::{block, block_if};
-use crate::tests::expecting::{expect, expect_at, expect_text, expect_true};
+use crate::tests::libraries::digits::{block, block_if};
+use crate::tests::libraries::expecting::{expect, expect_at, expect_text, expect_true};
 use reg_blocks::block::Block;
 use reg_blocks::due::{ascends, least_free};
 use reg_blocks::pool::{Add, Pool, is_pool_prefix};

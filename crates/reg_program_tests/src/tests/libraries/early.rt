@@ -1,5 +1,5 @@
 //! Days and texts against Python's `datetime`, and terms and evidence against worked cases.
-use crate::tests::expecting::{expect, expect_at, expect_text, expect_true};
+use crate::tests::libraries::expecting::{expect, expect_at, expect_text, expect_true};
 use reg_early::day::{Day, day_of, day_text, year_after};
 use reg_early::evidence::EarlyEvidence;
 use reg_early::laws;

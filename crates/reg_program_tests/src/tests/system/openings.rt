@@ -1,4 +1,4 @@
-//! Offices that `SqlKeeper` opens by itself: one in memory, and one in a file of the system.
+//! An office in a file of the system, which `SqlKeeper` opens by itself.
 use reg_keeper::keeper::Keeper;
 use reg_office::Office;
 use reg_sql::keeper::SqlKeeper;
@@ -85,17 +85,6 @@ fn opened(rt: &HostRuntime, path: &str, fresh: bool) -> Result<AtPath, Fail> {
     match at_path(rt, path, fresh) {
         Ok(keeper) => Ok(keeper),
         Err(_) => Err("an office at a path".into()),
-    }
-}
-
-#[test]
-fn office_in_memory(rt: HostRuntime) -> Result<(), Fail> {
-    match SqlKeeper::in_memory(rt.alloc()) {
-        Ok(keeper) => {
-            drop(ask_in_turn(rt.alloc(), keeper)?);
-            Ok(())
-        }
-        Err(_) => Err("an office in memory".into()),
     }
 }
 

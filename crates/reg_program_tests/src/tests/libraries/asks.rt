@@ -1,6 +1,6 @@
 //! What asks would be given by the published rows, worked by hand.
-use crate::tests::digits::block;
-use crate::tests::expecting::{expect, expect_true};
+use crate::tests::libraries::digits::block;
+use crate::tests::libraries::expecting::{expect, expect_true};
 use reg_blocks::pool::{Add, Pool};
 use reg_blocks::size::Size;
 use reg_commands::decisions::{Ground, check_ask};

@@ -1,5 +1,5 @@
 //! Sets of numbers, and the least free value by them, worked by hand.
-use crate::tests::expecting::{expect, expect_at, expect_true};
+use crate::tests::libraries::expecting::{expect, expect_at, expect_true};
 use reg_ranges::policy::Policy;
 use reg_ranges::range_file::read_ranges;
 use reg_ranges::table::RangeTable;

@@ -1,6 +1,6 @@
 //! The block due by free places, worked by hand.
-use crate::tests::digits::{block, block_if};
-use crate::tests::expecting::{expect, expect_true};
+use crate::tests::libraries::digits::{block, block_if};
+use crate::tests::libraries::expecting::{expect, expect_true};
 use reg_blocks::block::Block;
 use reg_blocks::pool::is_pool_prefix;
 use reg_blocks::size::Size;
