@@ -113,8 +113,8 @@ fn request(alloc: Global, command: &PublicCommand) -> Result<String, AllocError>
     format!(in alloc; "{method} {path} HTTP/1.1\r\nHost: 127.0.0.1\r\nConnection: close\r\n\r\n")
 }
 
-/// The path of a command.
-pub fn path_of(alloc: Global, command: &PublicCommand) -> Result<String, AllocError> {
+// The path of a command.
+fn path_of(alloc: Global, command: &PublicCommand) -> Result<String, AllocError> {
     match command {
         PublicCommand::Registries => String::from_str(alloc, "/registries"),
         PublicCommand::Registry(name) => format!(in alloc; "/registries/{}", name.as_str()),
