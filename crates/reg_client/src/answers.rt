@@ -10,49 +10,31 @@ ghost use Rattle.reg_client.specs.Answers.{answer_text, end_of_head};
 use http::StatusCode;
 use reg_print::answer::Format;
 use reg_ranges::number::read_number;
-use reg_source::unpublished::{Unpublished, unread};
+use reg_source::bounded::read_up_to;
+use reg_source::unpublished::Unpublished;
 use reg_wire::response::{digits, reason};
 use std::alloc::Global;
 use std::io::Read;
 
 /// How many bytes the head of an answer has at most.
-const MOST_HEAD_BYTES: usize = 160;
+pub(crate) const MOST_HEAD_BYTES: usize = 160;
 
 /// How many bytes an answer has at most: 160 of its head, and 268,435,456 of its body.
 const MOST_BYTES: usize = 160 + 268_435_456;
 
-/// How many bytes are read at once.
-const PIECE_BYTES: usize = 16_384;
-
-/// Reads an answer to its end, and gives its bytes. `Large` where they are more than 268,435,616. `Read`
-/// where they cannot be read, or do not begin with the head of an office's answer, as soon as 160 are
-/// there.
+/// Reads an answer to its end, and gives its bytes. `Large` where they are more than 268,435,616, and
+/// `Read` where they cannot be read.
 pub fn read_answer<R: Read>(alloc: Global, reader: &mut R) -> Result<Vec<u8>, Unpublished>
     ensures all { IfOk result (λ bytes. AreAll (R.remaining reader.old) bytes.items) }
     ensures most { IfOk result (λ bytes. length bytes.items ≤ 160 + 268435456) }
     ensures large { result ≡ Err Unpublished.Large
         → AreMore (160 + 268435456) (R.remaining reader.old) }
 {
-    let mut bytes = Vec::new(alloc);
-    let mut piece = [0; PIECE_BYTES];
-    for _ in 0..u64::MAX {
-        let count = reader.read(&mut piece).map_err(unread)?;
-        if count == 0 {
-            return Ok(bytes);
-        }
-        bytes.extend_from_slice(&piece[..count])?;
-        if bytes.len() > MOST_BYTES {
-            return Err(Unpublished::Large);
-        }
-        if !may_begin(bytes.as_slice()) {
-            return Err(Unpublished::Read);
-        }
-    }
-    Err(Unpublished::Read)
+    read_up_to(alloc, MOST_BYTES, reader)
 }
 
-// Whether an answer of an office may begin so.
-fn may_begin(answer: &[u8]) -> bool
+/// Whether an answer of an office may begin so.
+pub(crate) fn may_begin(answer: &[u8]) -> bool
     ensures { length answer.now < MOST_HEAD_BYTES → result ≡ true }
 {
     answer.len() < MOST_HEAD_BYTES || behind_head(answer).is_some()

@@ -63,8 +63,9 @@ fn ask_served<H: AllocGlobal + Clock + Net<Listener = TcpListener, Stream = TcpS
 }
 
 /// Sends the bytes of one request to what listens on a port of loopback, and gives the bytes of its
-/// answer to their end. `Read` where nobody listens there, or ten seconds are not enough for both, and
-/// else as `read_answer`.
+/// answer to their end. `Read` where nobody listens there, ten seconds are not enough for both, or the
+/// answer does not begin with the head of an office's, as soon as 160 bytes are there; and else as
+/// `read_answer`.
 pub fn exchange<H: AllocGlobal + Clock + Net<Listener = TcpListener, Stream = TcpStream>>(
     rt: &H,
     port: u16,
@@ -76,6 +77,7 @@ pub fn exchange<H: AllocGlobal + Clock + Net<Listener = TcpListener, Stream = Tc
         stream: &stream,
         clock: rt,
         end,
+        head: Vec::new(rt.alloc()),
     };
     timed.write_all(request).map_err(unread)?;
     read_answer(rt.alloc(), &mut timed)
@@ -111,8 +113,8 @@ fn request(alloc: Global, command: &PublicCommand) -> Result<String, AllocError>
     format!(in alloc; "{method} {path} HTTP/1.1\r\nHost: 127.0.0.1\r\nConnection: close\r\n\r\n")
 }
 
-/// The path of a command.
-pub fn path_of(alloc: Global, command: &PublicCommand) -> Result<String, AllocError> {
+// The path of a command.
+fn path_of(alloc: Global, command: &PublicCommand) -> Result<String, AllocError> {
     match command {
         PublicCommand::Registries => String::from_str(alloc, "/registries"),
         PublicCommand::Registry(name) => format!(in alloc; "/registries/{}", name.as_str()),

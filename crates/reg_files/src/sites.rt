@@ -6,11 +6,12 @@ ghost use Rattle.std.specs.Path.{PathStartsWith, path_buf_bytes};
 use reg_folder::files::{SiteFile, SiteFiles};
 use reg_program::faults::{JobFailure, Undone};
 use std::alloc::{AllocError, Global};
-use std::fs;
 use std::fs::Metadata;
+use std::io::ErrorKind;
 use std::os::fd::AsRawFd;
 use std::os::unix::fs::MetadataExt;
 use std::path::PathBuf;
+use std::{fs, io};
 
 /// How many bytes a file has at most that is sent.
 const MOST_BYTES: u64 = 268_435_456;
@@ -63,7 +64,7 @@ fn refuse_unreadable(rt: &HostRuntime, alloc: Global, real: &str) -> Result<(), 
     let Ok(opened) = fs::open(rt, real) else {
         return Err(Undone::Fault(JobFailure::Read));
     };
-    if is_at(rt, alloc, &opened, real) {
+    if is_at(rt, alloc, &opened, real)? {
         Ok(())
     } else {
         Err(unread(alloc, "/proc does not say which files are open")?)
@@ -162,14 +163,9 @@ impl<'a> SystemSite<'a> {
         let is_log = self.log.is(self.rt, node);
         is_office || is_log
     }
-}
 
-impl SiteFiles for SystemSite<'_> {
-    type Content = fs::File;
-
-    fn find(&mut self, path: &str) -> Option<SiteFile<fs::File>> {
-        let rt = self.rt;
-        let file = open_below(rt, rt.alloc(), self.folder.as_str(), path)?;
+    // An open file as it is sent, unless it is withheld.
+    fn sent(&mut self, file: fs::File) -> Option<SiteFile<fs::File>> {
         let found = file.metadata().ok()?;
         if self.is_withheld(Node::of(&found)) {
             return None;
@@ -181,17 +177,49 @@ impl SiteFiles for SystemSite<'_> {
     }
 }
 
+impl SiteFiles for SystemSite<'_> {
+    type Content = fs::File;
+
+    fn find(&mut self, path: &str) -> Result<Option<SiteFile<fs::File>>, AllocError> {
+        let rt = self.rt;
+        let Some(file) = open_below(rt, rt.alloc(), self.folder.as_str(), path)? else {
+            return Ok(None);
+        };
+        Ok(self.sent(file))
+    }
+}
+
 // Opens the file at a path in the folder at a path, if a file is there that may be sent and no link leads
 // from the folder to it.
-fn open_below(rt: &HostRuntime, alloc: Global, folder: &str, path: &str) -> Option<fs::File> {
-    let top = fs::canonicalize(rt, folder).ok()?;
+fn open_below(
+    rt: &HostRuntime,
+    alloc: Global,
+    folder: &str,
+    path: &str,
+) -> Result<Option<fs::File>, AllocError> {
+    let Some(top) = path_in(fs::canonicalize(rt, folder))? else {
+        return Ok(None);
+    };
     let above = top.as_str();
-    let place = format!(in alloc; "{above}/{path}").ok()?;
-    let file = open_sendable(rt, place.as_str())?;
-    if is_at(rt, alloc, &file, place.as_str()) {
-        Some(file)
+    let place = format!(in alloc; "{above}/{path}")?;
+    let Some(file) = open_sendable(rt, place.as_str()) else {
+        return Ok(None);
+    };
+    if is_at(rt, alloc, &file, place.as_str())? {
+        Ok(Some(file))
     } else {
-        None
+        Ok(None)
+    }
+}
+
+// The path that the system says, if it says one and there was memory for it.
+fn path_in(said: io::Result<PathBuf>) -> Result<Option<PathBuf>, AllocError> {
+    match said {
+        Ok(path) => Ok(Some(path)),
+        Err(error) => match error.kind() {
+            ErrorKind::OutOfMemory => Err(AllocError),
+            _ => Ok(None),
+        },
     }
 }
 
@@ -218,15 +246,18 @@ fn is_sendable(found: &Metadata) -> bool
 
 // Whether an open file is the one at this path and no link led to it: the system says the path by which it
 // was found, after all links.
-fn is_at(rt: &HostRuntime, alloc: Global, file: &fs::File, place: &str) -> bool {
+fn is_at(
+    rt: &HostRuntime,
+    alloc: Global,
+    file: &fs::File,
+    place: &str,
+) -> Result<bool, AllocError> {
     let number = file.as_raw_fd();
-    let Ok(entry) = format!(in alloc; "{OPEN_FILES}/{number}") else {
-        return false;
-    };
-    let Ok(found) = fs::read_link(rt, entry.as_str()) else {
-        return false;
-    };
-    is_path_of(found.as_str(), place)
+    let entry = format!(in alloc; "{OPEN_FILES}/{number}")?;
+    match path_in(fs::read_link(rt, entry.as_str()))? {
+        Some(found) => Ok(is_path_of(found.as_str(), place)),
+        None => Ok(false),
+    }
 }
 
 // Whether this is what the system says of an open file at a path, which may have been replaced meanwhile.

@@ -30,10 +30,18 @@ pub struct SiteFront<S> {
 impl<S: SiteFiles> Front for SiteFront<S> {
     type Content = S::Content;
 
-    fn answer(&mut self, alloc: Global, request: &[u8]) -> Option<FrontAnswer<S::Content>> {
+    fn answer(
+        &mut self,
+        alloc: Global,
+        request: &[u8],
+    ) -> Result<Option<FrontAnswer<S::Content>>, AllocError> {
         match &mut self.files {
-            Some(files) => answer_to(alloc, files, request).ok()?,
-            None => None,
+            Some(files) => match answer_to(alloc, files, request) {
+                Ok(answer) => Ok(answer),
+                // The bytes are there, so no read of them fails.
+                Err(_) => Err(AllocError),
+            },
+            None => Ok(None),
         }
     }
 }
@@ -86,7 +94,7 @@ fn answer_parts<S: SiteFiles>(
         Wanted::Nothing => Ok(None),
         Wanted::Refusal(why) => Ok(Some(refused(alloc, parts.method, why)?)),
         Wanted::File(path) => {
-            let found = files.find(path.as_str());
+            let found = files.find(path.as_str())?;
             Ok(Some(found_answer(alloc, parts.method, parts.path, path.as_str(), found)?))
         }
     }

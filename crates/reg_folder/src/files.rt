@@ -1,4 +1,7 @@
 //! Where the files of a site are.
+ghost use Rattle.std.specs.Prelude.{IfOk};
+
+use std::alloc::AllocError;
 use std::io::Read;
 
 /// A file that was found.
@@ -22,7 +25,7 @@ pub trait SiteFiles {
     /// folder does not tell.
     ghost Finds: { Self → Self → List ℕ → Option (OfSite Self.Content) → Type 0 } = { λ _ _ _ _. Unit {0} };
 
-    /// The file at a path in the folder, if a file is there that may be sent.
-    fn find(&mut self, path: &str) -> Option<SiteFile<Self::Content>>
-        ensures { Finds self.old self.new path.now result };
+    /// The file at a path in the folder, if a file is there that may be sent. Only want of memory is an error.
+    fn find(&mut self, path: &str) -> Result<Option<SiteFile<Self::Content>>, AllocError>
+        ensures { IfOk result (Finds self.old self.new path.now) };
 }

@@ -1,6 +1,6 @@
 //! What may answer a request before the office is asked.
 use http::StatusCode;
-use std::alloc::Global;
+use std::alloc::{AllocError, Global};
 use std::io::Read;
 
 /// The most bytes of a portion in which content is read and sent.
@@ -11,10 +11,14 @@ pub trait Front {
     /// What is read while it is sent.
     type Content: Read + Drop;
 
-    /// The answer to these bytes, which are a whole request (RFC 9112), unless the office is to answer
-    /// it. It is asked once, when the turn of the connection comes. Where memory lacks it answers
-    /// nothing, or what takes none.
-    fn answer(&mut self, alloc: Global, request: &[u8]) -> Option<FrontAnswer<Self::Content>>;
+    /// The answer to these bytes, unless the office is to answer them, as it does where they are no whole
+    /// request (RFC 9112). It is asked once, when the turn of the connection comes. Only want of memory is
+    /// an error; the connection is then answered `503 {"error":"storage"}`.
+    fn answer(
+        &mut self,
+        alloc: Global,
+        request: &[u8],
+    ) -> Result<Option<FrontAnswer<Self::Content>>, AllocError>;
 }
 
 /// An answer that is not the office's.
@@ -43,7 +47,11 @@ pub struct NoFront;
 impl Front for NoFront {
     type Content = &'static [u8];
 
-    fn answer(&mut self, _alloc: Global, _request: &[u8]) -> Option<FrontAnswer<&'static [u8]>> {
-        None
+    fn answer(
+        &mut self,
+        _alloc: Global,
+        _request: &[u8],
+    ) -> Result<Option<FrontAnswer<&'static [u8]>>, AllocError> {
+        Ok(None)
     }
 }

@@ -1,6 +1,4 @@
 //! One connection: its socket, and what of its request and its answer is kept.
-ghost use Rattle.std.specs.Io.{WritesAtMost};
-
 use crate::completeness::{Completeness, completeness_of};
 use crate::front::PORTION_BYTES;
 use crate::log::LogLine;
@@ -202,9 +200,12 @@ impl<C: Read + Drop> Socket<C> {
         self.has_failed = true;
     }
 
-    /// Whether what was read is a whole request.
-    pub fn is_whole(&self) -> bool {
-        self.completeness == Completeness::Whole
+    /// Whether what was read is a whole request, or there was no memory to say so.
+    pub fn may_be_whole(&self) -> bool {
+        match self.completeness {
+            Completeness::Whole | Completeness::Unknown => true,
+            Completeness::Refused | Completeness::Wants(_) => false,
+        }
     }
 
     /// Sends what the peer takes of the answer, and reads more of the content for it.
@@ -280,25 +281,6 @@ impl<C: Read + Drop> Socket<C> {
         }
     }
 
-    /// Takes in what is written: sends what the peer takes at once, and keeps the rest.
-    pub fn write(&mut self, buf: &[u8]) -> io::Result<usize>
-        ensures bound { WritesAtMost result buf.now }
-    {
-        let mut taken = 0;
-        if self.bytes.is_empty() {
-            match self.stream.write(buf) {
-                Ok(count) => taken = count.min(buf.len()),
-                Err(error) => if unwritten(&error) == Readiness::Broken {
-                    return Err(error);
-                },
-            }
-        }
-        match self.bytes.extend_from_slice(&buf[taken..]) {
-            Ok(()) => Ok(buf.len()),
-            Err(_) => Err(ErrorKind::OutOfMemory.into()),
-        }
-    }
-
     /// Tells the peer that nothing more is sent.
     pub fn close_writing(&self) -> bool {
         self.stream.shutdown(Shutdown::Write).is_ok()
@@ -318,6 +300,29 @@ impl<C: Read + Drop> Socket<C> {
             }
         }
         Readiness::Busy
+    }
+}
+
+impl<C: Read + Drop> Write for Socket<C> {
+    // Sends what the peer takes at once, and keeps the rest.
+    fn write(&mut self, buf: &[u8]) -> io::Result<usize> {
+        let mut taken = 0;
+        if self.bytes.is_empty() {
+            match self.stream.write(buf) {
+                Ok(count) => taken = count.min(buf.len()),
+                Err(error) => if unwritten(&error) == Readiness::Broken {
+                    return Err(error);
+                },
+            }
+        }
+        match self.bytes.extend_from_slice(&buf[taken..]) {
+            Ok(()) => Ok(buf.len()),
+            Err(_) => Err(ErrorKind::OutOfMemory.into()),
+        }
+    }
+
+    fn flush(&mut self) -> io::Result<()> {
+        Ok(())
     }
 }
 

@@ -12,7 +12,11 @@ use crate::socket::{LeftContent, Readiness, Socket};
 use http::StatusCode;
 use mio::net::TcpStream;
 use mio::{Interest, Registry};
+use reg_keeper::keeper::Fault;
+use reg_print::answer::Answer;
 use reg_wire::log::Sent;
+use reg_wire::response::Response;
+use reg_wire::serving::send_told;
 use std::alloc::{AllocError, Global};
 use std::time::{Clock, Duration};
 
@@ -252,17 +256,39 @@ impl<'a, C: Clock, F: Front + Drop> ConnectionTable<'a, C, F> {
         socket: Socket<F::Content>,
         log: &mut L,
     ) -> Option<Socket<F::Content>> {
-        if !socket.is_whole() {
+        if !socket.may_be_whole() {
             return Some(socket);
         }
         let answer = self.front.answer(self.alloc, socket.bytes.as_slice());
         match answer {
-            None => Some(socket),
-            Some(answer) => {
+            Ok(None) => Some(socket),
+            Ok(Some(answer)) => {
                 self.send_front(registry, at, socket, answer, log);
                 None
             }
+            Err(_) => {
+                self.send_storage(registry, at, socket, log);
+                None
+            }
         }
+    }
+
+    // Answers that there was no memory, which takes none.
+    fn send_storage<L: LineLog>(
+        &mut self,
+        registry: &Registry,
+        at: usize,
+        socket: Socket<F::Content>,
+        log: &mut L,
+    ) {
+        log.failed(Fault::Memory);
+        let moment = moment_now(&mut ClockDates { clock: self.clock });
+        let mut socket = socket;
+        socket.bytes.clear();
+        let told = Response::Answer(Answer::Storage);
+        let sent = send_told(self.alloc, &mut socket, Ok(told)).ok();
+        let line = log.line(self.alloc, moment, sent);
+        self.put_back(registry, at, socket, line, log);
     }
 
     fn send_front<L: LineLog>(

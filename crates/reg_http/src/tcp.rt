@@ -1,9 +1,9 @@
 //! The connections of a listener, waited for all at once.
 ghost use Rattle.std.specs.Prelude.{◌≡◌, IfOk};
 
-use crate::front::{Front, NoFront};
+use crate::front::Front;
 use crate::log::{LineLog, LogLine};
-use crate::peers::{Peers, Ports};
+use crate::peers::Peers;
 use crate::place::MOST_PLACES;
 use crate::socket::Socket;
 use crate::table::ConnectionTable;
@@ -41,30 +41,6 @@ pub struct TcpPeers<'a, C: Clock, F: Front + Drop> {
     is_knocked: bool,
     // Whether the system lacked what it takes to accept the last.
     is_short: bool,
-}
-
-/// The ports of the system.
-#[derive(Drop)]
-pub struct TcpPorts<'a, H> {
-    /// Its runtime.
-    pub rt: &'a H,
-}
-
-impl<'a, H: Clock + Net> Ports for TcpPorts<'a, H> {
-    type Given = TcpPeers<'a, H, NoFront>;
-
-    ghost Opened = { λ _ address patience count peers. (peers.address ≡ address)
-        × (peers.patience ≡ patience) × (peers.count ≡ count) };
-
-    fn listen(
-        &self,
-        alloc: Global,
-        address: SocketAddr,
-        patience: Duration,
-        count: u32,
-    ) -> io::Result<TcpPeers<'a, H, NoFront>> {
-        peers_at(self.rt, alloc, address, patience, count, NoFront)
-    }
 }
 
 /// The connections at an address, with this in front of the office.

@@ -3,7 +3,7 @@ ghost use Rattle.std.specs.Prelude.{◌≡◌};
 
 /// The style sheet of all pages (CSS): light and dark as the reader prefers, and for print. The kinds of
 /// a picture differ in place and height as well as in colour. On a narrow screen a row of a table becomes
-/// a few lines, where each day and count says what it is.
+/// a few lines, where each day and count says what it is. A long text is broken anywhere, a number nowhere.
 pub const STYLE: &str = "\
 :root{color-scheme:light dark;--ink:#1b1f24;--paper:#fff;--line:#c9d1d9;--soft:#fff4c2;--link:#0550ae;\
 --used:#0b6b3a;--free:#a6d8ba;--aside:#b98a14;--reserved:#6b7580}
@@ -20,10 +20,11 @@ td{overflow-wrap:anywhere}
 td:nth-child(3):nth-last-child(5),td:nth-child(5):nth-last-child(3),td:nth-child(6):nth-last-child(2){\
 white-space:nowrap}
 td:nth-child(4):nth-last-child(4){min-width:8rem}
+th:has([href^=registries])~td+td{white-space:nowrap}
 th:has([href^=\"#c\"])~td{white-space:nowrap}
 th:has([href^=\"#c\"])~td:last-child{white-space:normal;width:100%}
 tr:target{background:var(--soft)}
-td ul{list-style:none;margin:0;padding:0}
+td ul{list-style:none;margin:0;padding:0;overflow-wrap:normal}
 .note{font-size:.9rem;font-weight:400;white-space:normal}
 figure{margin:1.5rem 0}
 svg{display:block;width:100%;height:1.5rem;print-color-adjust:exact}

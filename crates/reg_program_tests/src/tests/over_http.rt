@@ -2,6 +2,7 @@
 mod asking;
 mod callers;
 mod failures;
+mod front;
 mod listening;
 mod logged;
 mod messages;
