@@ -6,11 +6,11 @@ const SHOWN = 100, MANY = 10, { compare } = new Intl.Collator('en', { numeric: t
 export const forgetPlaces = () => places.clear();
 
 /**
- * A list of rows. `cells` gives the texts of a row by column, with marks for State. `act` gives its controls, under the title `acts`; it is also given
- * a function that tells the rows as they are listed. Where `states` has words, one can choose among them. A `quiet` caption is only heard.
+ * A list of rows. `cells` gives the texts of a row by column, once they are needed, with marks for State. `act` gives its controls, under the
+ * title `acts`; it is also given a function that tells the rows as they are listed. Where `states` has words, one can choose among them. A `quiet` caption is only heard.
  */
 export function table({ caption, columns, rows, cells, act, acts = 'Actions', empty, states, quiet = false }) {
-  const lines = rows.map(row => ({ row, texts: cells(row) })), seen = () => found(lines, at).map(({ row }) => row);
+  const lines = rows.map(row => ({ row, get texts() { return (this.own ??= cells(row)); } })), seen = () => found(lines, at).map(({ row }) => row);
   const at = places.get(caption) ?? { text: '', state: '', order: '', page: 0, key: '' };
   places.set(caption, at);
   const body = element('tbody', { role: 'rowgroup' }), info = element('p', { class: 'hint', role: 'status' });
