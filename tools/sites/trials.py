@@ -86,7 +86,7 @@ def judge_edits(year):
         said = [fault_of(year.program, ['verify', site])]
         if place % 5 == 0:
             said.append(refused(year.program, office, site))
-            year.tally.judge(year.said_by_lines(site).returncode == 1, f'the lines of the document do not see an edit of record {number}')
+            year.tally.judge(year.said_by_check_site(site).returncode == 1, f'check-site.py does not see an edit of record {number}')
         for line in said:
             year.tally.judge(line is not None and (f'record {number} ' in f'{line} ' or not number and 'changes.csv does not begin' in line),
                              f'an edit of record {number} is said to be {line!r}')
@@ -102,7 +102,7 @@ def judge_cuts(year, office, site, data):
         (site / 'changes.csv').write_bytes(b''.join(lines[:number]))
         for line in refused(year.program, office, site), fault_of(year.program, ['verify', site]):
             year.tally.judge(line is not None and 'index.json' in line, f'a cut before record {number} is said to be {line!r}')
-        year.tally.judge(year.said_by_lines(site).returncode == 1, f'the lines of the document do not see a cut before record {number}')
+        year.tally.judge(year.said_by_check_site(site).returncode == 1, f'check-site.py does not see a cut before record {number}')
     (site / 'changes.csv').write_bytes(data)
 
 
@@ -132,7 +132,7 @@ def judge_replaced(year, office, site):
 # ---- Edits of the files beside it
 
 def judge_other_files(year):
-    """A file that is not what the history says, or of none of its registries, is named by `verify`, and seen by the lines of the document."""
+    """A file that is not what the history says, or of none of its registries, is named by `verify`, and seen by check-site.py."""
     site = year.site_of(len(YEAR))
     for path, old, new in [
         ('registries/codes.json', b'"label":"Blue"', b'"label":"Bleu"'), ('registries/codes.csv', b'64,Blue,', b'64,Bleu,'),
@@ -146,18 +146,18 @@ def judge_other_files(year):
             (site / path).write_bytes(edited) if edited else (site / path).unlink()
             line = fault_of(year.program, ['verify', site])
             year.tally.judge(line is not None and path in line, f'{path} with {new} is said to be {line!r}')
-            year.tally.judge(year.said_by_lines(site).returncode == 1, f'the lines of the document do not see {path} with {new}')
+            year.tally.judge(year.said_by_check_site(site).returncode == 1, f'check-site.py does not see {path} with {new}')
         (site / path).write_bytes(data)
     for path in 'registries/other.json', 'registries/other.csv':
         (site / path).write_bytes((site / path.replace('other', 'codes')).read_bytes())
         line = fault_of(year.program, ['verify', site])
         year.tally.judge(line == f'{path} is of no registry of the history', f'{path} is said to be {line!r}')
-        year.tally.judge(year.said_by_lines(site).returncode == 1, f'the lines of the document do not see {path}')
+        year.tally.judge(year.said_by_check_site(site).returncode == 1, f'check-site.py does not see {path}')
         (site / path).unlink()
     for digest in year.records[-1]['Digest'][:-1] + '#', 'f' * 16, '0' * 64:
         done = year.program.done(['verify', site, '--digest', digest])
         year.tally.judge(done.returncode > 0 and not done.stdout and done.stderr.startswith('fault: '), f'the digest {digest} gave {done}')
-        year.tally.judge(year.said_by_lines(site, digest).returncode == 1, f'the lines of the document find the digest {digest}')
+        year.tally.judge(year.said_by_check_site(site, digest).returncode == 1, f'check-site.py finds the digest {digest}')
 
 
 # ---- Two offices

@@ -16,12 +16,8 @@ TOP = pathlib.Path(__file__).resolve().parent.parent.parent
 PAGES = ['index.html', 'changes.html', 'blocks.html']
 # What is written although nothing changed.
 ALWAYS = ['SHA256SUMS', 'index.html', 'index.json']
-
-
-def lines_of_document():
-    """The lines of Python by which the page that describes the site checks one."""
-    [lines] = re.findall(r'^```python\n(.*?)^```', (TOP / 'docs/reference/SITE.md').read_text(), re.M | re.S)
-    return lines
+# What checks a site without the program.
+CHECK_SITE = TOP / 'packaging/examples/check-site.py'
 
 
 def whole_files(folder):
@@ -35,7 +31,7 @@ class Year:
     def __init__(self, program, folder):
         self.program, self.tally, self.folder = program, program.tally, folder
         self.file, self.site, self.records = folder / 'office.db', folder / 'site', []
-        self.lines, self.feeds = lines_of_document(), set()
+        self.feeds = set()
         folder.mkdir()
         program.run(['init', self.file, '--clerk', CLERK], 'ready\n')
 
@@ -149,18 +145,18 @@ class Year:
         self.judge_readers(files, moment)
 
     def judge_programs(self):
-        """`verify` and the lines of the document find the history whole, with a digest that was noted and without one."""
+        """`verify` and check-site.py find the history whole, with a digest that was noted and without one."""
         last = f', last {self.records[-1]["Digest"]}' if self.records else ''
         noted = [[], *([random.choice(self.records)['Digest'][:random.choice([16, 30, 64])]] for _ in self.records[:1])]
         for digest in noted:
             said = f'verified {len(self.records)} changes{last}\n'
             self.program.run(['verify', self.site, *(['--digest', *digest] if digest else [])], said)
-            done = self.said_by_lines(self.site, *digest)
-            self.tally.judge((done.returncode, done.stdout, done.stderr) == (0, said, ''), f'the lines of the document gave {done}')
+            done = self.said_by_check_site(self.site, *digest)
+            self.tally.judge((done.returncode, done.stdout, done.stderr) == (0, said, ''), f'check-site.py gave {done}')
 
-    def said_by_lines(self, site, *digest):
-        """What the lines of the document give."""
-        return subprocess.run([sys.executable, '-S', '-E', '-c', self.lines, str(site), *digest], capture_output=True, text=True)
+    def said_by_check_site(self, site, *digest):
+        """What check-site.py gives."""
+        return subprocess.run([sys.executable, '-S', '-E', CHECK_SITE, str(site), *digest], capture_output=True, text=True)
 
     def judge_readers(self, files, moment):
         """Pages, XML and the feed are well formed and say what the history and the listings say."""

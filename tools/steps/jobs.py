@@ -12,7 +12,7 @@ from lib.office import CLERK
 from steps.case import Differs, Step, wants
 
 TOP = pathlib.Path(__file__).resolve().parent.parent.parent
-CRATE, SITE = TOP / 'crates/reg_cli', TOP / 'docs/reference/SITE.md'
+CRATE, CHECK_SITE = TOP / 'crates/reg_cli', TOP / 'packaging/examples/check-site.py'
 # The bytes of a file that SQLite locks: its pending, reserved and shared locks.
 LOCK_START, LOCK_BYTES = 1 << 30, 512
 # How much memory a program has that is not to read what is too large.
@@ -189,9 +189,8 @@ def differ(case, words, given, wanted):
 
 
 def agree(case, folder, given, wanted):
-    [lines] = re.findall(r'^```python\n(.*?)^```', SITE.read_text(encoding='utf-8'), re.M | re.S)
-    ran = subprocess.run([sys.executable, '-S', '-E', '-c', lines, folder], cwd=case.folder, capture_output=True, timeout=60, check=False)
-    wants((ran.returncode, ran.stderr), (0, b''), 'the lines of Python')
+    ran = subprocess.run([sys.executable, '-S', '-E', CHECK_SITE, folder], cwd=case.folder, capture_output=True, timeout=60, check=False)
+    wants((ran.returncode, ran.stderr), (0, b''), 'check-site.py')
     is_done(case, f'verify {folder}', b'', ran.stdout)
 
 
