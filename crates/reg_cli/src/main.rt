@@ -57,3 +57,6 @@ fn asked(rt: &HostRuntime) -> Result<Job, JobFault> {
     }
     job(alloc, &words)
 }
+
+#[cfg(test)]
+mod tests;

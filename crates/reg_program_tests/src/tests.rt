@@ -4,4 +4,3 @@ mod jobs;
 mod libraries;
 mod over_http;
 mod sites;
-mod system;
