@@ -47,7 +47,7 @@ def nginx(folder, office, own, changes):
     text = subprocess.run(['sed', line, '/etc/nginx/nginx.conf'], capture_output=True, text=True, check=True).stdout
     kept = ''.join(f'{kind}_temp_path {folder}/{KEPT}/{kind}; ' for kind in ('client_body', 'proxy', 'fastcgi', 'uwsgi', 'scgi'))
     (folder / 'nginx.conf').write_text(changed(text, {
-        **others, 'worker_processes auto;': 'worker_processes 4;',
+        **others, 'worker_processes auto;': 'worker_processes 2;',
         '/run/nginx.pid': f'{folder}/pid', '/var/log/nginx/error.log': f'{folder}/error.log', '/var/log/nginx/access.log': f'{folder}/other.log',
         'include /etc/nginx/conf.d/*.conf;': f'{kept}\n', 'include /etc/nginx/sites-enabled/*;': f'include {folder}/registry.conf;'}))
     return ['nginx', '-e', folder / 'error.log', '-p', folder, '-c', folder / 'nginx.conf', '-g', 'daemon off;']
