@@ -6,6 +6,5 @@ pub mod Digests
 pub mod Pages
 pub mod Requests
 pub mod Rows
-pub mod RowsAscend
 pub mod Selected
 pub mod Submissions

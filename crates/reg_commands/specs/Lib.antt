@@ -1,9 +1,7 @@
 pub mod Answers
 pub mod Caller
 pub mod Decisions
-pub mod Ground
 pub mod Pages
 pub mod Performs
 pub mod Rows
 pub mod Stops
-pub mod Views

@@ -5,11 +5,11 @@ ghost use Rattle.reg_commands.specs.Performs.{Performs};
 
 use crate::admission::Caller;
 use crate::carrying::conclude;
-use crate::decisions::decide_agent;
 use crate::stop::Stop;
 use reg_core::refusal::Refusal;
 use reg_core::text::Account;
 use reg_core::told::Told;
+use reg_decisions::decide_agent;
 use reg_keeper::keeper::Keeper;
 use reg_ranges::formed::Formed;
 

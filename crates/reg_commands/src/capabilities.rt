@@ -9,13 +9,13 @@ ghost use Rattle.reg_commands.specs.Performs.{Performs};
 
 use crate::admission::Caller;
 use crate::carrying::{carry_out, conclude};
-use crate::decisions::{decide_grant, decide_revoke, decide_revoke_account, decide_revoke_digits};
 use crate::digest::digest_of;
 use crate::stop::Stop;
 use reg_core::capability::{Cap, CapRow};
 use reg_core::rows::Rows;
 use reg_core::text::{Account, Digits, Token};
 use reg_core::told::Told;
+use reg_decisions::{decide_grant, decide_revoke, decide_revoke_account, decide_revoke_digits};
 use reg_keeper::keeper::Keeper;
 use reg_ranges::formed::Formed;
 use std::alloc::Global;

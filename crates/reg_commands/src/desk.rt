@@ -9,7 +9,6 @@ ghost use Rattle.reg_commands.specs.Performs.{LooksUp, Performs};
 
 use crate::admission::Caller;
 use crate::carrying::conclude_on;
-use crate::decisions::{decide_approve, decide_assign, decide_decline};
 use crate::ground::ground_if;
 use crate::stop::Stop;
 use reg_core::case_file::CaseFile;
@@ -18,6 +17,7 @@ use reg_core::refusal::Refusal;
 use reg_core::request::State;
 use reg_core::text::{Account, Ref, Text};
 use reg_core::told::Told;
+use reg_decisions::{decide_approve, decide_assign, decide_decline};
 use reg_early::day::Day;
 use reg_keeper::keeper::Keeper;
 use reg_ranges::formed::Formed;

@@ -7,7 +7,6 @@ ghost use Rattle.reg_commands.specs.Rows.{advised_row};
 
 use crate::admission::Caller;
 use crate::carrying::conclude;
-use crate::decisions::decide_advise;
 use crate::stop::Stop;
 use reg_core::advice::Advice;
 use reg_core::command::ExpertCommand;
@@ -15,6 +14,7 @@ use reg_core::queue::QueueRow;
 use reg_core::refusal::Refusal;
 use reg_core::text::{Account, Ref};
 use reg_core::told::Told;
+use reg_decisions::decide_advise;
 use reg_keeper::keeper::Keeper;
 use reg_ranges::formed::Formed;
 use std::alloc::AllocError;

@@ -1,16 +1,16 @@
 //! The published rows that an ask needs, as a keeper gives them.
 ghost use Rattle.std.specs.Prelude.{◌≡◌, None, true};
 ghost use Rattle.reg_core.specs.Allowance.{ground_of, value_ground};
-ghost use Rattle.reg_commands.specs.Ground.{seen};
+ghost use Rattle.reg_decisions.specs.Ground.{seen};
 ghost use Rattle.reg_core.specs.View.{published};
 ghost use Rattle.reg_core.specs.declared.ask.Ask.TheVariants as asks;
 ghost use Rattle.reg_keeper.specs.Keeper.{Selects};
 
-use crate::decisions::FoundGround;
 use reg_blocks::block::Block;
 use reg_core::ask::{Ask, BlockAsk, Want};
 use reg_core::entry::Entry;
 use reg_core::text::Name;
+use reg_decisions::FoundGround;
 use reg_keeper::keeper::{Fault, Keeper};
 use reg_ranges::table::RangeTable;
 use std::marker::Model;

@@ -7,13 +7,13 @@ ghost use Rattle.reg_commands.specs.Rows.{marked_row};
 
 use crate::admission::Caller;
 use crate::carrying::conclude;
-use crate::decisions::decide_listing;
 use crate::stop::Stop;
 use reg_blocks::block::Block;
 use reg_core::holding::Holding;
 use reg_core::refusal::Refusal;
 use reg_core::text::Account;
 use reg_core::told::Told;
+use reg_decisions::decide_listing;
 use reg_keeper::keeper::Keeper;
 
 /// The applicant's own blocks.

@@ -8,13 +8,13 @@ ghost use Rattle.reg_commands.specs.Rows.{held_row};
 
 use crate::admission::Caller;
 use crate::carrying::conclude;
-use crate::decisions::{decide_define, decide_hold, decide_pool};
 use crate::public::show;
 use crate::stop::Stop;
 use reg_core::entry::Entry;
 use reg_core::refusal::Refusal;
 use reg_core::text::Name;
 use reg_core::told::Told;
+use reg_decisions::{decide_define, decide_hold, decide_pool};
 use reg_keeper::keeper::Keeper;
 use reg_ranges::formed::Formed;
 use reg_ranges::table::RangeTable;

@@ -2,7 +2,7 @@ use Rattle.std.proofs.Common.{◌≡◌, Bool, Bor, true, false, not, Result, re
 use Rattle.std.specs.Prelude.{Option, Some, None, is_some, option_map}
 use Rattle.std.specs.Option.{option_copied}
 use Rattle.reg_core.specs.Allowance.{Ground, allowed, allowed_on}
-use Rattle.reg_commands.specs.Ground.{seen}
+use Rattle.reg_decisions.specs.Ground.{seen}
 use Rattle.reg_core.specs.Request.{case_of}
 use Rattle.reg_core.specs.Rules.{submit_rule}
 use Rattle.reg_core.specs.View.{published}

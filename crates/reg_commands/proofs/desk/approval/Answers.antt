@@ -1,7 +1,7 @@
 use Rattle.std.proofs.Common.{◌≡◌, Bool, ap, ◌∙◌}
 use Rattle.reg_core.specs.Advice.{is_advised}
 use Rattle.reg_core.specs.Allowance.{ground_of}
-use Rattle.reg_commands.specs.Ground.{seen}
+use Rattle.reg_decisions.specs.Ground.{seen}
 use Rattle.reg_core.specs.Rules.{approve_rule}
 use Rattle.reg_core.specs.View.{published}
 use Rattle.reg_core.specs.World.{World}
