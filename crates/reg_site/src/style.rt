@@ -20,12 +20,13 @@ td{overflow-wrap:anywhere}
 td:nth-child(3):nth-last-child(5),td:nth-child(5):nth-last-child(3),td:nth-child(6):nth-last-child(2){\
 white-space:nowrap}
 td:nth-child(4):nth-last-child(4){min-width:8rem}
+td:nth-child(2):nth-last-child(6){width:40%}
 th:has([href^=registries])~td+td{white-space:nowrap}
 th:has([href^=\"#c\"])~td{white-space:nowrap}
 th:has([href^=\"#c\"])~td:last-child{white-space:normal;width:100%}
 tr:target{background:var(--soft)}
 td ul{list-style:none;margin:0;padding:0;overflow-wrap:normal}
-.note{font-size:.9rem;font-weight:400;white-space:normal}
+.note{font-size:.9em;font-weight:400;white-space:normal}
 figure{margin:1.5rem 0}
 svg{display:block;width:100%;height:1.5rem;print-color-adjust:exact}
 rect.assigned,rect.temporary,rect.expired{fill:var(--used)}
