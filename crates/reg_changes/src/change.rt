@@ -4,6 +4,7 @@ ghost use Rattle.std.specs.Ordering.{eq_by_cmp, as_partial_cmp};
 ghost use Rattle.reg_changes.specs.Recorded.{change_word, description_of, registry_of, value_of};
 ghost use Rattle.reg_changes.specs.Replay.{subject_of};
 ghost use Rattle.reg_changes.specs.Words.{class_place, class_word};
+ghost use Rattle.reg_changes.specs.declared.change.Class.{Class};
 
 use crate::field::Field;
 use std::alloc::AllocError;
@@ -36,7 +37,9 @@ impl Class {
     }
 
     /// The class whose subjects are first published by a change with this word.
-    pub fn read(word: &str) -> Option<Class> {
+    pub fn read(word: &str) -> Option<Class>
+        ensures { (class : Class) → word.now ≡ class_word class → result ≡ Some class }
+    {
         match word {
             "range" => Some(Class::Range),
             "entry" => Some(Class::Entry),

@@ -1,5 +1,5 @@
 -- How histories grow, record by record.
-use Rattle.std.proofs.Common.{◌≡◌, ℕ, ◌+◌, ◌<◌, List, [], ◌∷◌, ◌++◌, length, map, get_or, true, refl, sym, ap, ◌∙◌, subst, append_assoc, append-nil, inl, inr, ◌==◌, arith, zero, suc, zero-add}
+use Rattle.std.proofs.Common.{◌≡◌, ◌≢◌, ℕ, ◌+◌, ◌<◌, List, [], ◌∷◌, ◌++◌, length, map, get_or, true, false, refl, sym, ap, ◌∙◌, subst, append_assoc, append-nil, inl, inr, ◌==◌, arith, zero, suc, zero-add}
 use Rattle.std.specs.Prelude.{Some, None, slice_get}
 use Rattle.std.specs.Cmp.{tied_itself}
 use Rattle.std.specs.Cmp.Lexicographic.{nat_list_cmp_total}
@@ -9,7 +9,7 @@ use Rattle.std.proofs.lemmas.Bool.{and_from, cases_Bool, eqb-true}
 use Rattle.reg_maps.specs.Maps.{text_cmp}
 use Rattle.reg_history.specs.Chain.{Chained, at, begun, chain_from, chained, next_digest, next_line, record_of, says, with_record}
 use Rattle.reg_changes.specs.declared.change.HistoryRecord.{HistoryRecord}
-use Rattle.reg_history.specs.History.{AddsRecord, IsHistory, IsHistoryOf, SaysJust, IsWrongAfter, TakesRecord, TellsWrong, later}
+use Rattle.reg_history.specs.History.{AddsRecord, IsHistory, IsHistoryOf, SaysJust, TakesRecord, later}
 use Rattle.reg_history.specs.Overview.{AddsToOverview}
 use Rattle.reg_changes.specs.Replay.{Said, SaysAfter, after, nothing, replay}
 use Rattle.reg_changes.specs.Said.{Says, TellsLoss, said_by}
@@ -17,8 +17,6 @@ use Rattle.reg_history.specs.declared.chain.RecordLine.{RecordLine}
 use Rattle.reg_changes.specs.declared.change.PublishedChange.{PublishedChange}
 use Rattle.reg_changes.specs.declared.change.Fact.{Fact}
 use Rattle.reg_history.specs.declared.history.History.{History}
-use Rattle.reg_history.specs.declared.history.Unreadable.{Unreadable}
-use Rattle.reg_history.specs.declared.history.Unreadable.TheVariants.{Memory, Header, Wrong}
 use Rattle.reg_changes.specs.declared.said.Unrecorded.{Unrecorded}
 use Rattle.reg_changes.proofs.Replayed.{replay-append}
 
@@ -44,10 +42,10 @@ grows c (r ∷ records) =
 
 -- ---- Records that are added
 
-pub text-more : (records : List HistoryRecord) (r : HistoryRecord) (l : RecordLine)
-    → l.bytes.items ≡ next_line (chained records).digests r
-    → (chained (records ++ r ∷ [])).text ≡ (chained records).text ++ l.bytes.items
-text-more records r l line =
+pub text-more : (records : List HistoryRecord) (r : HistoryRecord) (bytes : List ℕ)
+    → bytes ≡ next_line (chained records).digests r
+    → (chained (records ++ r ∷ [])).text ≡ (chained records).text ++ bytes
+text-more records r bytes line =
     ap (λ (k : Chained). k.text) (chain_from-append begun records (r ∷ []))
     ∙ ap (λ b. (chained records).text ++ b) (sym line)
 
@@ -96,7 +94,7 @@ adds_record h h' records moment change l is ordered said adds digests now =
     let r : HistoryRecord = record_of moment change in
     record {
       grown = history-more h h' records moment change l is ordered said adds digests now;
-      text = text-more records r l adds.line;
+      line = adds.line;
     }
 
 -- a text that begins with the bytes of the record is that much shorter
@@ -106,13 +104,18 @@ takes_record h records r bytes text rest adds e = record {
   more = records ++ r ∷ [];
   grown = adds.grown;
   whole =
-      ap (λ t. t ++ rest) adds.text ∙ append_assoc (chained records).text bytes rest
+      ap (λ t. t ++ rest) (text-more records r bytes adds.line)
+      ∙ append_assoc (chained records).text bytes rest
       ∙ ap (λ t. (chained records).text ++ t) (sym e);
 }
 
 pub nothing_left : (xs : List ℕ) → (length xs == 0) ≡ true → xs ≡ []
 nothing_left [] e = refl
 nothing_left (x ∷ xs) e = absurd (omega (arith, eqb-true (length (x ∷ xs)) 0 e))
+
+pub something_left : (xs : List ℕ) → (length xs == 0) ≡ false → xs ≢ []
+something_left [] e none = cc e
+something_left (x ∷ xs) e none = cc none
 
 -- where nothing is left of a text, it is all read
 pub takes_all : (h : History) (records : List HistoryRecord) (text rest : List ℕ)
@@ -198,13 +201,3 @@ pub wrong_after : (h : History) (before : List HistoryRecord) → IsHistory h be
     → length h.chain.digests.items + 1 ≡ length before + 1
 wrong_after h before is = ap (λ ds. length ds + 1) is.digests
     ∙ ap (λ n. n + 1) (counted-from begun before ∙ zero-add (length before))
-
--- what is wrong after the records that were taken is wrong in the text
-pub tells_wrong : (h : History) (records : List HistoryRecord) (text rest : List ℕ) (why : Unreadable)
-    → TakesRecord h records text rest
-    → ((before : List HistoryRecord) → IsHistory h before → IsWrongAfter (length before) why)
-    → TellsWrong ((chained records).text ++ text) why
-tells_wrong h records text rest Memory t wrong = tt
-tells_wrong h records text rest Header t wrong = absurd (wrong t.more t.grown)
-tells_wrong h records text rest (Wrong number) t wrong =
-    (length t.more, wrong t.more t.grown, (t.more, rest, refl, t.whole))

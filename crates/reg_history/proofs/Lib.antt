@@ -1,9 +1,13 @@
+mod Beginnings
 pub mod Changed
+mod Coming
 mod Fronts
 pub mod Histories
 mod Mapped
 mod Overviews
+mod Readings
 mod Recordings
+mod Rows
 pub mod Taken
 mod Unique
 mod UnlikeHistories

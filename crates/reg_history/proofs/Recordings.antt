@@ -30,7 +30,7 @@ pub recorded_more : (w w' : Recorded) (records : List HistoryRecord) (r : Histor
     → AddsToOverview w'.overview records r l → IsRecorded w' (records ++ r ∷ [])
 recorded_more w w' records r l is text adds = record {
   text =
-      text ∙ ap (λ t. t ++ l.bytes.items) is.text ∙ sym (text-more records r l adds.line);
+      text ∙ ap (λ t. t ++ l.bytes.items) is.text ∙ sym (text-more records r l.bytes.items adds.line);
   shown = adds.grown;
 }
 

@@ -84,7 +84,7 @@ row-last x y rest d plain_d =
     (sym (fields-last (y ∷ rest) d))
 
 -- what a reader reads of a record and what stands behind it
-read_line : (before : List ℕ) (n : ℕ) (r : HistoryRecord) (tail : List ℕ)
+pub read_line : (before : List ℕ) (n : ℕ) (r : HistoryRecord) (tail : List ℕ)
     → next_record default_config st.StartRecord [] [] (line before n r ++ tail)
     ≡ Some (record_fields (decimal n) r ++ digest before n r ∷ [], st.StartRecord, tail)
 read_line before n r tail =
@@ -174,11 +174,11 @@ moments-tell n m m' d d' c c' e = ap (pick 1) e
 
 -- ---- All records
 
-lines_of : List (List ℕ) → List HistoryRecord → List ℕ
+unfoldable pub lines_of : List (List ℕ) → List HistoryRecord → List ℕ
 lines_of ds [] = []
 lines_of ds (r ∷ rs) = next_line ds r ++ lines_of (ds ++ next_digest ds r ∷ []) rs
 
-chain-lines : (c : Chained) (rs : List HistoryRecord)
+pub chain-lines : (c : Chained) (rs : List HistoryRecord)
     → (chain_from c rs).text ≡ c.text ++ lines_of c.digests rs
 unfolding lines_of
 chain-lines c [] = sym (append-nil c.text)
@@ -186,45 +186,49 @@ chain-lines c (r ∷ rs) =
     chain-lines (with_record c r) rs
     ∙ append_assoc c.text (next_line c.digests r) (lines_of (c.digests ++ next_digest c.digests r ∷ []) rs)
 
-cancel : (xs ys zs : List ℕ) → xs ++ ys ≡ xs ++ zs → ys ≡ zs
+pub cancel : (xs ys zs : List ℕ) → xs ++ ys ≡ xs ++ zs → ys ≡ zs
 cancel [] ys zs e = e
 cancel (x ∷ xs) ys zs e = cancel xs ys zs (cc e)
 
-no-read : next_record default_config st.StartRecord [] [] [] ≡ None
+pub no-read : next_record default_config st.StartRecord [] [] [] ≡ None
 unfolding next_record
 no-read = refl
 
-lines-tell : (ds : List (List ℕ)) (xs ys : List HistoryRecord) → lines_of ds xs ≡ lines_of ds ys → xs ≡ ys
-unfolding lines_of fields-in rest-in
-lines-tell ds [] [] e = refl
-lines-tell ds [] (y ∷ ys) e =
-    let read = read_line (unwrap_or (slice_get ds (length ds - 1)) []) (length ds + 1) y
-    (lines_of (ds ++ next_digest ds y ∷ []) ys) in
-    let none = ap (λ (t : List ℕ). next_record default_config st.StartRecord [] [] t) e in
-    cc (sym no-read ∙ none ∙ read)
-lines-tell ds (x ∷ xs) [] e =
-    let read = read_line (unwrap_or (slice_get ds (length ds - 1)) []) (length ds + 1) x
-    (lines_of (ds ++ next_digest ds x ∷ []) xs) in
-    let none = ap (λ (t : List ℕ). next_record default_config st.StartRecord [] [] t) e in
-    cc (sym no-read ∙ sym none ∙ read)
-lines-tell ds (x ∷ xs) (y ∷ ys) e =
+-- a line tells its record, and what stands behind it
+pub line-tells : (ds : List (List ℕ)) (x y : HistoryRecord) (a b : List ℕ)
+    → next_line ds x ++ a ≡ next_line ds y ++ b → (x ≡ y) × (a ≡ b)
+unfolding fields-in rest-in
+line-tells ds x y a b e =
     let before = unwrap_or (slice_get ds (length ds - 1)) [] in
     let number = length ds + 1 in
-    let tail = lines_of (ds ++ next_digest ds x ∷ []) xs in
-    let tail' = lines_of (ds ++ next_digest ds y ∷ []) ys in
-    let both = sym (read_line before number x tail)
+    let both = sym (read_line before number x a)
     ∙ ap (λ (t : List ℕ). next_record default_config st.StartRecord [] [] t) e
-    ∙ read_line before number y tail' in
+    ∙ read_line before number y b in
     let fields = ap fields-in both in
-    let here : x ≡ y =
     let change = changes-tell (decimal number) x.moment y.moment (next_digest ds x) (next_digest ds y)
     x.change y.change fields in
     let moment = moments-tell (decimal number) x.moment y.moment (next_digest ds x) (next_digest ds y)
     x.change y.change fields in
-    λ i. record { moment = moment i; change = change i } in
+    (λ i. record { moment = moment i; change = change i }, ap rest-in both)
+
+-- a line is not empty
+pub line-some : (ds : List (List ℕ)) (r : HistoryRecord) (rest : List ℕ) → next_line ds r ++ rest ≡ [] → ⊥
+line-some ds r rest e =
+    let read = read_line (unwrap_or (slice_get ds (length ds - 1)) []) (length ds + 1) r rest in
+    let none = ap (λ (t : List ℕ). next_record default_config st.StartRecord [] [] t) e in
+    cc (sym no-read ∙ sym none ∙ read)
+
+lines-tell : (ds : List (List ℕ)) (xs ys : List HistoryRecord) → lines_of ds xs ≡ lines_of ds ys → xs ≡ ys
+unfolding lines_of
+lines-tell ds [] [] e = refl
+lines-tell ds [] (y ∷ ys) e = absurd (line-some ds y (lines_of (ds ++ next_digest ds y ∷ []) ys) (sym e))
+lines-tell ds (x ∷ xs) [] e = absurd (line-some ds x (lines_of (ds ++ next_digest ds x ∷ []) xs) e)
+lines-tell ds (x ∷ xs) (y ∷ ys) e =
+    let both = line-tells ds x y (lines_of (ds ++ next_digest ds x ∷ []) xs)
+    (lines_of (ds ++ next_digest ds y ∷ []) ys) e in
     let rest = lines-tell (ds ++ next_digest ds x ∷ []) xs ys
-    (ap rest-in both ∙ ap (λ (r : HistoryRecord). lines_of (ds ++ next_digest ds r ∷ []) ys) (sym here)) in
-    λ i. here i ∷ rest i
+    (both.1 ∙ ap (λ (r : HistoryRecord). lines_of (ds ++ next_digest ds r ∷ []) ys) (sym both.0)) in
+    λ i. both.0 i ∷ rest i
 
 pub unique : BytesTellRecords
 unique xs ys e =

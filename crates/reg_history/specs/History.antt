@@ -2,10 +2,11 @@
 use Rattle.std.specs.Prelude.{◌≡◌, ◌≢◌, ℕ, ◌+◌, true, ⊤, List, [], ◌∷◌, ◌++◌, length, if◌then◌else◌}
 use Rattle.std.specs.Ordering.{is_le}
 use Rattle.reg_maps.specs.Maps.{text_cmp}
-use Rattle.reg_history.specs.Chain.{at, chained, header_line, says}
+use Rattle.reg_history.specs.Chain.{at, chained, header_line, next_line, says}
 use Rattle.reg_changes.specs.declared.change.HistoryRecord.{HistoryRecord}
 use Rattle.reg_history.specs.Moment.{moment_text}
 use Rattle.reg_history.specs.Overview.{IsOverview}
+use Rattle.reg_history.specs.Written.{IsText, CanBeWritten}
 use Rattle.reg_changes.specs.Replay.{NothingIsLost, changes_to, facts_say, nothing}
 use Rattle.reg_changes.specs.Said.{Says}
 use Rattle.reg_changes.specs.declared.change.Fact.{Fact}
@@ -48,30 +49,41 @@ pub record Continues (records : List HistoryRecord) (moment : ℕ) (facts : List
   pub replayed : (subject : Subject)
       → says (records ++ news records moment facts) subject ≡ facts_say nothing facts subject
 
--- the bytes begin as those of a history do, with so many records
-abbrev pub BeginsWithRecords : ℕ → List ℕ → Type 0
-BeginsWithRecords count text =
-    (records : List HistoryRecord) × (rest : List ℕ) × (length records ≡ count)
-    × ((chained records).text ++ rest ≡ text)
+-- no record that this program writes comes next in the text, after these
+abbrev pub NoneComes : List HistoryRecord → List ℕ → Type 0
+NoneComes before text =
+    (r : HistoryRecord) (rest : List ℕ) → IsText r
+    → is_le (text_cmp (chained before).moment r.moment) ≡ true
+    → text ≢ next_line (chained before).digests r ++ rest
 
--- a record is wrong, or memory was wanting, after so many records
-abbrev pub IsWrongAfter : ℕ → Unreadable → Type 0
-IsWrongAfter count Memory = ⊤
-IsWrongAfter count Header = ⊥
-IsWrongAfter count (Wrong number) = number ≡ count + 1
+-- after these records what comes in the text is wrong, or memory was wanting
+abbrev pub IsWrongAfter : List HistoryRecord → List ℕ → Unreadable → Type 0
+IsWrongAfter before text Memory = ⊤
+IsWrongAfter before text Header = ⊥
+IsWrongAfter before text (Wrong number) = (number ≡ length before + 1) × NoneComes before text
 
--- Why bytes are no history: they have not its first line, or go on wrongly after so many records of one.
+-- The bytes begin with the records before this number, and do not end there; and they do not begin with
+-- so many records as this number says, whichever this program may have written.
+pub record IsWrongAt (text : List ℕ) (number : ℕ) : Type 0 where
+  pub records : List HistoryRecord
+  pub rest : List ℕ
+  pub counted : number ≡ length records + 1
+  pub begins : (chained records).text ++ rest ≡ text
+  pub more : rest ≢ []
+  pub none : (others : List HistoryRecord) (end : List ℕ) → CanBeWritten others
+      → length others ≡ number → (chained others).text ++ end ≢ text
+
+-- Why bytes are no history: they have not its first line, or go on wrongly after the records before a number.
 abbrev pub TellsWrong : List ℕ → Unreadable → Type 0
 TellsWrong text Memory = ⊤
 TellsWrong text Header = (rest : List ℕ) → text ≢ header_line ++ rest
-TellsWrong text (Wrong number) =
-    (count : ℕ) × (number ≡ count + 1) × BeginsWithRecords count text
+TellsWrong text (Wrong number) = IsWrongAt text number
 
 -- a record came to a history, with these bytes
 pub record AddsRecord (h : History) (records : List HistoryRecord) (r : HistoryRecord) (bytes : List ℕ) : Type 0
   where
     pub grown : IsHistory h (records ++ r ∷ [])
-    pub text : (chained (records ++ r ∷ [])).text ≡ (chained records).text ++ bytes
+    pub line : bytes ≡ next_line (chained records).digests r
 
 -- a record came to a history, with the bytes by which a text is shorter
 pub record TakesRecord (h : History) (records : List HistoryRecord) (text rest : List ℕ) : Type 0 where

@@ -1,9 +1,12 @@
 -- The laws of histories.
-use Rattle.std.specs.Prelude.{◌≡◌, ℕ, List}
+use Rattle.std.specs.Prelude.{◌≡◌, ℕ, List, Result, MatchResult}
 use Rattle.reg_history.specs.Chain.{chained}
 use Rattle.reg_changes.specs.declared.change.HistoryRecord.{HistoryRecord}
-use Rattle.reg_history.specs.History.{Continues}
+use Rattle.reg_history.specs.History.{Continues, IsHistory}
 use Rattle.reg_changes.specs.declared.change.Fact.{Fact}
+use Rattle.reg_history.specs.declared.history.History.{History}
+use Rattle.reg_history.specs.declared.history.Unreadable.{Unreadable}
+use Rattle.reg_history.specs.declared.history.Unreadable.TheVariants.{Memory}
 
 -- the bytes of a history have been written by no other records than these
 abbrev pub BytesTellRecords : Type 0
@@ -17,3 +20,8 @@ SameFolderSameBytes =
     (digests digests' : List (List ℕ))
     → (chained xs).text ≡ (chained ys).text → Continues xs moment facts more digests
     → Continues ys moment facts more' digests' → more ≡ more'
+
+-- it was read as the history of these records, or memory was wanting
+abbrev pub IsReadBackAs : List HistoryRecord → Result History Unreadable → Type 0
+IsReadBackAs records result =
+    MatchResult result (λ history. IsHistory history records) (λ why. why ≡ Memory)

@@ -5,6 +5,8 @@ pub mod Moment
 pub mod Noted
 pub mod Overview
 pub mod Published
+pub mod Reading
 pub mod Recording
 pub mod Texts
 pub mod Unlike
+pub mod Written

@@ -1,10 +1,11 @@
 //! Histories, as they are read and go on.
-ghost use Rattle.std.specs.Prelude.{◌≡◌, ◌++◌, ◌+◌, [], length, true, List, IfOk, IfErr, OnOk};
+ghost use Rattle.std.specs.Prelude.{◌≡◌, ◌<◌, ◌++◌, ◌+◌, ◌^◌, [], length, true, List, IfOk, IfErr, OnOk};
 ghost use Rattle.std.specs.Ordering.{is_le};
 ghost use Rattle.reg_maps.specs.Maps.{text_cmp};
 ghost use Rattle.reg_print.specs.Comparing.{Leaves};
 ghost use Rattle.reg_history.specs.Chain.{chained, record_of, says};
 ghost use Rattle.reg_history.specs.History.{AddsRecord, IsHistory, IsHistoryOf, IsWrongAfter, SaysJust, TakesRecord, TellsWrong, later};
+ghost use Rattle.reg_history.specs.Reading.{IsAt};
 ghost use Rattle.reg_history.specs.Recording.{Aim, Awaits, IsBegunOn};
 ghost use Rattle.reg_history.specs.Unlike.{TellsUnlike, unlike_of};
 ghost use Rattle.reg_history.specs.declared.history.Unlike.TheVariants as unlike;
@@ -120,13 +121,10 @@ impl History {
     {
         let mut records = Records::of(alloc, text)?;
         let mut rest = text;
-        for _ in 0..u64::MAX {
-            if rest.is_empty() {
-                return Ok(());
-            }
+        while !rest.is_empty() {
             rest = self.take_next(alloc, &mut records, rest)?;
         }
-        Err(self.wrong())
+        Ok(())
     }
 
     // Takes the record that comes next in a text, and gives what is left of the text.
@@ -136,10 +134,14 @@ impl History {
         records: &mut Records<'_>,
         text: &'a [u8],
     ) -> Result<&'a [u8], Unreadable>
+        ensures counted { OnOk result (length self.new.chain.digests.items
+            ≡ length self.old.chain.digests.items + 1) }
         ensures takes { IfOk result (λ rest. (before : List HistoryRecord)
             → IsHistory self.old before → TakesRecord self.new before text.now rest.now) }
+        ensures goes_on { IfOk result (λ rest. (before : List HistoryRecord)
+            → IsHistory self.old before → IsAt records.old text.now → IsAt records.new rest.now) }
         ensures wrong { IfErr result (λ why. (before : List HistoryRecord)
-            → IsHistory self.old before → IsWrongAfter (length before) why) }
+            → IsHistory self.old before → IsAt records.old text.now → IsWrongAfter before text.now why) }
     {
         let wrong = self.wrong();
         let Some(next) = records.next()? else {
@@ -157,7 +159,8 @@ impl History {
 
     // That the record that comes next is wrong.
     fn wrong(&self) -> Unreadable
-        ensures { result ≡ un.Wrong (length self.now.chain.digests.items + 1) }
+        ensures number { result ≡ un.Wrong (length self.now.chain.digests.items + 1) }
+        ensures counts { length self.now.chain.digests.items + 1 < 2 ^ 64 }
     {
         Unreadable::Wrong(self.chain.digests.len() as u64 + 1)
     }
@@ -169,7 +172,9 @@ impl History {
         moment: Field,
         change: PublishedChange,
     ) -> Result<Vec<u8>, AllocError>
-        ensures { IfOk result (λ v. (records : List HistoryRecord) → IsHistory self.old records
+        ensures counted { OnOk result (length self.new.chain.digests.items
+            ≡ length self.old.chain.digests.items + 1) }
+        ensures adds { IfOk result (λ v. (records : List HistoryRecord) → IsHistory self.old records
             → is_le (text_cmp self.old.moment moment) ≡ true
             → AddsRecord self.new records (record_of moment change) v.items) }
     {

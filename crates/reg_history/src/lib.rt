@@ -3,6 +3,7 @@
 #![tactic(auto)]
 
 pub mod chain;
+mod fields;
 pub mod history;
 pub mod laws;
 pub mod moment;

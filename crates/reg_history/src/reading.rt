@@ -1,12 +1,18 @@
 //! Reads the records of a history, as CSV has them.
+ghost use Rattle.std.specs.Prelude.{◌≡◌, ◌∷◌, ◌++◌, [], ℕ, List, Some, IfOk, IsSomeAnd, option_map};
+ghost use Rattle.std.specs.Str.{IsUtf8};
+ghost use Rattle.csv.specs.Records.{field_at, fields_of};
+ghost use Rattle.reg_changes.specs.declared.change.HistoryRecord.{HistoryRecord};
+ghost use Rattle.reg_history.specs.Chain.{record_fields};
+ghost use Rattle.reg_history.specs.Reading.{BeginsWithRow, IsAt};
+ghost use Rattle.reg_history.specs.Texts.{texts_of};
+ghost use Rattle.reg_history.specs.Written.{IsText};
+
+use crate::fields::SharedFields;
 use crate::texts::Texts;
-use csv::{ByteRecord, ErrorKind, Reader, ReaderBuilder};
-use reg_changes::change::{
-    Class, Details, Fact, HistoryRecord, PublishedChange, PublishedStanding, Subject,
-};
-use reg_changes::field::Field;
+use csv::{ByteRecord, Reader, ReaderBuilder};
+use reg_changes::change::HistoryRecord;
 use std::alloc::{AllocError, Global};
-use std::collections::BTreeSet;
 
 /// The records of a text, one after the other.
 #[derive(Drop)]
@@ -18,11 +24,14 @@ pub(crate) struct Records<'a> {
 
 impl<'a> Records<'a> {
     /// Those of a text without the record of its columns. Only want of memory is an error.
-    pub fn of(alloc: Global, text: &'a [u8]) -> Result<Self, AllocError> {
+    pub fn of(alloc: Global, text: &'a [u8]) -> Result<Self, AllocError>
+        ensures { IfOk result (λ records. IsAt records text.now) }
+    {
         Ok(Records {
             fields: SharedFields::new(alloc)?,
             reader: ReaderBuilder::new()
                 .has_headers(false)
+                .flexible(true)
                 .from_reader(alloc, text),
             row: ByteRecord::new(alloc),
         })
@@ -30,113 +39,30 @@ impl<'a> Records<'a> {
 
     /// The record that comes next; none where none does, or what comes is no record. Only want of memory
     /// is an error.
-    pub fn next(&mut self) -> Result<Option<HistoryRecord>, AllocError> {
+    pub fn next(&mut self) -> Result<Option<HistoryRecord>, AllocError>
+        ensures goes_on { IfOk result (λ _. (text : List ℕ) (r : HistoryRecord) (rest : List ℕ)
+            → IsAt self.old text → BeginsWithRow text r rest → IsAt self.new rest) }
+        ensures reads { IfOk result (λ next. (text : List ℕ) (r : HistoryRecord) (rest : List ℕ)
+            → IsAt self.old text → BeginsWithRow text r rest → IsText r → next ≡ Some r) }
+    {
         match self.reader.read_byte_record(&mut self.row) {
             Ok(true) => match texts_of(&self.row) {
                 Some(texts) => self.fields.record(&texts),
                 None => Ok(None),
             },
             Ok(false) => Ok(None),
-            Err(error) => match error.into_kind() {
-                ErrorKind::OutOfMemory => Err(AllocError),
-                _ => Ok(None),
-            },
+            // A text in memory can always be read.
+            Err(_) => Err(AllocError),
         }
-    }
-}
-
-// The fields of records. Equal fields of columns with few texts share them.
-#[derive(Drop)]
-struct SharedFields {
-    alloc: Global,
-    none: Field,
-    known: BTreeSet<Field>,
-}
-
-impl SharedFields {
-    fn new(alloc: Global) -> Result<Self, AllocError> {
-        Ok(SharedFields {
-            alloc,
-            none: Field::new(alloc, "")?,
-            known: BTreeSet::new(alloc),
-        })
-    }
-
-    // The record of these texts, if they are of one.
-    fn record(&mut self, texts: &Texts<'_>) -> Result<Option<HistoryRecord>, AllocError> {
-        let Some(change) = self.change(texts)? else {
-            return Ok(None);
-        };
-        Ok(Some(HistoryRecord {
-            moment: self.shared(texts.moment)?,
-            change,
-        }))
-    }
-
-    fn change(&mut self, texts: &Texts<'_>) -> Result<Option<PublishedChange>, AllocError> {
-        if texts.change == "term" {
-            return Ok(Some(self.term(texts)?));
-        }
-        match Class::read(texts.change) {
-            Some(class) => Ok(Some(PublishedChange::Made(self.fact(class, texts)?))),
-            None => Ok(None),
-        }
-    }
-
-    fn term(&mut self, texts: &Texts<'_>) -> Result<PublishedChange, AllocError> {
-        Ok(PublishedChange::Term(
-            self.shared(texts.registry)?,
-            self.own(texts.value)?,
-            self.standing(texts)?,
-        ))
-    }
-
-    fn fact(&mut self, class: Class, texts: &Texts<'_>) -> Result<Fact, AllocError> {
-        Ok(Fact {
-            subject: Subject {
-                registry: self.shared(texts.registry)?,
-                class,
-                value: self.own(texts.value)?,
-            },
-            details: Details {
-                description: self.own(texts.description)?,
-                policy: self.shared(texts.policy)?,
-                first: self.shared(texts.first)?,
-                standing: self.standing(texts)?,
-                assignee: self.shared(texts.assignee)?,
-            },
-        })
-    }
-
-    fn standing(&mut self, texts: &Texts<'_>) -> Result<PublishedStanding, AllocError> {
-        Ok(PublishedStanding {
-            expires: self.shared(texts.expires)?,
-            held: self.shared(texts.held)?,
-        })
-    }
-
-    // A field with a text that few others have.
-    fn own(&self, text: &str) -> Result<Field, AllocError> {
-        if text.is_empty() {
-            self.none.copy()
-        } else {
-            Field::new(self.alloc, text)
-        }
-    }
-
-    // A field with a text that many have.
-    fn shared(&mut self, text: &str) -> Result<Field, AllocError> {
-        let field = self.own(text)?;
-        if let Some(known) = self.known.get(&field) {
-            return known.copy();
-        }
-        self.known.insert(field.copy()?)?;
-        Ok(field)
     }
 }
 
 // The texts of the row; none where it has too few, or what is no text.
-fn texts_of(row: &ByteRecord) -> Option<Texts<'_>> {
+fn texts_of(row: &ByteRecord) -> Option<Texts<'_>>
+    ensures { (number digest : List ℕ) (r : HistoryRecord)
+        → fields_of row.now ≡ record_fields number r ++ digest ∷ [] → IsUtf8 number → IsText r
+        → IsSomeAnd result (λ texts. texts_of texts ≡ record_fields number r) }
+{
     Some(Texts {
         number: text_at(row, 0)?,
         moment: text_at(row, 1)?,
@@ -152,6 +78,10 @@ fn texts_of(row: &ByteRecord) -> Option<Texts<'_>> {
     })
 }
 
-fn text_at(row: &ByteRecord, place: usize) -> Option<&str> {
+// The text at a place of the row, if that has one.
+fn text_at(row: &ByteRecord, place: usize) -> Option<&str>
+    ensures { (text : List ℕ) → field_at (fields_of row.now) place ≡ Some text → IsUtf8 text
+        → option_map (λ s. s.now) result ≡ Some text }
+{
     str::from_utf8(row.get(place)?).ok()
 }

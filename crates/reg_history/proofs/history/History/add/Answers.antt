@@ -2,8 +2,8 @@ use Rattle.std.proofs.Common.{refl}
 use Rattle.reg_history.proofs.Histories.{adds_record}
 use Rattle.reg_history.proofs.history.History.add.Goals as goal
 
-pub returns : goal.returns
-returns c = λ records is ordered.
+pub returns-clause-adds : goal.returns-clause-adds
+returns-clause-adds c = λ records is ordered.
     adds_record c.args.self.now
     (record {
       said = c.apply.new.said;
