@@ -45,10 +45,11 @@ function detailsButton(app, row, title, pages, isOwn = false) {
   return button('Details', () => app.open(title, open), { 'aria-label': `Details of ${row.reference}` });
 }
 
-// Begins a new request with these values.
-function askFor(app, kind, values) {
+// Begins a new request with these values, in place of one that was begun before.
+async function askFor(app, kind, values) {
+  if (drafts.has('request') && !await sure('You have begun another request, which is not sent yet. Replace what you typed?', 'Replace')) return;
   drafts.set('request', { kind, values });
-  return app.go('new', 'Check the data before you send them.');
+  await app.go('new', 'Check the data before you send them.');
 }
 
 function requestTable(rows, act, caption, empty, pages = new Map()) {
@@ -81,6 +82,8 @@ export async function fresh(app) {
 }
 
 const NEEDS = { renew: 'renew', permanent: 'make permanent' };
+const EARLY = 'An early allocation needs an Internet-Draft, a stable specification, enough interest, and the approval of the working group chairs and'
+  + ' of the area director (RFC 7120). Under Specification Required, a designated expert must also recommend it.';
 const noteOf = text => element('p', { class: 'note' }, text);
 
 class Draft {
@@ -138,9 +141,9 @@ class Draft {
 
   async offerRegistries() {
     const known = this.names.includes(this.values.registry) ? this.values.registry : this.names.length === 1 ? this.names[0] : undefined;
-    const options = Object.fromEntries(this.names.map(name => [name, name]));
-    if (!this.names.length) this.put('top', [], noteOf('The authority has not opened any registry yet.'));
-    else this.put('top', [control('registry', { options, value: known, onchange: () => this.offerWishes() })], this.needs);
+    const options = Object.fromEntries(this.names.map(name => [name, name])), about = this.kind === 'early' ? element('p', { class: 'hint' }, EARLY) : this.needs;
+    if (!this.names.length) this.put('top', [], noteOf('There are no registries yet.'));
+    else this.put('top', [control('registry', { options, value: known, onchange: () => this.offerWishes() })], about);
     if (known) await this.offerWishes();
   }
 
@@ -238,23 +241,17 @@ class Draft {
 /** Who may read the caller's requests, and whose the caller may read. */
 export async function agents(app) {
   const names = await ask('GET', '/agents'), principals = await ask('GET', '/principals'), place = element('div');
-  const set = (agent, reads) => ask('PUT', `/agents/${agent}`, { reads });
-  const stop = agent => attempt(place, async () => {
-    await set(agent, false);
-    await app.go('agents', `${agent} can no longer read your requests.`);
-  });
+  const set = async (agent, reads) => {
+    await ask('PUT', `/agents/${agent}`, { reads });
+    await app.go('agents', `${agent} can ${reads ? 'now' : 'no longer'} read your requests.`);
+  };
+  const stop = agent => attempt(place, () => set(agent, false));
   const open = account => attempt(place, async () => {
     const rows = await ask('GET', `/principals/${account}/requests`);
     const actions = app => row => detailsButton(app, row, `Request ${row.reference} of ${account}`);
     app.open(`Requests of ${account}`, app => requestTable(rows, actions(app), `Requests of ${account}`, 'There are no requests.'));
   });
-  const add = form({
-    title: 'Add an agent', verb: 'Add', controls: [control('agent')], key: 'agent',
-    send: async ({ agent }) => {
-      await set(agent, true);
-      await app.go('agents', `${agent} can now read your requests.`);
-    },
-  });
+  const add = form({ title: 'Add an agent', verb: 'Add', controls: [control('agent')], key: 'agent', send: ({ agent }) => set(agent, true) });
   const mine = table({
     caption: 'Agents who may read my requests', columns: ['Account'], rows: names, empty: 'Nobody else may read your requests.',
     cells: name => [name], act: name => button('Remove', () => stop(name), { 'aria-label': `Remove ${name}` }),

@@ -2,7 +2,8 @@
 import { POLICIES, leastFree, policyOf } from './forms.js';
 
 const isNew = ({ kind }) => kind === 'code' || kind === 'early';
-const isSame = (one, other) => one.account === other.account && one.reference === other.reference;
+/** Whether two rows are of one request. */
+export const isSame = (one, other) => one.account === other.account && one.reference === other.reference;
 
 /** The policy under which an ask falls, if the page of its registry is known. */
 export function policyFor(ask, page) {
@@ -73,9 +74,8 @@ export function expertsAmong(capabilities, now, account) {
 }
 
 /** The early allocations of registries: what expires next first, then what is held, then what has expired. */
-export function byExpiry(pages) {
-  return inOrder(pages.flatMap(({ name, entries }) => entries.filter(({ expires }) => expires).map(entry => ({ ...entry, registry: name }))));
-}
+export const byExpiry = pages => inOrder(pages.flatMap(({ name, entries }) => entries.map(entry => ({ ...entry, registry: name })))
+  .filter(({ expires }) => expires));
 
 function inOrder(entries) {
   const rank = ({ status, held }) => (status === 'Assigned' ? 3 : status === 'Expired' ? 2 : held ? 1 : 0);

@@ -5,13 +5,13 @@ import { table } from './list.js';
 import {
   CAPABILITIES, COUNTS, POLICIES, STATES, dayOf, endOf, faultOf, grantOf, hexOf, inWords, opinionsOf, outcome, rangesOf, rowsOf,
 } from './forms.js';
-import { adviceLacking, byExpiry, effectOf, endingBy, expertsAmong, lossOf, nextWaiting, noteLine, policyFor, rivalsOf } from './cases.js';
+import { adviceLacking, byExpiry, effectOf, endingBy, expertsAmong, isSame, lossOf, nextWaiting, noteLine, policyFor, rivalsOf } from './cases.js';
 import { faultInWords } from './errors.js';
 
 /** The requests that wait, each with its experts and what they recommend. */
 export async function waiting(app) {
   const rows = await ask('GET', '/desk/pending');
-  return requestTable(app, rows, { caption: 'Waiting requests', empty: 'No request waits.', last: ['Experts', opinionsOf] });
+  return requestTable(app, rows, { caption: 'Waiting requests', empty: 'No requests are waiting.', last: ['Experts', opinionsOf] });
 }
 
 /** All requests. */
@@ -22,25 +22,26 @@ export async function everything(app) {
 
 function requestTable(app, rows, { last: [title, told], ...texts }) {
   const name = row => `Open ${row.reference} of ${row.account}`;
-  const act = (row, seen) => button('Open', () => openCase(app, row, { rows, seen: seen() }), { 'aria-label': name(row) });
+  const act = (row, seen) => button('Open', () => openCase(app, row, seen()), { 'aria-label': name(row) });
   const state = row => (texts.states ? [STATES[row.state] ?? row.state] : []);
   const cells = row => [row.account, row.reference, inWords(row.ask), ...state(row), told(row)];
   const columns = ['Account', 'Reference', 'Request', ...texts.states ? ['State'] : [], title];
   return table({ ...texts, columns, rows, cells, act, quiet: true });
 }
 
-// Opens a request of a list, which has `rows`, of which `seen` were listed in this order. `before` is shown above the request.
-async function openCase(app, listed, list, { message, before } = {}) {
-  const { account, reference } = listed;
+// Opens a request of a list, in which `seen` were listed in this order. `before` is shown above the request.
+async function openCase(app, asked, seen, { message, before } = {}) {
+  const { account, reference } = asked, listed = seen.find(one => isSame(one, asked)) ?? asked;
   await app.open(`Request ${reference} of ${account}`, async app => {
     const row = await ask('GET', `/desk/requests/${account}/${reference}`);
     const page = row.ask.kind === 'block' ? null : await ask('GET', `/registries/${row.ask.registry}`);
     listed.state = row.state;
     const result = outcome(row) ? [['Result', outcome(row)]] : [], state = STATES[row.state] ?? row.state;
     const told = [['Applicant', account], ['Reference', reference], ['State', state], ...result, ...rowsOf(row.ask)];
-    const next = nextWaiting(list.seen, row), go = (one, more) => openCase(app, one, list, more);
+    const next = nextWaiting(seen, row), go = (one, more) => openCase(app, one, seen, more);
     const onward = next ? button('Next waiting request', () => go(next), { class: row.state === 'pending' ? 'plain' : undefined }) : null;
-    const ways = row.state === 'pending' ? decision({ row, page, rows: list.rows, listed, next, onward, go }) : null;
+    const all = page && row.state === 'pending' ? await ask('GET', '/desk/pending') : [];
+    const ways = row.state === 'pending' ? decision({ row, page, rivals: rivalsOf(row, page, all), listed, next, onward, go }) : null;
     return element('div', {}, before, details(told), experts(row), ways ?? element('p', { class: 'actions' }, onward));
   }, message);
 }
@@ -55,12 +56,12 @@ function experts({ experts, advice }) {
 const MOVED = ['taken', 'exhausted', 'permanent', 'renewed', 'advice', 'closed'];
 
 // What an approval would do, and the ways to decide.
-function decision({ row, page, rows, listed, next, onward, go }) {
+function decision({ row, page, rivals, listed, next, onward, go }) {
   const { account, reference } = row, path = `${account}/${reference}`, place = element('div');
   const loss = lossOf(row, page), bar = loss ? `${loss} Decline this request.` : adviceLacking(row, page);
   const policy = page && POLICIES[policyFor(row.ask, page)], told = bar ?? effectOf(row, page);
   const says = policy ? `${policy.title} (RFC 8126, section ${policy.section}). ${told}` : told;
-  const note = element('div', { class: 'note', id: 'prospect' }, element('p', {}, says), rivalry(rivalsOf(row, page, rows), go));
+  const note = element('div', { class: 'note', id: 'prospect' }, element('p', {}, says), rivalry(rivals, go));
   const done = async (decided, answer) => {
     listed.state = decided.state;
     const message = `${STATES[decided.state]}: ${reference} of ${account}. ${outcome(decided)}`;
@@ -70,7 +71,7 @@ function decision({ row, page, rows, listed, next, onward, go }) {
     const answer = bar ? say(bar) : await sure(`${told} You cannot undo this.`, 'Approve', { more: next && 'Approve and open the next' });
     if (answer) await attempt(place, async () => {
       const decided = await ask('PUT', `/desk/approve/${path}`).catch(error => { if (!MOVED.includes(error.error)) throw error; });
-      await (decided ? done(decided, answer) : go(listed, { message: 'This was not approved, since something has changed meanwhile.' }));
+      await (decided ? done(decided, answer) : go(listed, { message: `${reference} of ${account} was not approved, because something has changed meanwhile.` }));
     });
   };
   const actions = element('p', { class: 'actions' },
@@ -81,12 +82,12 @@ function decision({ row, page, rows, listed, next, onward, go }) {
 function rivalry(rivals, go) {
   if (!rivals.length) return null;
   const wants = rivals.length === 1 ? '1 other request wants' : `${rivals.length} other requests want`;
-  return [element('p', {}, `${wants} just this value. The first to be approved gets it.`), element('p', { class: 'actions' },
+  return [element('p', {}, `${wants} this value. The first to be approved gets it.`), element('p', { class: 'actions' },
     rivals.slice(0, 10).map(one => button(`Open ${one.reference} of ${one.account}`, () => go(one), { class: 'plain' })))];
 }
 
 function noteCard(row) {
-  const line = noteLine(row), about = 'With it the site shows the reference. Add it to notes.csv, in place of any other line about this value.';
+  const line = noteLine(row), about = 'Add this line to notes.csv, in place of any other line about this value. The site then shows the reference.';
   const title = element('h3', {}, `Line for notes.csv, from ${row.reference} of ${row.account}`);
   return line && element('section', { class: 'card' }, title, element('p', {}, about), copyable(line, 'line'));
 }
@@ -102,11 +103,12 @@ function assignment(listed, path, go) {
   field.input.setAttribute('list', 'experts');
   field.input.addEventListener('focus', load, { once: true });
   const assign = async ({ expert }) => {
+    if (expert === listed.account) throw new Told('Applicants cannot be their own experts. Choose another account.');
     const isKnown = (await load()).includes(expert);
-    const question = `${expert} has no expert's token. It would get to read this request, and cannot be removed. Is the spelling right?`;
+    const question = `${expert} has no expert's token. It would get to read this request, and could not be removed. Is the spelling right?`;
     if (!isKnown && !await sure(question, `Assign ${expert}`)) return false;
     await ask('PUT', `/desk/experts/${path}/${expert}`);
-    return go(listed, { message: `The request is assigned to ${expert}.` });
+    return go(listed, { message: `${listed.reference} of ${listed.account} is assigned to ${expert}.` });
   };
   return form({ title: 'Ask an expert', verb: 'Assign', look: 'plain', controls: [field], parts: [field.node, names], send: assign });
 }
@@ -127,8 +129,8 @@ function refusal({ account, reference }, path, next, done) {
 export async function registries(app) {
   const names = await ask('GET', '/registries');
   const open = name => button('Open', () => openRegistry(app, name), { 'aria-label': `Open ${name}` });
-  const empty = 'There are no registries yet.';
-  const list = table({ quiet: true, caption: 'Registries', columns: ['Name'], rows: names, empty, cells: name => [name], act: open });
+  const texts = { caption: 'Registries', columns: ['Name'], empty: 'There are no registries yet.' };
+  const list = table({ ...texts, quiet: true, rows: names, cells: name => [name], act: open });
   return element('div', {}, list, definition(app));
 }
 
@@ -162,7 +164,7 @@ export async function due(app) {
 function earlyTable(caption, rows, place, again, quiet) {
   const hold = ({ registry, value }, held) => attempt(place, async () => {
     await ask('PUT', `/desk/holds/${registry}/${value}`, { held });
-    await again(`Value ${value} of ${registry} is ${held ? 'held: it does not expire.' : 'released: it expires as its day says.'}`);
+    await again(`Value ${value} of ${registry} is ${held ? 'held: it does not expire.' : 'released: it can expire again.'}`);
   });
   const action = (row, verb, held) => button(verb, () => hold(row, held), { 'aria-label': `${verb} value ${row.value} of ${row.registry}` });
   const act = row => (row.held ? action(row, 'Release', false) : row.status === 'Temporary' ? action(row, 'Hold', true) : []);
@@ -186,11 +188,13 @@ function definition(app) {
     if (file) preview.append(rangeTable('Ranges in this file', file.ranges));
   };
   const hint = 'The first line is lo,hi,treatment,note. Each other line is a range, for example 0,99,expert-review,its note';
+  const known = details([...Object.keys(POLICIES), 'reserved'].map(treatment => [treatment, words(treatment)]));
+  const help = element('details', {}, element('summary', {}, 'Words for treatment'), known);
   const chooser = control('file', { type: 'file', label: 'Range file (CSV)', hint, onchange: choose });
   chooser.input.setAttribute('accept', '.csv,text/csv,text/plain');
   return form({
     title: 'Define a registry', verb: 'Define this registry', controls: [name, chooser, most], key: 'define',
-    parts: [name.node, chooser.node, preview, most.node],
+    parts: [name.node, chooser.node, help, preview, most.node],
     check: values => ({ name: faultOf('name', values.name), max: faultOf('max', values.max), file: fileFault(file, Number(values.max)) }),
     send: async ({ name, max }) => {
       const question = `Define ${name} with ${file.ranges.length} ranges, 0 to ${max}? You cannot change the ranges afterwards.`;

@@ -4,7 +4,7 @@ import * as clerk from './clerk.js';
 import * as expert from './expert.js';
 import { LOADING, button, control, drafts, element, focusOn, form, say, trouble } from './dom.js';
 import { forgetPlaces } from './list.js';
-import { Gone, ask, carries, carry, endBy, tellBy } from './office.js';
+import { Gone, ask, carry, listen } from './office.js';
 
 const SECTIONS = {
   applicant: {
@@ -124,7 +124,9 @@ function signIn(message = '') {
     },
   });
   main.inert = false;
-  main.replaceChildren(element('h2', {}, 'Sign in'), element('div', { class: 'card' }, node), element('p', {}, 'No token yet? Ask the authority for one.'));
+  const site = element('a', { href: '../index.html', target: '_blank', rel: 'noopener' }, 'these registries');
+  main.replaceChildren(element('h2', {}, 'Sign in'), element('div', { class: 'card' }, node),
+    element('p', {}, 'No token yet? Ask the authority that publishes ', site, ' for one.'));
   document.title = 'Sign in - Registry desk';
   say(message);
   if (message) focusOn(main.firstChild);
@@ -133,8 +135,7 @@ function signIn(message = '') {
 
 function enter() {
   used = Date.now();
-  const named = { applicant: 'an applicant', expert: 'an expert', clerk: 'a clerk' }[kind];
-  who.replaceChildren(element('span', {}, `Signed in as ${named}`), button('Sign out', () => signOut('You are signed out.'), { class: 'plain' }));
+  who.replaceChildren(element('span', {}, `Signed in as ${kind === 'clerk' ? 'a' : 'an'} ${kind}`), button('Sign out', () => signOut('You are signed out.'), { class: 'plain' }));
   sections.hidden = false;
   history.replaceState(null, '');
   place = here();
@@ -164,14 +165,15 @@ function signOut(message, isAgain = false) {
 
 function isIdle() {
   if (!kind && Date.now() - used > HOUR) drafts.clear();
-  if (carries() && kind && Date.now() - used > HOUR) signOut('You were signed out after an hour without use.');
+  if (kind && Date.now() - used > HOUR) signOut('You were signed out after an hour without use.');
 }
 
-tellBy(say);
-endBy(() => {
-  const kept = drafts.size ? ' What you typed is here again once you sign in with another.' : '';
-  if (kind) signOut(`Your token does not work any more: it has expired or was revoked. Ask the authority for another.${kept}`, true);
-});
+function end() {
+  const kept = drafts.size ? ' What you typed is kept for when you sign in again.' : '';
+  if (kind) signOut(`Your token no longer works: it has expired or was revoked. Ask the authority for another.${kept}`, true);
+}
+
+listen({ tell: say, end });
 addEventListener('pagehide', () => {
   isHere = false;
   if (kind || drafts.size) signOut('You were signed out, because you left this page.');

@@ -1,5 +1,5 @@
 // What the page is made of: elements, forms, tables, questions. Every text goes in as text.
-import { FIELDS, faultOf } from './forms.js';
+import { FIELDS, addressOf, faultOf } from './forms.js';
 import { fieldOf, inWords } from './errors.js';
 import { Gone, Lost, Refusal } from './office.js';
 
@@ -49,13 +49,15 @@ export function troubleOf(error) {
 /** A notice of trouble. It is announced when it comes. */
 export const trouble = error => element('div', { class: 'problem', role: 'alert' }, troubleOf(error));
 
-/** Does something that asks the office, and shows in `place` what went wrong. */
+/** Does something that asks the office, and shows in `place` what went wrong, or says it where somebody went meanwhile. */
 export async function attempt(place, act) {
+  const wasSeen = place.isConnected;
   place.replaceChildren();
   try {
     return await act();
   } catch (error) {
-    if (!(error instanceof Gone)) place.replaceChildren(trouble(error));
+    if (wasSeen && !place.isConnected && !(error instanceof Gone)) say(`About what you did before: ${troubleOf(error)[0]}`);
+    else if (!(error instanceof Gone)) place.replaceChildren(trouble(error));
     return undefined;
   }
 }
@@ -113,9 +115,8 @@ export function choice(legend, name, options, value, onchange) {
 
 /**
  * A form. `controls` gives its controls, `check` the faults of its values by field, and `send` does what it is for; what `send` throws is
- * shown beside the field to which it belongs, or above the form. `calm` hides what is shown above, and `allow` its button if
- * nothing can be sent. `look` is the class of its button. What was typed
- * is kept under `key` until it is sent; `send` gives false if it was not.
+ * shown beside the field to which it belongs, or above the form. `calm` hides what is shown above, and `allow` its button if nothing can
+ * be sent. `look` is the class of its button. What was typed is kept under `key` until it is sent; `send` gives false if it was not.
  */
 export function form({ title, controls, parts, verb, check, send, autocomplete = 'off', look, key }) {
   const problem = element('div', { class: 'problem', role: 'alert', hidden: true });
@@ -176,8 +177,13 @@ function faultNamed(error, controls) {
   return controls.some(one => one.name === name) ? { [name]: inWords(error.error, error.item) } : {};
 }
 
-/** Rows of a name and a text. */
-export const details = rows => element('dl', {}, rows.map(([name, text]) => element('div', {}, element('dt', {}, name), element('dd', {}, text))));
+/** Rows of a name and a text, which is a link if there is an address for it. */
+export function details(rows) {
+  const linked = (text, href) => (href ? element('a', { href, target: '_blank', rel: 'noopener noreferrer' }, text) : text);
+  const told = (name, text) => element('div', {}, element('dt', {}, name), element('dd', {}, linked(text, addressOf(name, text))));
+  return element('dl', {}, rows.map(row => told(...row)));
+}
+
 /** A state as a word with a mark of its own. */
 export const badge = (state, text) => element('span', { class: `badge ${state}` }, text);
 

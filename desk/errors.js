@@ -3,24 +3,24 @@ import { POLICIES } from './forms.js';
 
 /** The errors by their names, in the order in which the office names the first. */
 export const ERRORS = {
-  line: 'This line is not a line of a script. Write the moment, the token, the method, the path and the body with one space between them.',
+  line: 'This is not a line of a script. Write the moment, the token, the method, the path and the body with one space between them.',
   head: 'The office could not read the head of the request. Check the program that sent it.',
   encoding: 'The body was sent in pieces or encoded. Send it whole, with its length.',
-  length: 'The length of the body is missing digits or was given twice. Check the program that sent it.',
+  length: 'The length of the body is malformed or was given twice. Check the program that sent it.',
   large: 'This is too large: at most 65,536 bytes can be sent. Make the file smaller.',
-  short: 'The connection ended before all was sent. Send it again.',
+  short: 'The connection ended before everything was sent. Send it again.',
   route: 'The office has no such address. Check the path, or reload this page in case it is out of date.',
   method: 'The office does not do this at this address. Reload this page in case it is out of date.',
-  body: 'The office could not read what was sent. Send one JSON object, or nothing where nothing is wanted.',
+  body: 'The office could not read what was sent. Send one JSON object, or no body where none is expected.',
   field: 'One part of what was sent is missing or malformed. Correct it and send it again.',
   ranges: 'The range file has a fault. Correct the file and choose it again.',
-  clock: 'The clock of the office is wrong. Nothing can be done until the authority sets it. Please tell them.',
+  clock: 'The clock of the office is wrong. Nothing works until the authority sets it. Please tell the authority.',
   token: 'This token is unknown, has expired or was revoked. Check that you copied all of it, or ask the authority for another.',
-  kind: 'This token is for another kind of work. Sign in with your token for this one.',
+  kind: 'This token is for another kind of work. Sign in with a token for this work.',
   ref: 'You have used this reference for another request. Look at it in your list, or choose another reference.',
-  request: 'There is no such request among those that you may see. Go back to the list and reload it.',
+  request: 'There is no such request among those that you may see. Go back to the list.',
   principal: 'This account has not named you as its agent, or has stopped doing so. Ask them to name you.',
-  closed: 'This request is not waiting any more: it was approved, declined or withdrawn. Reload it to see which.',
+  closed: 'This request is no longer waiting: it was approved, declined or withdrawn. Open it again to see which.',
   registry: 'There is no registry of this name. Choose one from the list of registries.',
   range: 'This value is larger than the largest of the registry. Choose a smaller one.',
   policy: 'No value can be asked for here: the range is reserved, or its policy assigns no values. Choose another value or another policy.',
@@ -29,7 +29,7 @@ export const ERRORS = {
   entry: 'There is no such value, or it is not yours. Check the registry and the value.',
   permanent: 'This value is permanent already. There is nothing to renew, to hold or to make permanent.',
   renewed: 'This allocation was renewed before. Another renewal must cite IESG minutes: name them and send the request again.',
-  expired: 'This allocation has expired and cannot be held any more. It can still be renewed or made permanent.',
+  expired: 'This allocation has expired, so it can no longer be held. It can still be renewed or made permanent.',
   taken: 'Somebody has this value already. Choose another, or ask for the lowest free one.',
   exhausted: 'Nothing is free: every value under this policy is taken, or no block of this size is left. Ask the authority for more room.',
   advice: 'An expert must recommend this request first. Assign an expert and wait for the advice.',
@@ -75,15 +75,13 @@ const EVIDENCE = {
 };
 
 // The faults of a range file, as sentences; `#` stands for the row, counted from 1 below the header, and `@` for what is wrong in it.
-const ROWS = {
+const FAULTS = {
   columns: 'Row # does not have four fields.',
   number: 'Row # has a first or last value that is not a whole number of 0 to 4294967295.',
   treatment: `Row #: @ is not one of the words. Write ${Object.keys(POLICIES).join(', ')} or reserved.`,
-  text: 'The note of row # has @. Use at most 200 characters, ASCII only.',
+  text: 'The note of row # has @. Use ASCII only, at most 200 characters.',
   order: 'Row # ends before it begins.', gap: 'Values before row # are in no row. The first row must begin at 0.',
   overlap: 'Row # begins before the previous row has ended.',
-};
-const WHOLE = {
   header: 'The first line must be: lo,hi,treatment,note', empty: 'The file has no ranges.',
   'too-many': 'The file has more than 64 ranges.', end: 'The last range does not end at the largest value.',
 };
@@ -93,16 +91,17 @@ export function faultInWords(fault, ranges = []) {
   const [word, place, part] = fault.split(' '), at = Number(place), { lo, treatment, note = '' } = ranges[at] ?? {};
   const from = at ? ranges[at - 1]?.hi + 1 : 0;
   if (word === 'gap' && lo !== undefined) return `${lo - 1 > from ? `Values ${from} to ${lo - 1} are` : `Value ${from} is`} in no row.`;
-  const odd = part === 'text' ? [...note].find(letter => letter < ' ' || letter > '~') ?? (note && `${note.length} characters`) : treatment;
-  const sentence = WHOLE[fault] ?? ROWS[word === 'row' ? part : word];
-  return sentence ? sentence.replace('#', at + 1).replace('@', () => (odd ? `"${odd}"` : 'something')) : `The fault is: ${fault}.`;
+  const odd = part === 'text' ? [...note].find(letter => letter < ' ' || letter > '~') : treatment;
+  const told = odd ? `"${odd}"` : part === 'text' && note ? `${note.length} characters` : 'something';
+  const sentence = FAULTS[word === 'row' ? part : word];
+  return sentence ? sentence.replace('#', at + 1).replace('@', () => told) : `The fault is: ${fault}.`;
 }
 
 /** An error of the office as one or two sentences that say what to do. */
 export function inWords(error, item) {
   const more = { field: FORMS[item], evidence: EVIDENCE[item], ranges: item && faultInWords(item) };
   if (Object.hasOwn(more, error) && more[error]) return more[error];
-  if (error === 'status 403') return 'Clerks can use the desk only from the office\'s network.';
+  if (error === 'status 403') return "Clerks can use the desk only from the office's network.";
   return Object.hasOwn(ERRORS, error) ? ERRORS[error] : `The office refused this: ${error}. Ask the authority what it means.`;
 }
 

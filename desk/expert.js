@@ -2,7 +2,7 @@
 import { ask } from './office.js';
 import { button, control, details, element, form } from './dom.js';
 import { table } from './list.js';
-import { STATES, VERDICTS, faultOf, inWords, rowsOf, waitingFirst } from './forms.js';
+import { STATES, VERDICTS, inWords, rowsOf, waitingFirst } from './forms.js';
 
 /** The requests that are assigned to the caller. */
 export async function queue(app) {
@@ -24,7 +24,6 @@ function review(app, row) {
   const advise = form({
     title: 'My advice', verb: 'Send my advice', key: `advise ${row.account}/${row.reference}`,
     controls: [control('verdict', { value: row.advice?.verdict }), control('text', { value: row.advice?.text })],
-    check: values => ({ verdict: faultOf('verdict', values.verdict), text: faultOf('text', values.text) }),
     send: async ({ verdict, text }) => {
       await ask('PUT', `/queue/${row.account}/${row.reference}`, { text, verdict });
       await app.go('queue', `Your advice on ${row.reference} of ${row.account} is recorded. You can change it while the request waits.`);

@@ -24,12 +24,12 @@ const TRACKS = { standards: 'Standards Track', bcp: 'Best Current Practice', inf
 export const KINDS = {
   code: { title: 'A value', says: 'A permanent value of a registry.' },
   early: { title: 'An early allocation', says: 'A value for one year, while its specification is still an Internet-Draft (RFC 7120).' },
-  renew: { title: 'Renew an early allocation', says: 'An early allocation that you have lasts another year.' },
-  permanent: { title: 'Make an early allocation permanent', says: 'An early allocation that you have does not expire any more.' },
+  renew: { title: 'Renew an early allocation', says: 'Your early allocation lasts another year.' },
+  permanent: { title: 'Make an early allocation permanent', says: 'Your early allocation no longer expires.' },
   block: { title: 'A block of MAC addresses', says: 'Addresses for your devices: MA-L, MA-M or MA-S.' },
 };
 
-export const SIZES = { 'MA-L': 'MA-L: 16,777,216 addresses', 'MA-M': 'MA-M: 1,048,576 addresses', 'MA-S': 'MA-S: 4,096 addresses' };
+const SIZES = { 'MA-L': 'MA-L: 16,777,216 addresses', 'MA-M': 'MA-M: 1,048,576 addresses', 'MA-S': 'MA-S: 4,096 addresses' };
 export const STATES = { pending: 'Waiting', approved: 'Approved', declined: 'Declined', withdrawn: 'Withdrawn' };
 export const VERDICTS = { for: 'For: I recommend approval', against: 'Against: I do not recommend approval' };
 export const CAPABILITIES = { applicant: 'Applicant', expert: 'Expert', clerk: 'Clerk' };
@@ -48,18 +48,18 @@ export const FIELDS = {
   least: { label: 'Policy' },
   label: { label: 'Name of the value', hint: `What the registry will call it, for example the name of your option or message. ${PLAIN}` },
   contact: { label: 'Contact', hint: `Whom to ask about this value: a name and an e-mail address (RFC 8126, section 4). It is not published. ${PLAIN}` },
-  specification: { label: 'Specification', hint: 'Where the permanent, public specification is: its title or its web address. It must be detailed enough for independent implementations to work together (RFC 8126, section 4.6).' },
+  specification: { label: 'Specification', hint: `Where the permanent, public specification is: its title or its web address. It must be detailed enough for independent implementations to work together (RFC 8126, section 4.6). ${PLAIN}` },
   'rfc-number': { label: 'Number of the RFC', form: 'rfc', hint: 'For example 9999.' },
   'rfc-stream': { label: 'Stream of the RFC', options: STREAMS },
   'rfc-track': { label: 'Status of the RFC', options: TRACKS },
-  minute: { label: 'IESG minutes', hint: 'The minutes or message by which the IESG approved the assignment (RFC 8126, section 4.10).' },
-  draft: { label: 'Internet-Draft', hint: 'The draft that describes the value well enough to use it, for example draft-example-protocol-03 (RFC 7120, section 2).' },
+  minute: { label: 'IESG minutes', hint: `The minutes or message by which the IESG approved the assignment (RFC 8126, section 4.10). ${PLAIN}` },
+  draft: { label: 'Internet-Draft', hint: `The draft that describes the value well enough to use it, for example draft-example-protocol-03 (RFC 7120, section 2). ${PLAIN}` },
   stable: { label: 'The specification is stable: a later version will still work with implementations of this one.' },
   interest: { label: 'There is enough interest in early implementation, or a risk that others will use the value without an allocation.' },
-  chair: { label: 'Approval of the working group chairs', hint: 'Who approved the early allocation, and when or in which message (RFC 7120, section 3.1).' },
-  director: { label: 'Approval of the area director', hint: 'Who approved the early allocation, and when or in which message (RFC 7120, section 3.1).' },
+  chair: { label: 'Approval of the working group chairs', hint: `Who approved the early allocation, and when or in which message (RFC 7120, section 3.1). ${PLAIN}` },
+  director: { label: 'Approval of the area director', hint: `Who approved the early allocation, and when or in which message (RFC 7120, section 3.1). ${PLAIN}` },
   will_be_rfc: { label: 'The specification will be published as an RFC.' },
-  iesg: { label: 'IESG minutes', hint: 'This allocation was renewed before. The IESG must approve another renewal: cite its minutes (RFC 7120, section 3.3).' },
+  iesg: { label: 'IESG minutes', hint: `This allocation was renewed before. The IESG must approve another renewal: cite its minutes (RFC 7120, section 3.3). ${PLAIN}` },
   size: { label: 'Size', options: SIZES },
   organization: { label: 'Organization', hint: `As it should be listed with the block. ${PLAIN}` },
   address: { label: 'Address of the organization', hint: `On one line. ${PLAIN}` },
@@ -67,7 +67,7 @@ export const FIELDS = {
   agent: { label: 'Account of the agent', form: 'name', hint: 'This account gets to read your requests. Check the spelling.' },
   account: { label: 'Account', form: 'name', hint: 'Small letters, digits and hyphens, at most 32.' },
   expert: { label: 'Account of the expert', form: 'name', hint: 'This account gets to read the request, and cannot be removed. Check the spelling.' },
-  name: { label: 'Name of the registry', form: 'name', hint: 'Small letters, digits and hyphens, at most 32.' },
+  name: { label: 'Name of the registry', form: 'name', hint: 'Small letters, digits and hyphens, at most 32. Its title on the site comes from notes.csv.' },
   max: { label: 'Largest value', form: 'number', hint: 'The last range must end here.' },
   prefix: { label: 'Prefix', form: 'prefix', hint: 'Six hexadecimal digits, for example 001A2B.' },
   text: { label: 'Your advice', hint: `The clerks read it. The applicant does not. ${PLAIN}` },
@@ -165,7 +165,7 @@ export function faultsOf(kind, values, page) {
   for (const name of [...own, ...needed, ...optional, 'reference']) {
     const isNeeded = !optional.includes(name), text = values[name] ?? '';
     const fault = name === 'least' ? (text ? null : 'Choose one.')
-      : MARKS.includes(name) ? (isNeeded && text !== true ? 'Tick this to go on. If it is not so, this request cannot be made yet.' : null)
+      : MARKS.includes(name) ? (isNeeded && text !== true ? 'Tick this if it is true. If it is not, you cannot make this request yet.' : null)
         : faultOf(name, text, isNeeded);
     if (fault) faults[name] = fault;
   }
@@ -276,6 +276,12 @@ export function rowsOf(ask) {
     else rows.push(MARKS.includes(name) ? ['Statement', FIELDS[name].label] : [FIELDS[name].label, String(value)]);
   }
   return rows;
+}
+
+/** Where a row of a request can be read about: on the page of its registry, or at the address that its specification is. */
+export function addressOf(name, text) {
+  if (name === FIELDS.registry.label) return `../registries/${text}.html`;
+  return name === FIELDS.specification.label && /^https?:\/\/[^ ]+$/.test(text) ? text : undefined;
 }
 
 /** The values of a form that spells this ask. */

@@ -68,6 +68,6 @@ function tools(caption, columns, states, at, draw) {
   const search = element('input', {
     type: 'search', autocomplete: 'off', 'aria-label': `Search: ${caption}`, placeholder: 'Search', oninput: change('text'), value: at.text,
   });
-  return element('div', { class: 'tools', role: 'search' }, states ? menu('state', 'State', { '': 'All states', ...states }) : null, search,
+  return element('div', { class: 'tools', role: 'search', 'aria-label': caption }, states ? menu('state', 'State', { '': 'All states', ...states }) : null, search,
     menu('order', 'Order', { '': 'Usual order', ...Object.fromEntries(orders) }));
 }

@@ -1,9 +1,7 @@
 // Asks the office. The token is kept here and nowhere else.
 import { hexOf } from './forms.js';
 
-let token = null, caller = 0;
-let tell = () => {};
-let end = () => {};
+let token = null, caller = 0, tell, end;
 
 /** The office refused: its status, the name of the error, and the part that it names. */
 export class Refusal extends Error {
@@ -20,7 +18,6 @@ export class Gone extends Error {}
 
 /** From now on requests carry this token, or none. Those of the caller before are not sent again. */
 export const carry = text => { token = text; caller += 1; };
-export const carries = () => token !== null;
 
 /** The digits by which the office lists the token in use, if the browser can tell them. */
 export async function ownDigest() {
@@ -28,11 +25,9 @@ export async function ownDigest() {
   return digest && hexOf(new Uint8Array(digest)).slice(0, 12);
 }
 
-/** Where to say what is happening to a request: it is given a sentence, or an empty text once an answer is there. */
-export const tellBy = listener => { tell = listener; };
-/** What to do once the token does not work any more. */
-export const endBy = listener => { end = listener; };
-const LOST = 'The office does not answer. Whether it got your request is not known; sending the same again is safe. Try again in a minute.';
+/** From now on `tell` is given a sentence about a slow request, or an empty text once it is answered, and `end` is called once the token no longer works. */
+export const listen = listeners => { ({ tell, end } = listeners); };
+const LOST = 'The office does not answer. It may or may not have your request. You can safely send the same again. Try again in a minute.';
 const BUSY = 'Too many requests came from your network. Nothing was done. Try again in a minute.';
 const PAUSES = [500, 1500, 4000, 8000];
 const SLOW = 4000, PATIENCE = 40000;

@@ -1,7 +1,7 @@
 // Tests what the page in desk/ does without a document: forms to bodies, errors to sentences, policies to evidence.
 // usage: node --test tools/desk.test.mjs
 import assert from 'node:assert/strict';
-import { cpSync, mkdtempSync, readFileSync, rmSync, writeFileSync } from 'node:fs';
+import { cpSync, mkdtempSync, readFileSync, readdirSync, rmSync, writeFileSync } from 'node:fs';
 import { tmpdir } from 'node:os';
 import { after, test } from 'node:test';
 
@@ -103,6 +103,36 @@ test('texts are printable ASCII, 1 to 200', () => {
   assert.match(forms.faultOf('label', 'a\tb'), /is not possible here\. Use letters without accents/);
   assert.equal(forms.faultOf('label', '', false), null);
   assert.notEqual(forms.faultOf('reference', 'a/b'), null);
+});
+
+test('what a text can hold is said before it is typed', () => {
+  const texts = Object.keys(forms.FIELDS).filter(name => /"\u00fc" is not possible here/.test(forms.faultOf(name, '\u00fc')));
+  const needed = Object.keys(forms.POLICIES).flatMap(policy => ['code', 'early', 'renew'].flatMap(kind => forms.evidenceFor(kind, policy, true).needed));
+  for (const name of new Set([...needed, 'label', 'organization', 'address', 'reason', 'text'])) {
+    const { form, options, label, hint } = forms.FIELDS[name], isMark = label.endsWith('.');
+    if (!form && !options && !isMark) assert.match(hint, / At most 200 characters, without accents\.$/, name);
+    assert.equal(texts.includes(name), !form && !options, name);
+  }
+});
+
+test('one word for one thing, and none that people do not say', () => {
+  const files = readdirSync(new URL('../desk', import.meta.url)).filter(name => /\.(js|html)$/.test(name));
+  const odd = [/\b[Tt]ake (it )?away\b/, /\btaken away\b/, /\bAnother year\b/, /\bLet (it|an account) read\b/, /\bworks no longer\b/, /\bany more\b/,
+    /\bRegister\b/, /\bin place of an early one\b/, /\bcannot be kept\b/, /\bnothing is wanted\b/, /\bthat was given\b/, /\bit is not so\b/, /\bthat you have lasts\b/];
+  for (const file of files) {
+    const told = read(`desk/${file}`).split('\n').filter(line => !/^ *(\/\/|\/?\*)/.test(line)).join('\n');
+    for (const words of odd) assert.doesNotMatch(told, words, file);
+  }
+});
+
+test('what a request names leads to where it can be read about', () => {
+  const address = (name, text) => forms.addressOf(name, text);
+  assert.equal(address('Registry', 'codes'), '../registries/codes.html');
+  for (const text of ['https://example.org/a?b=c#d', 'http://example.org']) assert.equal(address('Specification', text), text);
+  for (const text of ['javascript:alert(1)', 'data:text/html,x', 'see https://example.org', 'https://example.org is it', 'https://']) assert.equal(address('Specification', text), undefined, text);
+  assert.equal(address('Name of the value', 'https://example.org'), undefined);
+  const names = forms.rowsOf({ ...SOME.code, specification: 'https://example.org' }).filter(row => forms.addressOf(...row)).map(([name]) => name);
+  assert.deepEqual(names, ['Registry', 'Specification']);
 });
 
 test('tokens, references and days', () => {
@@ -292,10 +322,12 @@ test('each item that an error can name has a sentence', () => {
   const told = rows => { const { fault, ranges } = forms.rangesOf(`lo,hi,treatment,note\n${rows.join('\n')}\n`); return errors.faultInWords(fault, ranges); };
   assert.match(told(['0,1,Expert Review,']), /^Row 1: "Expert Review" is not one of the words\. Write private-use, .* or reserved\.$/);
   assert.match(told(['0,1,reserved,M\u00fcll']), /^The note of row 1 has "\u00fc"\./);
-  assert.match(told([`0,1,reserved,${'x'.repeat(201)}`]), /^The note of row 1 has "201 characters"\./);
+  assert.match(told([`0,1,reserved,${'x'.repeat(201)}`]), /^The note of row 1 has 201 characters\. Use ASCII only, at most 200 characters\.$/);
   assert.equal(told(['0,99,reserved,', '120,130,reserved,']), 'Values 100 to 119 are in no row.');
   assert.equal(told(['1,99,reserved,']), 'Value 0 is in no row.');
-  assert.equal(errors.inWords('status 403'), "Clerks can use the desk only from the office's network.");
+  const elsewhere = "Clerks can use the desk only from the office's network.";
+  assert.equal(errors.inWords('status 403'), elsewhere);
+  for (const proxy of ['nginx-registry.conf', 'Caddyfile']) assert.ok(read(`packaging/examples/${proxy}`).includes(elsewhere), proxy);
 });
 
 test('errors belong to fields', () => {

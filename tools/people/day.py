@@ -4,6 +4,7 @@ import re
 from people.compared import counted, same_tokens, same_waiting
 from people.office import CLERK
 from people.person import judge
+from people.tasks import within
 
 RANGES = 'lo,hi,treatment,note\n0,99,first-come-first-served,\n100,199,expert-review,\n200,239,standards-action,\n240,255,reserved,kept for later\n'
 
@@ -11,18 +12,9 @@ RANGES = 'lo,hi,treatment,note\n0,99,first-come-first-served,\n100,199,expert-re
 def a_day(office, people, folder):
     alice, xan, clerk = people
     clerk.sign_in(CLERK)
-    clerk.sees('No request waits.')
-    clerk.go('Registries')
-    (folder / 'codes.csv').write_text(RANGES)
-    clerk.control('Range file (CSV)').send_keys(str(folder / 'codes.csv'))
-    clerk.sees('Ranges in this file')
-    shown = clerk.rows('Ranges in this file')
-    judge(shown[1] == ['100', '199', 'Expert Review', ''] and len(shown) == 4, f'the preview is {shown}')
-    judge(clerk.control('Largest value').get_attribute('value') == '255', 'the largest value is not taken from the file')
-    clerk.fill('Name of the registry', 'codes')
-    clerk.click('Define this registry')
-    clerk.click('Define')
-    clerk.status('The registry codes is defined.')
+    clerk.sees('No requests are waiting.')
+    with within(clerk, 3, 'define a registry'):
+        defined(clerk, folder)
     judge(office.ask('GET', '/registries') == ['codes'], 'the registry is not defined')
     clerk.go('Prefixes')
     clerk.fill('Prefix', '001a2b')
@@ -36,6 +28,20 @@ def a_day(office, people, folder):
     results(office, alice, tokens['alice'], clerk)
     agents(office, alice, tokens)
     return tokens
+
+
+def defined(clerk, folder):
+    clerk.go('Registries')
+    (folder / 'codes.csv').write_text(RANGES)
+    clerk.control('Range file (CSV)').send_keys(str(folder / 'codes.csv'))
+    clerk.sees('Ranges in this file')
+    shown = clerk.rows('Ranges in this file')
+    judge(shown[1] == ['100', '199', 'Expert Review', ''] and len(shown) == 4, f'the preview is {shown}')
+    judge(clerk.control('Largest value').get_attribute('value') == '255', 'the largest value is not taken from the file')
+    clerk.fill('Name of the registry', 'codes')
+    clerk.click('Define this registry')
+    clerk.click('Define')
+    clerk.status('The registry codes is defined.')
 
 
 def granted(office, clerk, account, kind):
@@ -154,7 +160,7 @@ def experts_and_clerks(office, xan, clerk, token):
     clerk.sees('No expert is assigned. You can approve once an expert recommends it.')
     clerk.fill('Account of the expert', 'xan')
     clerk.click('Assign')
-    clerk.status('The request is assigned to xan.')
+    clerk.status(f'{name["Green"]} of alice is assigned to xan.')
     same_waiting(office, clerk)
     xan.sign_in(token)
     xan.click(f'Give advice: {name["Green"]} of alice')

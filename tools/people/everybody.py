@@ -1,4 +1,4 @@
-"""What must hold for everybody: the reader's own colours, the keyboard, narrow screens."""
+"""What must hold for everybody: how pages look, the reader's own colours, the keyboard, narrow screens, sessions."""
 from people.office import CLERK
 from people.person import judge, narrow
 from people.tasks import token_of, within
@@ -13,6 +13,15 @@ MARKS = '''const shows = (node, part) => { const style = getComputedStyle(node, 
     const tab = is => document.querySelector(is ? 'nav a[aria-current]' : 'nav a:not([aria-current])');
     return { paper: getComputedStyle(document.body).backgroundColor, mark: shows(document.querySelector('.badge.approved'), '::before')[0],
         tabs: [true, false].map(is => shows(tab(is))[1]) }'''
+
+
+COLOURS = '''return [...document.querySelectorAll('main button')].filter(one => one.checkVisibility()).map(one => [one.textContent, getComputedStyle(one).backgroundColor])'''
+# Where texts begin: the footer and the content from the left, the first text of a row and its button from the top.
+EDGES = '''const first = node => { const range = document.createRange(); range.selectNodeContents(node); return range.getBoundingClientRect() };
+    const [row] = document.querySelector('tbody').rows;
+    return { sides: ['footer a', 'main h2'].map(css => document.querySelector(css).getBoundingClientRect().left), tops: [row.cells[0], row.querySelector('button')].map(node => first(node).top),
+        rule: ['footer', 'main table'].map(css => document.querySelector(css).getBoundingClientRect().width) }'''
+GREEN, RED = 'rgb(11, 107, 58)', 'rgb(179, 38, 30)'
 
 
 def emulated(person, **features):
@@ -31,6 +40,47 @@ def forced_colours(person):
     looks = person.script('return [...document.querySelectorAll("input[role=switch]")].map(one => getComputedStyle(one).appearance)')
     judge(looks and all(look == 'auto' for look in looks), f'the switches look {looks}')
     emulated(person)
+
+
+def looks(office, clerk):
+    """One action of a case is green and what declines is red, texts and lines begin where others do, and a list's search comes below its title."""
+    clerk.go('Waiting')
+    edges = clerk.script(EDGES)
+    judge(all(abs(one - other) <= 1.5 for one, other in edges.values()), f'the edges are {edges}')
+    judge('State' not in clerk.script('return [...document.querySelectorAll("thead th")].map(one => one.textContent)'), 'what waits has a column that says so')
+    row = next(one for one in office.ask('GET', '/desk/pending', CLERK) if one['ask'].get('least') == 'first-come-first-served')
+    clerk.click(f'Open {row["reference"]} of {row["account"]}')
+    clerk.sees('the lowest that is free now.')
+    colours = clerk.script(COLOURS)
+    judge([name for name, colour in colours if colour == GREEN] == ['Approve'], f'the colours are {colours}')
+    judge([name for name, colour in colours if colour == RED] == ['Decline'], f'the colours are {colours}')
+    headings = clerk.script('return [...document.querySelectorAll("main h3")].map(one => one.textContent)')
+    judge(sorted(headings) == ['Ask an expert', 'Decline', 'Experts'], f'the headings of a case are {headings}')
+    judge(clerk.script(NAMES) == [], f'in a case names do not begin with what is seen: {clerk.script(NAMES)}')
+    clerk.go('Registries')
+    clerk.click('Open ports')
+    clerk.sees('Early allocations')
+    judge(clerk.script(NAMES) == [], f'in a registry names do not begin with what is seen: {clerk.script(NAMES)}')
+    clerk.go('Tokens')
+    tools = clerk.script('return [...document.querySelectorAll(".tools")].map(one => one.previousElementSibling?.textContent)')
+    judge(tools == ['All tokens'], f'the searches are below {tools}')
+
+
+def sessions(person):
+    """Nothing is shown after signing out, and a second tab has a session of its own."""
+    person.sign_in(token_of('acme'))
+    person.sees('Details')
+    first = person.driver.current_window_handle
+    person.driver.switch_to.new_window('tab')
+    person.driver.get(person.address)
+    person.sees('Your token')
+    person.driver.close()
+    person.driver.switch_to.window(first)
+    person.go('My values')
+    person.sign_out()
+    person.driver.back()
+    person.sees('Your token')
+    judge(not person.rows('My values') and person.script('return location.hash') == '', 'Back shows something after signing out')
 
 
 def by_name_and_role(clerk):
@@ -65,13 +115,17 @@ def everybody(office, clerk, person):
     person.sign_in(token_of('acme'))
     person.sees('Details')
     forced_colours(person)
-    judge(person.script(NAMES) == [], f'names do not begin with what is seen: {person.script(NAMES)}')
+    for section in ('My requests', 'New request', 'My values', 'My blocks', 'Agents'):
+        person.go(section)
+        judge(person.script(NAMES) == [], f'{section}: names do not begin with what is seen: {person.script(NAMES)}')
     person.sign_out()
+    sessions(person)
     person.sign_in(token_of('moduya'))
     person.sees('Requests to review')
     judge(person.script(NAMES) == [], f'names do not begin with what is seen: {person.script(NAMES)}')
     person.sign_out()
     by_name_and_role(clerk)
+    looks(office, clerk)
     [held] = office.ask('GET', '/holdings', token_of('acme'))
     with within(clerk, 1, 'who holds a block'):
         clerk.go('All requests')

@@ -71,6 +71,11 @@ class Person:
         self.clicks += 1
         self.named('button, a, summary', name).click()
 
+    def click_twice(self, name):
+        from selenium.webdriver.common.action_chains import ActionChains
+        self.clicks += 2
+        ActionChains(self.driver).double_click(self.named('button', name)).perform()
+
     def control(self, label):
         find = '''const label = [...document.querySelectorAll('label')].find(one => one.checkVisibility() && one.textContent.replace(' (optional)', '') === arguments[0]); return label && label.control'''
         return self.until(lambda: self.script(find, label), f'the field {label!r}')

@@ -39,7 +39,7 @@ def prepared(office):
         asks(office, account, 'p-843', value=843)
     for number in range(3):
         asks(office, 'oceanic', f'o-{number}', least='first-come-first-served')
-    for number in range(6):
+    for number in range(10):
         asks(office, 'zz', f'z-{number}', value=700 + number)
     asks(office, 'acme', 'x-1', value=1000, specification='https://example.org/spec, 2nd edition')
     for account in ('acme', 'zephyr'):
@@ -49,9 +49,10 @@ def prepared(office):
 
 def in_lists(office, clerk):
     """Lists are counted, searched in what is seen, and ordered; from a case the way leads to the same place, by a button and by the browser."""
-    clerk.go('Waiting')
     waiting = office.ask('GET', '/desk/pending', CLERK)
-    clerk.sees(f'{len(waiting)} in all')
+    with within(clerk, 1, 'how many wait'):
+        clerk.go('Waiting')
+        clerk.sees(f'{len(waiting)} in all')
     search = clerk.named('input', 'Search: Waiting requests')
     for text, right in [('kind', 0), ('FIRST COME FIRST SERVED', sum(row['ask'].get('least') == 'first-come-first-served' for row in waiting)), ('oceanic', 3)]:
         search.clear()
@@ -71,7 +72,10 @@ def in_lists(office, clerk):
         focus = clerk.until(lambda: clerk.script('return document.activeElement.getAttribute("aria-label")'), 'the focus')
         judge(focus == 'Open o-1 of oceanic', f'the focus is on {focus}')
         judge(clerk.script('return document.querySelector("input[type=search]").value') == 'oceanic', 'the search is lost')
-    clerk.go('All requests')
+    with within(clerk, 1, 'what an account has'):
+        clerk.go('All requests')
+        clerk.named('input', 'Search: All requests').send_keys('oceanic')
+        clerk.until(lambda: [row[1] for row in clerk.rows('All requests')] == ['o-0', 'o-1', 'o-2'], 'what an account has')
     clerk.go('Waiting')
     judge(len(listed()) == len(waiting), 'a section that is chosen anew has a search')
 
@@ -93,7 +97,7 @@ def clerks_tasks(office, clerk):
     with within(clerk, 1, 'open a contested request'):
         clerk.click('Open p-843 of acme')
         clerk.sees('Approve gives acme value 843 of ports.')
-    clerk.sees('1 other request wants just this value.')
+    clerk.sees('1 other request wants this value.')
     with within(clerk, 2, 'the next decision'):
         clerk.click('Approve')
         clerk.click('Approve and open the next')
@@ -113,10 +117,11 @@ def clerks_tasks(office, clerk):
     expiring(office, clerk)
     tokens_of_others(clerk)
     office.relay.mode = ['foreign']
-    clerk.named('nav a', 'Waiting').click()
-    clerk.sees("Clerks can use the desk only from the office's network.")
-    clerk.click('Try again')
-    clerk.sees('in all')
+    with within(clerk, 2, 'the desk from home'):
+        clerk.click('Waiting')
+        clerk.sees("Clerks can use the desk only from the office's network.")
+        clerk.click('Try again')
+        clerk.sees('in all')
 
 
 def tokens_of_others(clerk):
@@ -146,12 +151,16 @@ def too_early(office, clerk):
     """A request that needs an expert, as the next one: it cannot be approved yet, and a mistyped account is asked about."""
     clerk.sees('No expert is assigned. You can approve once an expert recommends it.')
     office.relay.log.clear()
-    clerk.click('Approve')
-    clerk.status('No expert is assigned.')
+    with within(clerk, 1, 'approve too early'):
+        clerk.click('Approve')
+        clerk.status('No expert is assigned.')
     judge(clerk.script('return document.querySelector("dialog") === null') and not any('approve' in line for line in office.relay.log), 'Approve does something without advice')
     clerk.control('Account of the expert').click()
     offered = clerk.until(lambda: clerk.script('return [...document.querySelectorAll("#experts option")].map(one => one.value)'), 'the experts')
     judge('moduya' in offered and 'acme' not in offered, f'the experts to choose from are {offered}')
+    clerk.fill('Account of the expert', 'acme')
+    clerk.click('Assign')
+    clerk.sees('Applicants cannot be their own experts.')
     clerk.fill('Account of the expert', 'moduyaa')
     clerk.click('Assign')
     clerk.sees("moduyaa has no expert's token.")
@@ -159,7 +168,7 @@ def too_early(office, clerk):
     clerk.fill('Account of the expert', 'moduya')
     with within(clerk, 1, 'assign an expert'):
         clerk.click('Assign')
-        clerk.status('The request is assigned to moduya.')
+        clerk.status('x-1 of acme is assigned to moduya.')
     clerk.sees('moduya has not advised yet.')
     judge(office.ask('GET', '/desk/requests/acme/x-1', CLERK)['experts'] == ['moduya'], 'a mistyped account was assigned')
     office.ask('PUT', '/queue/acme/x-1', token_of('moduya'), {'text': 'fine', 'verdict': 'for'})
@@ -185,14 +194,17 @@ def lost(office, clerk):
     for account in ('acme', 'zephyr'):
         asks(office, account, 'last', value=3000)
     clerk.go('Waiting')
+    asks(office, 'zz', 'late', value=3000)
     clerk.click('Open last of zephyr')
     clerk.sees('Approve gives zephyr value 3000 of ports.')
+    clerk.sees('2 other requests want this value.')
     office.ask('PUT', '/desk/approve/acme/last', CLERK)
     clerk.click('Approve')
     clerk.click('Approve')
-    clerk.status('This was not approved')
+    clerk.status('last of zephyr was not approved')
     clerk.sees('Value 3000 was assigned to acme meanwhile. Decline this request.')
-    office.ask('PUT', '/desk/decline/zephyr/last', CLERK, {'reason': 'taken'})
+    for account, reference in (('zephyr', 'last'), ('zz', 'late')):
+        office.ask('PUT', f'/desk/decline/{account}/{reference}', CLERK, {'reason': 'taken'})
 
 
 def expiring(office, clerk):
@@ -217,6 +229,7 @@ def applicants_tasks(office, person):
         person.sign_in(token_of('acme'))
         person.sees('Details')
     asking(office, person)
+    asking_in_vain(person)
     with within(person, 1, 'when my values end'):
         person.go('My values')
     entries = [entry for entry in office.ask('GET', '/registries/ports')['entries'] if entry['assignee'] == 'acme']
@@ -246,7 +259,7 @@ def greeted(person):
 
 
 def asking(office, person):
-    """The lowest free value, a value that is taken, a text that is not possible, and a withdrawal."""
+    """The lowest free value, a withdrawal, and a value that needs an expert."""
     with within(person, 3, 'ask for the lowest free value'):
         begun(person)
         person.sees('values are free: the lowest is ')
@@ -269,31 +282,50 @@ def asking(office, person):
         person.fill('Specification', 'https://example.org/suite')
         person.click('Send the request')
         person.status('is received.')
-    begun(person)
-    person.tick('A value that I choose')
-    person.fill('Value', '843')
-    person.sees('Value 843 is taken: acme p-843.')
-    person.fill('Name of the value', 'M\u00fcnchen')
-    person.click('Send the request')
-    person.sees('"\u00fc" is not possible here. Write "ue", for example.')
+
+
+def asking_in_vain(person):
+    """A value that is taken, a letter that is not possible, and what an early allocation needs, before anything is sent."""
+    with within(person, 3, 'a value that is taken'):
+        begun(person)
+        person.tick('A value that I choose')
+        person.fill('Value', '843')
+        person.sees('Value 843 is taken: acme p-843.')
+    person.sees('At most 200 characters, without accents.')
+    with within(person, 2, 'a letter that is not possible'):
+        person.fill('Name of the value', 'M\u00fcnchen')
+        person.click('Send the request')
+        person.sees('"\u00fc" is not possible here. Write "ue", for example.')
+        person.click('Contact')
+    judge(person.script('return [document.activeElement.name, location.hash]') == ['contact', '#new'], 'the summary of errors does not lead to a field')
+    person.tick('An early allocation')
+    person.sees('An early allocation needs an Internet-Draft')
     person.go('New request')
     person.click('Empty this form')
+    person.until(lambda: 'Empty this form' not in person.text(), 'the empty form')
 
 
 def experts_tasks(office, person):
     """An expert's first request: those that wait come first, and the filter is kept after the advice."""
-    asks(office, 'zephyr', 'x-2', value=1001)
-    office.ask('PUT', '/desk/experts/zephyr/x-2/moduya', CLERK)
+    asks(office, 'zephyr', 'x-2', value=1001, specification='https://example.org/x-2')
+    for path in ('zephyr/x-2', *(f'zz/z-{number}' for number in range(10))):
+        office.ask('PUT', f'/desk/experts/{path}/moduya', CLERK)
     person.sign_in(token_of('moduya'))
     person.sees('Requests to review')
-    person.until(lambda: [row[1] for row in person.rows('Requests assigned to me')] == ['x-2', 'x-1'], 'the list with what waits first')
+    listed = lambda: [row[1] for row in person.rows('Requests assigned to me')]
+    person.until(lambda: [listed()[0], listed()[-1], len(listed())] == ['x-2', 'x-1', 12], 'the list with what waits first')
+    state = person.named('select', 'State: Requests assigned to me')
+    [one for one in state.find_elements('css selector', 'option') if one.text == 'Waiting'][0].click()
+    person.until(lambda: len(listed()) == 11, 'those that wait')
     with within(person, 3, 'advise on a request'):
         person.click('Give advice: x-2 of zephyr')
+        links = person.until(lambda: person.script('return [...document.querySelectorAll("dd a")].map(one => [one.getAttribute("href"), one.target, one.rel])'), 'the links')
         person.choose('Your recommendation', 'Against: I do not recommend approval')
         person.fill('Your advice', 'Too vague')
         person.click('Send my advice')
         person.status('is recorded')
-    judge(person.rows('Requests assigned to me')[0][4] == 'Against: Too vague', 'the advice is not in the list')
+    judge(links == [[place, '_blank', 'noopener noreferrer'] for place in ('../registries/ports.html', 'https://example.org/x-2')], f'a request links to {links}')
+    judge(person.rows('Requests assigned to me')[0][4] == 'Against: Too vague' and len(listed()) == 11, 'the advice is not in the list, or the state is chosen no more')
     person.sign_out()
 
 
@@ -322,12 +354,16 @@ def kept(office, person):
     person.fill('Name of the value', 'Kept')
     person.fill('Contact', 'Acme')
     person.go('My values')
+    value = next(entry['value'] for entry in office.ask('GET', '/registries/ports')['entries'] if entry['assignee'] == 'acme' and 'expires' in entry)
+    person.click(f'Renew value {value} of ports')
+    person.sees('You have begun another request, which is not sent yet.')
+    person.click('Cancel')
     person.go('New request')
     person.until(lambda: [person.control(label).get_attribute('value') for label in ('Value', 'Name of the value', 'Contact')] == ['77', 'Kept', 'Acme'], 'what was typed')
 
 
 def slow(office, person):
-    """A slow answer is told where somebody went meanwhile, and leads nowhere."""
+    """A slow answer, or a refusal, is told where somebody went meanwhile, and leads nowhere."""
     office.relay.mode = ['slow']
     person.click('Send the request')
     person.go('Agents')
@@ -336,6 +372,16 @@ def slow(office, person):
     judge(person.script('return [document.querySelector("h2").textContent, document.activeElement.value]') == ['Agents', 'zo'], 'a slow answer leads away')
     begun(person)
     judge(person.control('Name of the value').get_attribute('value') == '', 'what was sent is still in the form')
+    asks(office, 'acme', 'gone', least='first-come-first-served')
+    person.go('Agents')
+    person.go('My requests')
+    office.relay.mode = ['slow']
+    person.click('Withdraw gone')
+    person.click('Withdraw')
+    office.ask('PUT', '/desk/decline/acme/gone', CLERK, {'reason': 'later'})
+    person.go('Agents')
+    person.status('About what you did before: This request is no longer waiting')
+    begun(person)
 
 
 def begun(person):
@@ -367,7 +413,7 @@ def ended(office, person):
         person.fill('Contact', 'Acme')
         person.until(lambda: 'error' in office.ask('GET', '/requests', token), 'the end of the token')
         person.click('Send the request')
-        person.status('What you typed is here again once you sign in')
+        person.status('What you typed is kept for when you sign in again.')
         person.sign_in(token_of(account))
         person.sees('What each policy needs')
         if account == 'zephyr':
