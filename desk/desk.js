@@ -149,7 +149,7 @@ function signOut(message, isAgain = false) {
   own = {};
   shown += 1;
   document.querySelectorAll('dialog').forEach(dialog => dialog.remove());
-  document.querySelectorAll('input').forEach(input => { input.value = ''; });
+  document.querySelectorAll('input, textarea').forEach(input => { input.value = ''; });
   for (const node of [who, sections]) node.replaceChildren();
   sections.hidden = true;
   forgetPlaces();

@@ -72,7 +72,8 @@ export function control(name, { options, value, onchange, type, optional = false
     value: ['checkbox', 'file'].includes(type) ? undefined : value, checked: type === 'checkbox' && value === true,
     inputmode: ['number', 'rfc'].includes(field.form) ? 'numeric' : undefined,
   };
-  const input = options ?? field.options ? select(common, options ?? field.options, value) : element('input', typed);
+  const input = options ?? field.options ? select(common, options ?? field.options, value)
+    : field.rows ? element('textarea', { ...common, rows: field.rows }, value) : element('input', typed);
   if (onchange && input.localName === 'input' && input.type === 'text') input.addEventListener('input', onchange);
   const fault = element('p', { id: `${id}-fault`, class: 'fault', hidden: true });
   const title = element('label', { for: id }, label, optional ? element('span', { class: 'optional' }, ' (optional)') : null);
@@ -82,7 +83,7 @@ export function control(name, { options, value, onchange, type, optional = false
   return {
     name, node, input, label,
     set: text => { if (type === 'checkbox') input.checked = text; else if (type !== 'file') input.value = text; },
-    get: () => (type === 'checkbox' ? input.checked : type === 'file' ? input.files[0] : input.value.trim()),
+    get: () => (type === 'checkbox' ? input.checked : type === 'file' ? input.files[0] : input.value.trim().replace(/\s*\n\s*/g, ' ')),
     mark: sentence => {
       fault.textContent = sentence ?? '';
       fault.hidden = !sentence;

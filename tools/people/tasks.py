@@ -321,7 +321,7 @@ def experts_tasks(office, person):
         person.click('Give advice: x-2 of zephyr')
         links = person.until(lambda: person.script('return [...document.querySelectorAll("dd a")].map(one => [one.getAttribute("href"), one.target, one.rel])'), 'the links')
         person.choose('Your recommendation', 'Against: I do not recommend approval')
-        person.fill('Your advice', 'Too vague')
+        person.fill('Your advice', 'Too\nvague')
         person.click('Send my advice')
         person.status('is recorded')
     judge(links == [[place, '_blank', 'noopener noreferrer'] for place in ('../registries/ports.html', 'https://example.org/x-2')], f'a request links to {links}')
