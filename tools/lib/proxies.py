@@ -3,6 +3,7 @@ import contextlib
 import os
 import pathlib
 import re
+import resource
 import subprocess
 
 from lib.office import free_port, reachable
@@ -13,6 +14,8 @@ KEYS = '/etc/letsencrypt/live/registry.example.org'
 # The folder has these parts: the published site, the page in desk/, what is kept for slow readers, and the log.
 PARTS = SITE, DESK, KEPT = 'site', 'desk', 'kept'
 LOG = 'access.log'
+# What systemd gives a service that does not say: descriptors, and the options of a folder in memory.
+DESCRIPTORS, ROOM = 1024, 'nodev,mode=0755,size=10%,nr_inodes=400k'
 
 
 def changed(text, changes):
@@ -34,8 +37,20 @@ def own_places(folder, office):
     return {'127.0.0.1:880': f'127.0.0.1:{office}', '/srv/www/registers': f'{folder}/{SITE}', '/usr/share/reg-cli/desk': f'{folder}/{DESK}'}
 
 
+def limited(folder, words, service):
+    """The words that start nginx with the limits that this text gives its service, which only root can set: descriptors, or as many as there may be here, and
+    a folder in memory."""
+    if os.geteuid():
+        return words
+    files = re.search('^LimitNOFILE=(.*)$', service, re.M)
+    room = re.search('^TemporaryFileSystem=/var/lib/nginx:(.*)$', service, re.M)
+    limits = [f'ulimit -S -n {min(int(files[1]) if files else DESCRIPTORS, resource.getrlimit(resource.RLIMIT_NOFILE)[1])}']
+    limits += [f'mount -t tmpfs -o {ROOM},{room[1]} tmpfs {folder}/{KEPT}'] if room else []
+    return ['unshare', '--mount', 'sh', '-ec', f'{"; ".join(limits)}; exec "$@"', 'sh', *words]
+
+
 def nginx(folder, office, own, changes):
-    """The words that start nginx, by Debian's nginx.conf with the lines of docs/use/OPERATING.md that change it."""
+    """The words that start nginx as its service does, by Debian's nginx.conf with the lines of docs/use/OPERATING.md that change it."""
     syslog = 'syslog:server=unix:/dev/log,nohostname,tag=registry_nginx'
     server = changed((EXAMPLES / 'nginx-registry.conf').read_text(), {
         **own_places(folder, office), '    listen [::]:443 ssl default_server;\n': '', 'listen 443 ': f'listen 127.0.0.1:{own} ',
@@ -43,6 +58,8 @@ def nginx(folder, office, own, changes):
         f'error_log {syslog}': f'error_log {folder}/error.log'})
     own_changes, others = parted(server, changes)
     (folder / 'registry.conf').write_text(changed(server, own_changes))
+    service = (EXAMPLES / 'nginx-service.conf').read_text()
+    of_service, others = parted(service, others)
     [line] = re.findall(r"^sed -i '(.*)' /etc/nginx/nginx.conf", (TOP / 'docs/use/OPERATING.md').read_text(), re.M)
     text = subprocess.run(['sed', line, '/etc/nginx/nginx.conf'], capture_output=True, text=True, check=True).stdout
     kept = ''.join(f'{kind}_temp_path {folder}/{KEPT}/{kind}; ' for kind in ('client_body', 'proxy', 'fastcgi', 'uwsgi', 'scgi'))
@@ -50,7 +67,8 @@ def nginx(folder, office, own, changes):
         **others, 'worker_processes auto;': 'worker_processes 2;',
         '/run/nginx.pid': f'{folder}/pid', '/var/log/nginx/error.log': f'{folder}/error.log', '/var/log/nginx/access.log': f'{folder}/other.log',
         'include /etc/nginx/conf.d/*.conf;': f'{kept}\n', 'include /etc/nginx/sites-enabled/*;': f'include {folder}/registry.conf;'}))
-    return ['nginx', '-e', folder / 'error.log', '-p', folder, '-c', folder / 'nginx.conf', '-g', 'daemon off;']
+    words = ['nginx', '-e', folder / 'error.log', '-p', folder, '-c', folder / 'nginx.conf', '-g', 'daemon off;']
+    return limited(folder, words, changed(service, of_service))
 
 
 def caddy(folder, office, own, changes):

@@ -1,11 +1,13 @@
 """Clients that cost a proxy more than they should, and what they cost it."""
 import contextlib
+import http.server
 import os
 import pathlib
 import socket
 import sqlite3
 import ssl
 import tempfile
+import threading
 import time
 
 from lib.office import ALICE, CLERK, GRANT, RANGES, ask, begin, served
@@ -13,40 +15,62 @@ from lib.proxies import KEPT, SITE, caddy, nginx, proxied
 
 # Crowds come from the first address, and who wants nothing odd from the second.
 CROWD, HONEST = '127.0.0.1', '127.0.0.3'
+# The first bytes of what a client by TLS says first.
+HALF_GREETING = b'\x16\x03\x01\x02\x00\x01\x00\x01\xfc\x03\x03'
 HALF = b'GET /registries HTTP/1.1\r\nHost: localhost\r\nX-Half: '
 HALF_BODY = b'PUT /agents/bob HTTP/1.1\r\nHost: localhost\r\nContent-Length: 9\r\n\r\nhalf'
 # What the system keeps for a reader that does not read.
 ROOM = 4096
+MEGABYTE = bytes(1000000)
 TLS = ssl.SSLContext(ssl.PROTOCOL_TLS_CLIENT)
 TLS.check_hostname, TLS.verify_mode = False, ssl.CERT_NONE
 HEADS, READERS = 3200, 200
-# The seconds after which a proxy has given back the connections, and the most that it may hold meanwhile: seconds, and megabytes.
-FREE, MOST = 80, {'wait': 1, 'memory': 250, 'disk': 128}
+# Readers of all places that nginx gives an address, and of those of three addresses.
+PLACES, ADDRESSES = 8, ['127.0.1.1', '127.0.1.2', '127.0.1.3']
+# The seconds after which a proxy has given back the connections, and the most that it may hold meanwhile: seconds, and megabytes of memory, of all
+# temporary files, and of those on the disk.
+FREE, MOST = 80, {'wait': 1, 'memory': 250, 'kept': 129, 'disk': 1}
+# What readers of three addresses may take of that together: all that nginx has for temporary files.
+MORE = {'addresses': {'kept': 257}}
+# The crowds, and those that ask for so large answers that only nginx keeps anything of them.
+CROWDS = {'greetings': HEADS, 'heads': HEADS, 'bodies': READERS, 'idle': READERS, 'readers': READERS, 'strangers': READERS, 'files': READERS}
+LARGE = {'address': PLACES, 'addresses': PLACES * len(ADDRESSES)}
 # What Debian's Caddy cannot bound, since it counts no requests of an address: others wait while the office answers a crowd that has a token.
 UNBOUNDED = {(caddy, 'readers'): {'wait'}}
 # Without these lines a crowd does harm: what does it, what is replaced in which file, and what is more than it may be.
 BUFFERED = '        buffer_requests\n', '        buffer_requests\n        buffer_responses\n'
-HARMS = [(nginx, 'heads', ('worker_connections 8192', 'worker_connections 768'), 'wait'),
+HARMS = [(nginx, 'greetings', ('worker_connections 8192', 'worker_connections 768'), 'wait'),
+         (nginx, 'greetings', ('LimitNOFILE=65536\n', ''), 'wait'),
          (nginx, 'heads', ('    client_header_timeout 10s;\n', '    client_header_timeout 120s;\n'), 'free'),
          (nginx, 'bodies', ('    client_body_timeout 10s;\n', '    client_body_timeout 120s;\n'), 'free'),
          (nginx, 'readers', ('        limit_conn registry_office 8;\n', ''), 'wait'),
+         (nginx, 'idle', ('    keepalive_timeout 20s;\n', '    keepalive_timeout 120s;\n'), 'free'),
          (nginx, 'readers', ('    send_timeout 10s;\n', '    send_timeout 120s;\n'), 'free'),
+         (nginx, 'address', ('TemporaryFileSystem=/var/lib/nginx:mode=0755,size=256M\n', ''), 'disk'),
+         (nginx, 'address', ('        proxy_max_temp_file_size 16m;\n', ''), 'kept'),
+         (nginx, 'addresses', (',size=256M', ''), 'kept'),
          (caddy, 'heads', ('            read_header 10s\n            read_body 10s\n', ''), 'free'),
          (caddy, 'bodies', ('            read_body 10s\n', ''), 'free'),
+         (caddy, 'idle', ('            idle 1m\n', ''), 'free'),
          (caddy, 'readers', BUFFERED, 'memory'),
          (caddy, 'strangers', ('        ~^GET::/registries/([a-z0-9-]+)$ /registries/${1}.json\n', ''), 'wait'),
          (caddy, 'files', ('            write 60s\n', ''), 'free')]
 
 
-def connected(port, address, seconds, room=None):
-    """A connection by TLS from an address."""
+def reached(port, address, seconds, room=None):
+    """A connection from an address."""
     plain = socket.socket()
     if room:
         plain.setsockopt(socket.SOL_SOCKET, socket.SO_RCVBUF, room)
     plain.settimeout(seconds)
     plain.bind((address, 0))
     plain.connect(('127.0.0.1', port))
-    return TLS.wrap_socket(plain, server_hostname='localhost')
+    return plain
+
+
+def connected(port, address, seconds, room=None):
+    """A connection by TLS from an address."""
+    return TLS.wrap_socket(reached(port, address, seconds, room), server_hostname='localhost')
 
 
 def asks(path, token=''):
@@ -55,12 +79,12 @@ def asks(path, token=''):
     return f'GET {path} HTTP/1.1\r\nHost: localhost\r\n{head}\r\n'.encode()
 
 
-def crowd(port, count, sent, room=None):
+def crowd(port, count, sent, room=None, address=CROWD, come=connected, seconds=10):
     """So many connections on which these bytes were sent, or fewer if the proxy takes no more."""
     peers = []
     with contextlib.suppress(OSError):
         for _ in range(count):
-            peers.append(connected(port, CROWD, 10, room))
+            peers.append(come(port, address, seconds, room))
             peers[-1].sendall(sent)
     return peers
 
@@ -80,8 +104,8 @@ class Watched:
 
     def __init__(self, process, folder, port):
         self.process, self.folder, self.port = process, str(folder), port
-        self.before = self.sockets()
-        self.most = {'memory': 0.0, 'disk': 0.0, 'wait': 0.0}
+        self.before, self.device = self.sockets(), folder.stat().st_dev
+        self.most = dict.fromkeys(MOST, 0.0)
 
     def processes(self):
         children = pathlib.Path(f'/proc/{self.process}/task/{self.process}/children').read_text().split()
@@ -98,14 +122,16 @@ class Watched:
     def sockets(self):
         return sum(name.startswith('socket:') for _, name in self.descriptors())
 
-    def disk(self):
-        """The megabytes of temporary files. They have no names any more."""
-        held = 0
+    def files(self):
+        """The megabytes of all temporary files, and of those on the disk. They have no names any more."""
+        kept = disk = 0
         for path, name in self.descriptors():
             if name.startswith(self.folder):
                 with contextlib.suppress(OSError):
-                    held += path.stat().st_blocks
-        return held / 2048
+                    found = path.stat()
+                    kept += found.st_blocks
+                    disk += found.st_blocks * (found.st_dev == self.device)
+        return kept / 2048, disk / 2048
 
     def memory(self):
         """The megabytes of memory."""
@@ -114,7 +140,7 @@ class Watched:
 
     def look(self):
         """Looks once, and asks as an ordinary client."""
-        for what, found in (('wait', waited(self.port)), ('memory', self.memory()), ('disk', self.disk())):
+        for what, found in zip(MOST, (waited(self.port), self.memory(), *self.files()), strict=True):
             self.most[what] = max(self.most[what], found)
 
     def look_until_free(self, seconds):
@@ -144,14 +170,62 @@ def filled(program, file):
         store.executemany('INSERT INTO entries (registry, value, label, assignee, first, renewed) VALUES (?, ?, ?, ?, ?, ?)', rows)
 
 
+class Quick(http.server.BaseHTTPRequestHandler):
+    """Answers as the quickest office would: about somebody's requests 40 MB, and else nothing."""
+
+    timeout = 10
+
+    def do_GET(self):
+        parts = 40 if self.path == '/requests' else 0
+        self.send_response(200)
+        self.send_header('Content-Length', str(parts * len(MEGABYTE)))
+        self.end_headers()
+        with contextlib.suppress(OSError):
+            for _ in range(parts):
+                self.wfile.write(MEGABYTE)
+
+    def log_message(self, *words):
+        pass
+
+
+@contextlib.contextmanager
+def quick():
+    """The port of the quickest office."""
+    with http.server.ThreadingHTTPServer(('127.0.0.1', 0), Quick) as server:
+        threading.Thread(target=server.serve_forever).start()
+        try:
+            yield server.server_port
+        finally:
+            server.shutdown()
+
+
+@contextlib.contextmanager
+def full(program, file):
+    """The port of an office in a new file. The answer about the requests of ALICE's token has 5 MB, and so has the one about the registry `large`."""
+    filled(program, file)
+    with served(program, file) as port:
+        yield port
+
+
+def bounds(what):
+    """The most that a crowd may cost."""
+    return {**MOST, 'free': FREE, **MORE.get(what, {})}
+
+
 def begun(what, port):
     """The clients of a crowd, each with its request sent."""
+    if what == 'greetings':
+        return crowd(port, HEADS, HALF_GREETING, come=reached, seconds=3)
     if what == 'heads':
         return crowd(port, HEADS, HALF)
     if what == 'bodies':
         return crowd(port, READERS, HALF_BODY)
+    if what == 'idle':
+        return crowd(port, READERS, asks('/registries'))
     if what == 'readers':
         return crowd(port, READERS, asks('/requests', ALICE), ROOM)
+    if what in LARGE:
+        return [peer for address in ADDRESSES[:LARGE[what] // PLACES] for peer in crowd(port, PLACES, asks('/requests', ALICE), ROOM, address)]
     return crowd(port, READERS, asks('/registries/large' if what == 'strangers' else '/site/large.csv'), ROOM)
 
 
@@ -160,8 +234,8 @@ def costs(program, proxy, what, changes=None, harm='free'):
     there was harm before."""
     with tempfile.TemporaryDirectory() as name:
         folder = pathlib.Path(name)
-        filled(program, folder / 'office.db')
-        with served(program, folder / 'office.db') as office, proxied(proxy, folder, office, changes) as (port, process):
+        begins = quick() if what in LARGE else full(program, folder / 'office.db')
+        with begins as office, proxied(proxy, folder, office, changes) as (port, process):
             (folder / SITE / 'registries').mkdir()
             for file in ('large.csv', 'registries/large.json'):
                 (folder / SITE / file).write_bytes(os.urandom(5000000))
@@ -169,22 +243,23 @@ def costs(program, proxy, what, changes=None, harm='free'):
             peers = begun(what, port)
             watched.look()
             began = time.monotonic()
-            is_free = (harm == 'free' or watched.most[harm] < MOST[harm]) and watched.look_until_free(FREE)
+            is_free = (harm == 'free' or watched.most[harm] < bounds(what)[harm]) and watched.look_until_free(FREE)
             for peer in peers:
                 peer.close()
             return {**watched.most, 'free': time.monotonic() - began if is_free else FREE, 'came': len(peers)}
 
 
-def is_harmless(found, but):
-    return found['free'] < FREE and all(found[what] < most for what, most in MOST.items() if what not in but)
+def harms(proxy, what, found):
+    """What a crowd cost a proxy too much of."""
+    return {name for name, most in bounds(what).items() if found[name] >= most} - UNBOUNDED.get((proxy, what), set())
 
 
 def crowds(tally, program, proxy):
     """Each crowd does no harm."""
-    for what, count in (('heads', HEADS), ('bodies', READERS), ('readers', READERS), ('strangers', READERS), ('files', READERS)):
+    for what, count in {**CROWDS, **(LARGE if proxy == nginx else {})}.items():
         found = costs(program, proxy, what)
         print(f'{proxy.__name__}, {what}:', {name: round(value, 2) for name, value in found.items()}, flush=True)
-        tally.judge(is_harmless(found, UNBOUNDED.get((proxy, what), ())) and found['came'] == count, f'{proxy.__name__}: {what} cost {found}')
+        tally.judge(not harms(proxy, what, found) and found['came'] == count, f'{proxy.__name__}: {what} cost {found}')
 
 
 def weaker(tally, program):
@@ -192,4 +267,4 @@ def weaker(tally, program):
     for proxy, what, (old, new), harm in HARMS:
         found = costs(program, proxy, what, {old: new}, harm)
         print(f'{proxy.__name__}, {what}, without {old.strip()}:', {name: round(value, 2) for name, value in found.items()}, flush=True)
-        tally.judge(found[harm] >= {**MOST, 'free': FREE}[harm], f'{proxy.__name__}: {what} did no harm without {old.strip()}: {found}')
+        tally.judge(found[harm] >= bounds(what)[harm], f'{proxy.__name__}: {what} did no harm without {old.strip()}: {found}')
