@@ -45,6 +45,21 @@ HOSTS = '''for address in https://registry.example.org/ http://registry.example.
     curl -s -o /dev/null -D - -H 'Host: evil.example' $address | tr -d '\\r' | grep ^Location:; done
 curl -s -o /dev/null -D - https://registry.example.org/site/ | grep -c '^Strict-Transport-Security: max-age=31536000' '''
 
+# ---- Who is shut out
+
+# Who is refused 60 times is shut out, at both ports, until somebody lets them in; not who is refused 59 times, and no other address of a network.
+# (70, since nginx leaves out lines that the journal does not take at once. What NETWORKS sent may still count.)
+GUESS = '''for n in $(seq 60); do fail2ban-client ping >/dev/null 2>&1 && break; sleep 0.5; done
+for n in 1 2; do ip -6 addr add 2001:db8:0:2::$n/128 dev lo nodad; done
+guess() { curl -s -k -o /dev/null --rate 20/s --interface $1 -H 'Authorization: Bearer wrong-token-00001' "https://$2/requests#[1-$3]"; }
+guess 127.0.0.2 127.0.0.1 70; guess 127.0.0.3 127.0.0.1 59; guess 2001:db8:0:2::1 '[::1]' 70; guess 2001:db8:0:2::2 '[::1]' 59'''
+BANNED = r'''banned() { grep -o '\[registry\] Ban .*' /var/log/fail2ban.log | cut -d ' ' -f 3 | grep -v '^2001:db8::1$' | sort -u; }
+for n in $(seq 60); do [ $(banned | wc -l) -ge 2 ] && break; sleep 0.5; done; sleep 3; banned'''
+SHUT_OUT = r'''asked() { curl -s -k -m 5 -o /dev/null -w '%{http_code}\n' --interface $1 "$2/registries" || true; }
+for place in https://127.0.0.1 http://127.0.0.1; do asked 127.0.0.2 $place; asked 127.0.0.3 $place; done
+for n in 1 2; do asked 2001:db8:0:2::$n 'https://[::1]'; done
+fail2ban-client set registry unbanip 127.0.0.2; asked 127.0.0.2 https://127.0.0.1'''
+
 # ---- The service, and the office of the version before
 
 # While the service is stopped nobody without rights can listen in its place, or change the page into which tokens are typed.
@@ -116,6 +131,7 @@ AFTER = {('As a service', 2): [(KILLS, 'active'), (f'curl -s {OFFICE}/registries
          ('A proxy with TLS', 1): [(SLOW, 'HTTP/1.1 200 at once'), (ODD, '132, 401, 429, 502'), (FOUND, '0, 0'), (ROOM, 'tmpfs 262144'), (BY_SIX, '200, 301'),
                                    (SENTENCE, '1'), (NETWORKS, '429, 200'), (HOSTS, 'Location: /site/, Location: https://registry.example.org/x, 1')],
          ('A proxy with TLS', 3): [(SLOW, 'HTTP/1.1 200 at once'), (ODD, '132, 401, 502'), (FOUND, '0, 0')],
+         ('A proxy with TLS', 5): [(GUESS, ''), (BANNED, '127.0.0.2, 2001:db8:0:2::1'), (SHUT_OUT, '000, 200, 000, 301, 000, 200, 1, 200')],
          ('Publishing', 2): [(MAILED.format('registry-due'), DUE)],
          ('Publishing', 3): [careful_mirror, (PACKED, '1, 1, 0')],
          ('Monitoring', 1): [(f'{WATCHED} | wc -l', '0'), (WRONG_TIME, ''), (WATCHED, APART), (LATE_RECORD, ''),
