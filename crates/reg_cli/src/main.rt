@@ -57,6 +57,3 @@ fn asked(rt: &HostRuntime) -> Result<Job, JobFault> {
     }
     job(alloc, &words)
 }
-
-#[cfg(test)]
-mod tests;

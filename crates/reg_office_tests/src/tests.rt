@@ -1,3 +1,4 @@
 //! The tests, and what they share.
 mod disks;
+mod files;
 mod worked;
