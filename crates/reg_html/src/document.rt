@@ -1,7 +1,7 @@
 //! The frame of a page: what stands above and below all that it shows.
 ghost use Rattle.std.specs.Prelude.{◌++◌, OnOk};
 ghost use Rattle.reg_html.specs.Appended.{Appended, Shown};
-ghost use Rattle.reg_html.specs.Document.{head, page_start, page_end};
+ghost use Rattle.reg_html.specs.Document.{feed_link, head_start, heading, page_end, page_start, page_start_with_feed};
 
 use crate::markup::Piece::{Markup, Text};
 use crate::markup::{push, push_all};
@@ -12,12 +12,25 @@ use std::alloc::AllocError;
 pub fn push_start(out: &mut Vec<u8>, style: &str, title: &str) -> Result<(), AllocError>
     ensures { OnOk result (Appended out.old.items out.new.items (page_start style.now title.now)) }
 {
-    push(out, "<!DOCTYPE html>\n<html lang=\"en\">")?;
     push_head(out, style, title)?;
-    push_all(
-        out,
-        &[Markup("<body><main><h1>"), Text(title), Markup("</h1>")],
-    )?;
+    push_heading(out, title)?;
+    Ok(())
+}
+
+/// Begins a page whose head names the place of an Atom feed too, so that programs for feeds find it.
+/// Only want of memory is an error.
+pub fn push_start_with_feed(
+    out: &mut Vec<u8>,
+    style: &str,
+    feed: &str,
+    title: &str,
+) -> Result<(), AllocError>
+    ensures { OnOk result (Appended out.old.items out.new.items
+        (page_start_with_feed style.now feed.now title.now)) }
+{
+    push_head(out, style, title)?;
+    push_feed(out, feed)?;
+    push_heading(out, title)?;
     Ok(())
 }
 
@@ -28,19 +41,49 @@ pub fn push_end(out: &mut Vec<u8>) -> Result<(), AllocError>
     push(out, "</main></body></html>\n")
 }
 
+// The head up to its end.
 fn push_head<'a>(out: &mut Vec<u8>, style: &'a str, title: &'a str) -> Result<(), AllocError>
     ensures { OnOk result
-        (Shown out.old.items out.new.items (head style.now title.now)) }
+        (Appended out.old.items out.new.items (head_start style.now title.now)) }
 {
     push_all(
         out,
         &[
-            Markup("<head><meta charset=\"utf-8\"><meta name=\"viewport\""),
-            Markup(" content=\"width=device-width, initial-scale=1\"><title>"),
+            Markup("<!DOCTYPE html>\n<html lang=\"en\"><head><meta charset=\"utf-8\">"),
+            Markup(
+                "<meta name=\"viewport\" content=\"width=device-width, initial-scale=1\"><title>",
+            ),
             Text(title),
             Markup("</title><link rel=\"stylesheet\" href=\""),
             Text(style),
-            Markup("\"></head>"),
+            Markup("\">"),
+        ],
+    )
+}
+
+fn push_feed(out: &mut Vec<u8>, feed: &str) -> Result<(), AllocError>
+    ensures { OnOk result (Shown out.old.items out.new.items (feed_link feed.now)) }
+{
+    push_all(
+        out,
+        &[
+            Markup("<link rel=\"alternate\" type=\"application/atom+xml\" href=\""),
+            Text(feed),
+            Markup("\">"),
+        ],
+    )
+}
+
+// The end of the head, and the heading.
+fn push_heading(out: &mut Vec<u8>, title: &str) -> Result<(), AllocError>
+    ensures { OnOk result (Appended out.old.items out.new.items (heading title.now)) }
+{
+    push_all(
+        out,
+        &[
+            Markup("</head><body><main><h1>"),
+            Text(title),
+            Markup("</h1>"),
         ],
     )
 }

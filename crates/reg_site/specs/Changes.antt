@@ -2,7 +2,7 @@
 use Rattle.std.specs.Prelude.{ℕ, List, [], ◌∷◌, ◌++◌, take, map, codes, Option, Some, if◌then◌else◌}
 use Rattle.std.specs.Fmt.{decimal}
 use Rattle.std.specs.Str.{bytes_eq}
-use Rattle.reg_html.specs.Document.{attribute, document, link, page, plain}
+use Rattle.reg_html.specs.Document.{attribute, document, link, page_with_feed, plain}
 use Rattle.reg_html.specs.Markup.{Attribute, Markup, nothing, text, element, beside, all_of, markup_then}
 use Rattle.reg_html.specs.Table.{cell, head_cell, row_of, table}
 use Rattle.reg_notes.specs.declared.note.Note.{Note}
@@ -83,10 +83,10 @@ change_links =
     ∷ link (codes "changes.csv") (codes "CSV") ∷ text (codes " ")
     ∷ link (codes "changes.atom") (codes "Atom") ∷ []))
 
--- the page of the last 200 changes, with what is noted about the authority
+-- the page of the last 200 changes, with what is noted about the authority; its head names the feed
 abbrev pub changes_markup : Option Note → List Changed → Markup
 changes_markup authority changes =
-    page (codes "style.css") (codes "Changes")
+    page_with_feed (codes "style.css") (codes "changes.atom") (codes "Changes")
     (all_of (change_links ∷ apply_line authority ∷ changes_shown (take 200 changes) ∷ []))
 
 unfoldable pub changes_page : Option Note → List Changed → List ℕ

@@ -8,7 +8,7 @@ use Rattle.reg_blocks.specs.declared.size.Size.TheVariants.{MaL, MaM, MaS}
 use Rattle.reg_core.specs.declared.holding.Listed.{Listed}
 use Rattle.reg_print.specs.Listing.{run_text}
 use Rattle.reg_pages.specs.Blocks.{rows_of}
-use Rattle.reg_html.specs.Document.{attribute, document, link, page, plain}
+use Rattle.reg_html.specs.Document.{attribute, document, link, page_with_feed, plain}
 use Rattle.reg_html.specs.Markup.{Markup, nothing, text, element, beside, all_of}
 use Rattle.reg_history.specs.Moment.{moment_text}
 use Rattle.reg_site.specs.Policy.{treatment_name}
@@ -147,10 +147,11 @@ more_links =
 abbrev pub front : Option Note → Markup
 front authority = beside (authority_said authority) (beside (apply_line authority) more_links)
 
--- the first page by its title: the moment, the registries as rows, the pool and the blocks
+-- the first page by its title: the moment, the registries as rows, the pool and the blocks;
+-- its head names the feed
 abbrev pub index_markup : Option Note → List Markup → List ℕ → List Listed → ℕ → Markup
 index_markup authority rows prefixes blocks moment =
-    page (codes "style.css") (title_of authority (codes "Registries"))
+    page_with_feed (codes "style.css") (codes "changes.atom") (title_of authority (codes "Registries"))
     (all_of
     (as_of moment ∷ front authority ∷ registries_shown rows ∷ pool_list prefixes
     ∷ block_counts blocks ∷ []))

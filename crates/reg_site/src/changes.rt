@@ -6,7 +6,7 @@ ghost use Rattle.reg_html.specs.Escape.{escaped};
 ghost use Rattle.reg_html.specs.Markup.{all_of, opening_then};
 ghost use Rattle.reg_site.specs.Changes.{change_entry, change_links, change_row, change_title, changes_feed, changes_page, changes_shown, changes_table, entry_by, feed_attributes, feed_head, last_moment, place_of, row_by, shown, urn};
 
-use reg_html::document::{push_end, push_start};
+use reg_html::document::{push_end, push_start_with_feed};
 use reg_html::markup::Piece::{Link, Markup, Text};
 use reg_html::markup::{push, push_all};
 use reg_html::table;
@@ -50,7 +50,7 @@ pub fn changes_page(
     ensures { IfOk result (λ v. v.items ≡ changes_page (option_copied authority.entry) (map shown changes.now)) }
 {
     let mut out = Vec::new(alloc);
-    push_start(&mut out, "style.css", "Changes")?;
+    push_start_with_feed(&mut out, "style.css", "changes.atom", "Changes")?;
     push_links(&mut out)?;
     push_apply(&mut out, authority)?;
     push_changes(&mut out, first_of(changes, MOST_ON_PAGE))?;

@@ -17,7 +17,7 @@ use reg_blocks::size::Size;
 use reg_core::holding::Listed;
 use reg_core::text::Name;
 use reg_history::moment::moment_text;
-use reg_html::document::{push_end, push_start};
+use reg_html::document::{push_end, push_start_with_feed};
 use reg_html::markup::Piece::{Link, Markup, Number, Text};
 use reg_html::markup::{push, push_all};
 use reg_html::table;
@@ -60,7 +60,12 @@ fn page_of(
         prefixes.now blocks.now moment) }
 {
     let mut out = Vec::new(alloc);
-    push_start(&mut out, "style.css", title_of(authority, "Registries"))?;
+    push_start_with_feed(
+        &mut out,
+        "style.css",
+        "changes.atom",
+        title_of(authority, "Registries"),
+    )?;
     push_as_of(&mut out, alloc, moment)?;
     push_front(&mut out, authority)?;
     push_registries(&mut out, alloc, registers)?;

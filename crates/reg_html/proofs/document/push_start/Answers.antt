@@ -2,7 +2,4 @@ use Rattle.reg_html.proofs.Pieces.{joined}
 use Rattle.reg_html.proofs.document.push_start.Goals as goal
 
 pub returns : goal.returns
-returns c =
-    joined c.in_ok-push.ensures
-    (joined c.in_ok-push_head.ensures.bytes
-    (c.in_ok-push_all.ensures))
+returns c = joined c.in_ok-push_head.ensures (c.in_ok-push_heading.ensures)

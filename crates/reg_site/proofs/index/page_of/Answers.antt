@@ -6,7 +6,7 @@ pub returns : goal.returns
 unfolding index_by_rows
 returns c =
     whole c.new-out.result.items c.new-out.ensures.items
-    (joined (rw c.title_of.ensures at c.in_ok-push_start.ensures)
+    (joined (rw c.title_of.ensures at c.in_ok-push_start_with_feed.ensures)
     (joined c.in_ok-push_as_of.ensures.bytes
     (joined c.in_ok-push_front.ensures.bytes
     (joined c.in_ok-push_registries.ensures.bytes
