@@ -92,12 +92,24 @@ def judge_links(tally, site):
     tally.judge(True, '')
 
 
+MADE = {'range': 'range defined', 'entry': 'assigned', 'prefix': 'prefix added', 'block': 'block assigned'}
+
+
+def said(record):
+    """What a change did, in the words of the page and of the feed."""
+    if record['Change'] in MADE:
+        return MADE[record['Change']]
+    if not record['Expires']:
+        return 'now permanent'
+    return 'now held' if record['Held'] else f'now until {record["Expires"]}'
+
+
 def judge_changes(tally, site, records):
     """The page of the changes has the last 200, the newest first, each linked to what was changed."""
     page = Page((site / 'changes.html').read_text())
     shown = [tuple(row) for table in page.tables for row in table[1:]]
-    columns = 'Number', 'Moment', 'Register', 'Change', 'Value', 'Description'
-    wanted = [tuple(record[column] for column in columns) for record in records[:-201:-1]]
+    wanted = [(record['Number'], record['Moment'], record['Register'], said(record), record['Value'], record['Description'])
+              for record in records[:-201:-1]]
     tally.judge(shown == wanted, f'changes.html shows {len(shown)} changes: {shown[:2]}, not {wanted[:2]}')
 
 
@@ -202,8 +214,8 @@ def judge_feed(tally, site, records, title):
     told = [(entry.findtext(f'{ATOM}id'), entry.findtext(f'{ATOM}updated'), entry.findtext(f'{ATOM}summary') or '') for entry in entries]
     tally.judge(told == [(f'urn:sha256:{record["Digest"]}', record['Moment'], record['Description']) for record in last], f'changes.atom has {told[:2]}')
     titles = [entry.findtext(f'{ATOM}title') for entry in entries]
-    tally.judge(all(record['Change'] in text and record['Value'] in text and record['Register'] in text for record, text in zip(last, titles)),
-                f'changes.atom has the titles {titles[:2]}')
+    wanted = [f'{record["Register"]} {record["Value"]}: {said(record)}'.lstrip() for record in last]
+    tally.judge(titles == wanted, f'changes.atom has the titles {titles[:2]}, not {wanted[:2]}')
     tally.judge(feed.findtext(f'{ATOM}title') == title, f'changes.atom has the title {feed.findtext(f"{ATOM}title")}')
     tally.judge(not last or feed.findtext(f'{ATOM}updated') == last[0]['Moment'], 'changes.atom was updated at another moment')
     return ids[0]

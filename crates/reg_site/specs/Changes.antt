@@ -17,6 +17,9 @@ pub record Changed : Type 0 where
   pub moment : List ℕ
   pub register : List ℕ
   pub kind : List ℕ
+  -- what was done, and the day that these words want
+  pub words : List ℕ
+  pub until : List ℕ
   pub value : List ℕ
   pub description : List ℕ
   pub digest : List ℕ
@@ -28,10 +31,16 @@ shown c = record {
   moment = c.moment.now;
   register = c.register.now;
   kind = c.kind.now;
+  words = c.words.now;
+  until = c.until.now;
   value = c.value.now;
   description = c.description.now;
   digest = c.digest.now;
 }
+
+-- what was done, with its day
+abbrev pub said_of : Changed → List ℕ
+said_of c = c.words ++ c.until
 
 -- ---- Where a change is
 
@@ -49,26 +58,26 @@ place_of c =
 
 -- a change as a row, by what it is found, where it is and its texts
 abbrev pub row_by : List ℕ → List ℕ → List ℕ → List ℕ → List ℕ → List ℕ → List ℕ → List ℕ → Markup
-row_by name number place moment register kind value description =
+row_by name number place moment register said value description =
     row_of (Some name)
     (beside (head_cell (Some name) number)
-    (beside (all_of (map cell (moment ∷ register ∷ kind ∷ [])))
+    (beside (all_of (map cell (moment ∷ register ∷ said ∷ [])))
     (beside (plain (codes "td") (link place value)) (cell description))))
 
 -- a change as a row, found by c and its number
 abbrev pub change_row : Changed → Markup
 change_row c =
-    row_by (codes "c" ++ decimal c.number) (decimal c.number) (place_of c) c.moment c.register c.kind
-    c.value c.description
+    row_by (codes "c" ++ decimal c.number) (decimal c.number) (place_of c) c.moment c.register
+    (said_of c) c.value c.description
 
 abbrev pub change_columns : List (List ℕ)
 change_columns =
-    codes "Number" ∷ codes "Moment" ∷ codes "Register" ∷ codes "Change" ∷ codes "Value"
+    codes "Number" ∷ codes "Date (UTC)" ∷ codes "Registry" ∷ codes "Change" ∷ codes "Value"
     ∷ codes "Description" ∷ []
 
 abbrev pub changes_table : List Changed → Markup
 changes_table changes =
-    table (codes "The last changes") change_columns (all_of (map change_row changes))
+    table (codes "Latest changes") change_columns (all_of (map change_row changes))
 
 -- changes as a table, or that there are none
 abbrev pub changes_shown : List Changed → Markup
@@ -110,9 +119,14 @@ entry_by title id place moment description =
     (plain (codes "summary") (text description)))))))
     (text (codes "\n"))
 
--- the title of a change: its register, what was changed, and the value
+-- what was changed: a value of a register, or digits
+abbrev pub subject_of : List ℕ → List ℕ → List ℕ
+subject_of [] value = value
+subject_of (b ∷ more) value = (b ∷ more) ++ (codes " " ++ value)
+
+-- the title of a change: what was changed, and what was done
 abbrev pub change_title : Changed → List ℕ
-change_title c = c.register ++ (codes " " ++ (c.kind ++ (codes " " ++ c.value)))
+change_title c = subject_of c.register c.value ++ (codes ": " ++ said_of c)
 
 -- A change as an entry of the feed. Its id is its digest, which no other change has.
 abbrev pub change_entry : Changed → Markup

@@ -3,13 +3,51 @@ use Rattle.std.specs.Prelude.{ℕ, ◌+◌, ◌-◌, List, [], ◌∷◌, ◌++�
 use Rattle.std.specs.Str.{is_utf8}
 use Rattle.reg_history.specs.Chain.{chained}
 use Rattle.reg_changes.specs.Recorded.{change_word, description_of, registry_of, value_of}
+use Rattle.reg_changes.specs.declared.change.Class.{Class}
+use Rattle.reg_changes.specs.declared.change.Class.TheVariants as class
 use Rattle.reg_changes.specs.declared.change.HistoryRecord.{HistoryRecord}
+use Rattle.reg_changes.specs.declared.change.PublishedChange.{PublishedChange}
+use Rattle.reg_changes.specs.declared.change.PublishedChange.TheVariants.{Made, Term}
 use Rattle.reg_ranges.specs.Texts.{read_text}
 use Rattle.reg_site.specs.Changes.{Changed, urn}
 
 -- bytes as a text; none where they are not UTF-8, as no digest is
 abbrev pub text_of : List ℕ → List ℕ
 text_of bytes = unwrap_or (read_text is_utf8 bytes) []
+
+-- ---- What a change did, in words
+
+-- what is done when a subject of this class is first published
+abbrev pub made_words : Class → List ℕ
+made_words class.Range = codes "range defined"
+made_words class.Entry = codes "assigned"
+made_words class.Prefix = codes "prefix added"
+made_words class.Block = codes "block assigned"
+
+-- how an early allocation stands now, which is held or not
+abbrev pub early_words : List ℕ → List ℕ
+early_words [] = codes "now until "
+early_words (b ∷ held) = codes "now held"
+
+-- how an entry stands now, by its expiry and whether it is held
+abbrev pub term_words : List ℕ → List ℕ → List ℕ
+term_words [] held = codes "now permanent"
+term_words (d ∷ expires) held = early_words held
+
+abbrev pub words_of : PublishedChange → List ℕ
+words_of (Made fact) = made_words fact.subject.class
+words_of (Term registry value standing) = term_words standing.expires standing.held
+
+-- the day until which an entry stands that is not held
+abbrev pub until_day : List ℕ → List ℕ → List ℕ
+until_day expires [] = expires
+until_day expires (b ∷ held) = []
+
+abbrev pub until_of : PublishedChange → List ℕ
+until_of (Made fact) = []
+until_of (Term registry value standing) = until_day standing.expires standing.held
+
+-- ---- The records
 
 -- a record as texts, by its number and its digest
 abbrev pub changed : ℕ → HistoryRecord → List ℕ → Changed
@@ -18,6 +56,8 @@ changed number r digest = record {
   moment = r.moment;
   register = registry_of r.change;
   kind = change_word r.change;
+  words = words_of r.change;
+  until = until_of r.change;
   value = value_of r.change;
   description = description_of r.change;
   digest = text_of digest;

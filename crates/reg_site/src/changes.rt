@@ -4,7 +4,7 @@ ghost use Rattle.std.specs.Option.{option_copied};
 ghost use Rattle.reg_html.specs.Appended.{Appended, Shown};
 ghost use Rattle.reg_html.specs.Escape.{escaped};
 ghost use Rattle.reg_html.specs.Markup.{all_of, opening_then};
-ghost use Rattle.reg_site.specs.Changes.{change_entry, change_links, change_row, change_title, changes_feed, changes_page, changes_shown, changes_table, entry_by, feed_attributes, feed_head, last_moment, place_of, row_by, shown, urn};
+ghost use Rattle.reg_site.specs.Changes.{change_entry, change_links, change_row, change_title, changes_feed, changes_page, changes_shown, changes_table, entry_by, feed_attributes, feed_head, last_moment, place_of, row_by, said_of, shown, subject_of, urn};
 
 use reg_html::document::{push_end, push_start_with_feed};
 use reg_html::markup::Piece::{Link, Markup, Text};
@@ -31,6 +31,10 @@ pub struct ChangeRow<'a> {
     pub register: &'a str,
     /// `range`, `entry`, `term`, `prefix` or `block`.
     pub kind: &'a str,
+    /// What was done, in words, as `assigned`, or `now until ` before a day.
+    pub words: &'a str,
+    /// The day that these words want; empty where they want none.
+    pub until: &'a str,
     /// The value or the values, or the digits.
     pub value: &'a str,
     pub description: &'a str,
@@ -101,13 +105,13 @@ fn push_table(out: &mut Vec<u8>, changes: &[ChangeRow<'_>]) -> Result<(), AllocE
 {
     let columns = [
         "Number",
-        "Moment",
-        "Register",
+        "Date (UTC)",
+        "Registry",
         "Change",
         "Value",
         "Description",
     ];
-    table::push_start(out, "The last changes", &columns)?;
+    table::push_start(out, "Latest changes", &columns)?;
     push_rows(out, changes)?;
     table::push_end(out)?;
     Ok(())
@@ -130,6 +134,7 @@ fn push_row(out: &mut Vec<u8>, change: &ChangeRow<'_>) -> Result<(), AllocError>
     let number = format!(in alloc; "{}", change.number)?;
     let name = format!(in alloc; "c{}", change.number)?;
     let place = place_of(alloc, change)?;
+    let said = said_of(alloc, change)?;
     push_row_texts(
         out,
         name.as_str(),
@@ -137,10 +142,17 @@ fn push_row(out: &mut Vec<u8>, change: &ChangeRow<'_>) -> Result<(), AllocError>
         place.as_str(),
         change.moment,
         change.register,
-        change.kind,
+        said.as_str(),
         change.value,
         change.description,
     )
+}
+
+// What was done, with its day.
+fn said_of(alloc: Global, change: &ChangeRow<'_>) -> Result<String, AllocError>
+    ensures { IfOk result (λ said. string_bytes said ≡ said_of (shown change.now)) }
+{
+    format!(in alloc; "{}{}", change.words, change.until)
 }
 
 fn push_row_texts<'a>(
@@ -150,18 +162,18 @@ fn push_row_texts<'a>(
     place: &'a str,
     moment: &'a str,
     register: &'a str,
-    kind: &'a str,
+    said: &'a str,
     value: &'a str,
     description: &'a str,
 ) -> Result<(), AllocError>
     ensures { OnOk result
         (Shown out.old.items out.new.items
-        (row_by name.now number.now place.now moment.now register.now kind.now value.now
+        (row_by name.now number.now place.now moment.now register.now said.now value.now
         description.now)) }
 {
     table::push_row_start(out, Some(name))?;
     table::push_head(out, Some(name), number)?;
-    table::push_cells(out, &[moment, register, kind])?;
+    table::push_cells(out, &[moment, register, said])?;
     push_all(out, &[Markup("<td>"), Link(place, value), Markup("</td>")])?;
     table::push_cell(out, description)?;
     table::push_row_end(out)?;
@@ -283,7 +295,20 @@ fn push_entry(out: &mut Vec<u8>, change: &ChangeRow<'_>) -> Result<(), AllocErro
 fn change_title(alloc: Global, change: &ChangeRow<'_>) -> Result<String, AllocError>
     ensures { IfOk result (λ title. string_bytes title ≡ change_title (shown change.now)) }
 {
-    format!(in alloc; "{} {} {}", change.register, change.kind, change.value)
+    let subject = subject_of(alloc, change.register, change.value)?;
+    let subject = subject.as_str();
+    format!(in alloc; "{subject}: {}{}", change.words, change.until)
+}
+
+// What was changed.
+fn subject_of(alloc: Global, register: &str, value: &str) -> Result<String, AllocError>
+    ensures { IfOk result (λ subject. string_bytes subject ≡ subject_of register.now value.now) }
+{
+    if register.is_empty() {
+        String::from_str(alloc, value)
+    } else {
+        format!(in alloc; "{register} {value}")
+    }
 }
 
 fn urn(alloc: Global, digest: &str) -> Result<String, AllocError>

@@ -3,10 +3,10 @@ ghost use Rattle.std.specs.Prelude.{◌≡◌, ◌+◌, List, map, string_bytes,
 ghost use Rattle.reg_history.specs.Chain.{chained};
 ghost use Rattle.reg_history.specs.Overview.{IsOverview};
 ghost use Rattle.reg_site.specs.Changes.{shown};
-ghost use Rattle.reg_site.specs.Recent.{changed, day_part, feed_id, last_changes, numbered, text_of};
+ghost use Rattle.reg_site.specs.Recent.{changed, day_part, early_words, feed_id, last_changes, made_words, numbered, term_words, text_of, until_day, until_of, words_of};
 
 use crate::changes::ChangeRow;
-use reg_changes::change::HistoryRecord;
+use reg_changes::change::{Class, HistoryRecord, PublishedChange};
 use reg_history::overview::{Overview, Tied};
 use reg_notes::words::as_text;
 use std::alloc::{AllocError, Global};
@@ -64,10 +64,75 @@ fn changed<'a>(number: u64, row: &'a HistoryRecord, digest: &'a [u8]) -> ChangeR
         moment: row.moment.as_str(),
         register: row.change.registry().as_str(),
         kind: row.change.word(),
+        words: words_of(&row.change),
+        until: until_of(&row.change),
         value: row.change.value(),
         description: row.change.description(),
         digest: text_of(digest),
     }
+}
+
+// What a change did, but for the day until which an entry stands now.
+fn words_of(change: &PublishedChange) -> &'static str
+    ensures { result.now ≡ words_of change.now }
+{
+    match change {
+        PublishedChange::Made(fact) => made_words(fact.subject.class),
+        PublishedChange::Term(_, _, standing) => {
+            term_words(standing.expires.as_str(), standing.held.as_str())
+        }
+    }
+}
+
+// What is done when a subject of this class is first published.
+fn made_words(class: Class) -> &'static str
+    ensures { result.now ≡ made_words class }
+{
+    match class {
+        Class::Range => "range defined",
+        Class::Entry => "assigned",
+        Class::Prefix => "prefix added",
+        Class::Block => "block assigned",
+    }
+}
+
+// How an entry stands now that has this expiry.
+fn term_words(expires: &str, held: &str) -> &'static str
+    ensures { result.now ≡ term_words expires.now held.now }
+{
+    if expires.is_empty() {
+        "now permanent"
+    } else {
+        early_words(held)
+    }
+}
+
+fn early_words(held: &str) -> &'static str
+    ensures { result.now ≡ early_words held.now }
+{
+    if held.is_empty() {
+        "now until "
+    } else {
+        "now held"
+    }
+}
+
+// The day until which an entry stands now; empty where no day ends it, and of other changes.
+fn until_of(change: &PublishedChange) -> &str
+    ensures { result.now ≡ until_of change.now }
+{
+    match change {
+        PublishedChange::Made(_) => "",
+        PublishedChange::Term(_, _, standing) => {
+            until_day(standing.expires.as_str(), standing.held.as_str())
+        }
+    }
+}
+
+fn until_day<'a>(expires: &'a str, held: &'a str) -> &'a str
+    ensures { result.now ≡ until_day expires.now held.now }
+{
+    if held.is_empty() { expires } else { "" }
 }
 
 /// The id of the feed of a history, by the digest of its first record; it is the same for good. Only
