@@ -66,6 +66,8 @@ def judge_shown(year, site, files):
         year.tally.judge('https://registry.example.org/apply?a=1&b=2' in page.links, f'{path} does not say where to apply')
     page = pages.Page(files['index.html'].decode())
     year.tally.judge(all(text in ''.join(page.texts) for text in ROWS[0][2:]), 'index.html does not have the note of the authority')
+    [head] = [row[0] for table in page.tables for row in table if 'codes' in row[0]]
+    year.tally.judge(head.startswith(f'{ROWS[1][2]}codes'), f'index.html has the registry {head}')
     page = pages.Page(files['registries/codes.html'].decode())
     [row] = [row for table in page.tables for row in table if row[0] == '64']
     year.tally.judge('Blue' in row[1] and all(text in row[1] for text in ROWS[2][2:]), f'the row of 64 is {row}')

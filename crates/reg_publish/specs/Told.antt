@@ -11,11 +11,9 @@ use Rattle.reg_history.specs.Chain.{chained}
 use Rattle.reg_history.specs.Published.{published_facts}
 use Rattle.reg_changes.specs.declared.change.Fact.{Fact}
 use Rattle.reg_changes.specs.declared.change.HistoryRecord.{HistoryRecord}
-use Rattle.reg_notes.specs.declared.note.Note.{Note}
 use Rattle.reg_notes.specs.declared.notes.Notes.{Notes}
 use Rattle.reg_publish.specs.declared.told.AllTold.{AllTold}
 use Rattle.reg_site.specs.IndexTree.{IndexRow}
-use Rattle.reg_pages.specs.Noted.{noted_in}
 use Rattle.reg_site.specs.Site.{blocks_at, blocks_in, index_files, page_in, pages_at, pool_in, prefixes_at, rows_by, shown_files, told_to_all}
 use Rattle.reg_site.specs.Sums.{Files}
 
@@ -42,14 +40,14 @@ facts_at p moment = published_facts (pages_at p moment) (prefixes_at p moment) (
 -- ---- Files of what is told
 
 -- the indexes of these registries by the records of a history, as of a moment
-abbrev pub indexes_by : Option Note → List HistoryRecord → List IndexRow → List ℕ → List Listed → ℕ → Files
-indexes_by authority records registers prefixes rows moment =
-    index_files authority (chained records).digests registers prefixes rows moment
+abbrev pub indexes_by : Option Notes → List HistoryRecord → List IndexRow → List ℕ → List Listed → ℕ → Files
+indexes_by notes records registers prefixes rows moment =
+    index_files notes (chained records).digests registers prefixes rows moment
 
 -- the same of all that is told, with notes
 abbrev pub indexes_of : Option Notes → List HistoryRecord → AllTold → ℕ → Files
 indexes_of notes records all moment =
-    indexes_by (noted_in notes []) records (rows_by records (pages_of all.pages.items))
+    indexes_by notes records (rows_by records (pages_of all.pages.items))
     (prefixes_of all.pool) (blocks_of all.blocks) moment
 
 -- the files that show all that is told, with notes, and the last records

@@ -18,6 +18,8 @@ use reg_disk::folder::Folder;
 use reg_history::moment::moment_text;
 use reg_history::overview::Overview;
 use reg_notes::note::Note;
+use reg_notes::notes::Notes;
+use reg_pages::noted::of_authority;
 use reg_site::changes::{changes_feed, changes_page};
 use reg_site::files::File;
 use reg_site::index::index_page;
@@ -63,7 +65,7 @@ pub(crate) fn publish_indexes<F: Folder>(
     alloc: Global,
     folder: &mut F,
     sums: &mut Sums,
-    authority: Option<&Note>,
+    notes: Option<&Notes>,
     registers: &[Register<'_>],
     overview: &Overview,
     pool: &Pool,
@@ -72,16 +74,16 @@ pub(crate) fn publish_indexes<F: Folder>(
 ) -> Result<(), Unpublished>
     ensures { OnOk result ((records : List HistoryRecord) → IsOverview overview.now records
         → PlacesSummed F.Puts folder.old folder.new sums.old sums.new
-        (indexes_by (option_copied authority.entry) records (map row_of registers.now) pool.now
+        (indexes_by (option_copied notes.entry) records (map row_of registers.now) pool.now
         blocks.now moment)) }
 {
-    let html = index_page(alloc, authority, registers, pool, blocks, moment)?;
+    let html = index_page(alloc, notes, registers, pool, blocks, moment)?;
     put(alloc, folder, sums, File::Index, &html)?;
     drop(html);
     let now = moment_text(alloc, moment)?;
     let tree = index_tree(
         alloc,
-        site_title(authority),
+        site_title(of_authority(notes)),
         now.as_str(),
         overview.count,
         text_of(overview.last_digest()),

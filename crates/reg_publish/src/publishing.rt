@@ -161,7 +161,7 @@ fn publish_last<F: Folder>(
         alloc,
         folder,
         sums,
-        of_authority(notes),
+        notes,
         &registers,
         overview,
         pool_in(&told.pool)?,

@@ -1,10 +1,12 @@
 -- Notes that say the same about what is published give the same files.
-use Rattle.std.proofs.Common.{◌≡◌, ℕ, ◌+◌, ◌-◌, Bool, true, false, List, [], ◌∷◌, ◌++◌, map, filter, nat_lt, Option, Some, None, if◌then◌else◌, refl, ap, ap₂}
+use Rattle.std.proofs.Common.{◌≡◌, ℕ, ◌+◌, ◌-◌, Bool, true, false, List, [], ◌∷◌, ◌++◌, length, map, filter, nat_lt, Option, Some, None, if◌then◌else◌, refl, ap, ap₂}
 use Rattle.std.specs.List.{AllByRecursion, flat_map}
 use Rattle.reg_core.specs.declared.entry.PageEntry.{PageEntry}
+use Rattle.reg_core.specs.declared.holding.Listed.{Listed}
 use Rattle.reg_core.specs.declared.page.Page.{Page}
 use Rattle.reg_core.specs.declared.told.Told.TheVariants as tells
-use Rattle.reg_history.specs.Chain.{chained}
+use Rattle.reg_history.specs.Chain.{chained, last_digest}
+use Rattle.reg_history.specs.Moment.{moment_text}
 use Rattle.reg_changes.specs.Recorded.{last_changed}
 use Rattle.reg_changes.specs.declared.change.HistoryRecord.{HistoryRecord}
 use Rattle.reg_notes.specs.Notes.{entry_thing}
@@ -17,8 +19,11 @@ use Rattle.reg_pages.specs.Noted.{noted_in, note_of_row}
 use Rattle.reg_site.specs.Records as records
 use Rattle.reg_site.specs.Registry as registry
 use Rattle.reg_site.specs.Files.{path_of}
-use Rattle.reg_site.specs.Recent.{day_part}
-use Rattle.reg_site.specs.Site.{block_files, blocks_at, change_files, index_files, one_file, page_files, pages_at, pool_files, prefixes_at, rows_by as registers_by, told_text, with_sums_file}
+use Rattle.reg_site.specs.Index.{index_by_rows, register_row, registry_row}
+use Rattle.reg_site.specs.IndexTree.{index_tree}
+use Rattle.reg_site.specs.Recent.{day_part, text_of}
+use Rattle.reg_site.specs.Site.{block_files, blocks_at, change_files, index_files, one_file, page_files, pages_at, pool_files, prefixes_at, rows_by as registers_by, site_title, told_text, with_sums_file}
+use Rattle.reg_site.specs.Summary.{summary}
 use Rattle.reg_site.specs.declared.files.File.TheVariants as file
 use Rattle.reg_site.proofs.SiteLaws.{all-append}
 
@@ -140,18 +145,45 @@ all_files_same a b records (page ∷ pages) authority h =
     ap₂ (λ xs ys. xs ++ ys) (files_same a b records page authority h.0)
     (all_files_same a b records pages authority h.1)
 
+-- ---- The indexes
+
+registers_same : (a b : Option Notes) (records : List HistoryRecord) (pages : List Page)
+    → AllByRecursion (AgreeOnPage a b) pages
+    → map (register_row a) (registers_by records pages) ≡ map (register_row b) (registers_by records pages)
+registers_same a b records [] h = refl
+registers_same a b records (page ∷ pages) h =
+    ap₂ (λ x xs. x ∷ xs)
+    (ap (λ note. registry_row note (last_changed records page.name) (summary page)) h.0.registry)
+    (registers_same a b records pages h.1)
+
+indexes_same : (a b : Option Notes) (records : List HistoryRecord) (digests : List (List ℕ))
+    (pages : List Page) (prefixes : List ℕ) (rows : List Listed) (moment : ℕ)
+    → noted_in a [] ≡ noted_in b [] → AllByRecursion (AgreeOnPage a b) pages
+    → index_files a digests (registers_by records pages) prefixes rows moment
+    ≡ index_files b digests (registers_by records pages) prefixes rows moment
+indexes_same a b records digests pages prefixes rows moment authority h =
+    ap₂
+    (λ note shown.
+    (path_of file.Index, index_by_rows note shown prefixes rows moment)
+    ∷ (
+      path_of file.IndexTree,
+      index_tree (site_title note) (moment_text moment) (length digests)
+          (text_of (last_digest digests)) (registers_by records pages),
+    )
+    ∷ [])
+    authority (registers_same a b records pages h)
+
 pub notes_on_nothing_are_hidden : NotesOnNothingAreHidden
 notes_on_nothing_are_hidden a b records p moment h =
     let digests = (chained records).digests in
     let pages = pages_at p moment in
     let rows = blocks_at p moment in
     let prefixes = prefixes_at p moment in
-    ap₂
-    (λ authority files. with_sums_file
+    let same = all_files_same a b records pages h.authority h.pages in
+    let indexes = indexes_same a b records digests pages prefixes rows moment h.authority h.pages in
+    λ i. with_sums_file
     ((one_file file.Changes (chained records).text
-    ++ (files
-    ++ (block_files authority rows
-    ++ (pool_files prefixes ++ change_files authority records digests))))
-    ++ index_files authority digests (registers_by records pages) prefixes rows moment))
-    h.authority
-    (all_files_same a b records pages h.authority h.pages)
+    ++ (same i
+    ++ (block_files (h.authority i) rows
+    ++ (pool_files prefixes ++ change_files (h.authority i) records digests))))
+    ++ indexes i)

@@ -144,10 +144,10 @@ changes_inside authority records digests = (
   (on_top (codes "changes") (codes "atom") refl refl, tt),
 )
 
-index_inside : (authority : Option Note) (digests : List (List ℕ)) (registers : List IndexRow)
+index_inside : (notes : Option Notes) (digests : List (List ℕ)) (registers : List IndexRow)
     (prefixes : List ℕ) (rows : List Listed) (moment : ℕ)
-    → AllByRecursion Inside (index_files authority digests registers prefixes rows moment)
-index_inside authority digests registers prefixes rows moment = (
+    → AllByRecursion Inside (index_files notes digests registers prefixes rows moment)
+index_inside notes digests registers prefixes rows moment = (
   on_top (codes "index") (codes "html") refl refl,
   (on_top (codes "index") (codes "json") refl refl, tt),
 )
@@ -161,7 +161,7 @@ files_stay_inside notes records pages prefixes rows moment h =
     let pooled = pool_files prefixes ++ changed in
     let given = block_files authority rows ++ pooled in
     let told = flat_map (page_files notes records) pages ++ given in
-    let indexed = index_files authority digests (rows_by records pages) prefixes rows moment in
+    let indexed = index_files notes digests (rows_by records pages) prefixes rows moment in
     all-append Inside
     (steady_files notes text records digests pages prefixes rows ++ indexed)
     (one_file file.Sums (sums_text (summed_files notes text records digests pages prefixes rows moment)))
@@ -173,7 +173,7 @@ files_stay_inside notes records pages prefixes rows moment h =
           (all-append Inside (pool_files prefixes) changed (pool_inside prefixes)
           (changes_inside authority records digests))),
     )
-    (index_inside authority digests (rows_by records pages) prefixes rows moment))
+    (index_inside notes digests (rows_by records pages) prefixes rows moment))
     (inr refl, tt)
 
 pub private_holders_are_hidden : PrivateHoldersAreUnpublished

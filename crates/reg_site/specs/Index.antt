@@ -14,7 +14,8 @@ use Rattle.reg_history.specs.Moment.{moment_text}
 use Rattle.reg_site.specs.Policy.{treatment_name}
 use Rattle.reg_html.specs.Table.{head_of, row_of, table}
 use Rattle.reg_notes.specs.declared.note.Note.{Note}
-use Rattle.reg_pages.specs.Noted.{apply_line}
+use Rattle.reg_notes.specs.declared.notes.Notes.{Notes}
+use Rattle.reg_pages.specs.Noted.{apply_line, noted_in}
 use Rattle.reg_site.specs.Records.{title_of}
 use Rattle.reg_site.specs.IndexTree.{IndexRow}
 use Rattle.reg_site.specs.declared.summary.RangeShare.{RangeShare}
@@ -42,28 +43,41 @@ changed_part (b ∷ more) =
     element (codes "div") (attribute (codes "class") (codes "note") ∷ [])
     (beside (text (codes "Last changed ")) (plain (codes "time") (text (b ∷ more))))
 
-abbrev pub linked_cell : List ℕ → List ℕ → List ℕ → Markup
-linked_cell target name changed = head_of (beside (link target name) (changed_part changed))
+-- the title of a registry; nothing where it is empty
+abbrev pub title_part : List ℕ → Markup
+title_part [] = nothing
+title_part (b ∷ more) = plain (codes "div") (text (b ∷ more))
 
--- the name of a registry, which heads its row, and by which its page is found, and its last change
-abbrev pub name_cell : List ℕ → List ℕ → Markup
-name_cell changed name = linked_cell (page_place name) name changed
+-- the same, by what is noted
+abbrev pub titled : Option Note → Markup
+titled None = nothing
+titled (Some n) = title_part n.title
+
+abbrev pub linked_cell : Option Note → List ℕ → List ℕ → List ℕ → Markup
+linked_cell note target name changed =
+    head_of (beside (titled note) (beside (link target name) (changed_part changed)))
+
+-- what heads the row of a registry: its title, its name, by which its page is found, and its last change
+abbrev pub name_cell : Option Note → List ℕ → List ℕ → Markup
+name_cell note changed name = linked_cell note (page_place name) name changed
 
 abbrev pub number_cell : ℕ → Markup
 number_cell n = plain (codes "td") (text (decimal n))
 
--- a registry as a row, which is found by its name, by the moment of its last change
-abbrev pub registry_row : List ℕ → Summary → Markup
-registry_row changed s =
+-- a registry as a row, which is found by its name, with what is noted about it, by the moment of its last
+-- change
+abbrev pub registry_row : Option Note → List ℕ → Summary → Markup
+registry_row note changed s =
     row_of (Some s.name)
     (all_of
-    (name_cell changed s.name
+    (name_cell note changed s.name
     ∷ plain (codes "td") (plain (codes "ul") (all_of (map share_item s.shares)))
     ∷ number_cell s.assigned ∷ number_cell s.temporary ∷ number_cell s.expired
     ∷ number_cell s.free ∷ []))
 
-abbrev pub register_row : IndexRow → Markup
-register_row r = registry_row r.1 r.0
+-- the same of a registry beside others, with these notes
+abbrev pub register_row : Option Notes → IndexRow → Markup
+register_row notes r = registry_row (noted_in notes r.0.name) r.1 r.0
 
 abbrev pub registry_columns : List (List ℕ)
 registry_columns =
@@ -90,12 +104,12 @@ prefix_item prefix = item (prefix_text prefix)
 
 -- prefixes as a list, or that there are none
 abbrev pub prefix_list : List ℕ → Markup
-prefix_list [] = plain (codes "p") (text (codes "The pool is empty."))
+prefix_list [] = plain (codes "p") (text (codes "There are no prefixes yet."))
 prefix_list (first ∷ more) = plain (codes "ul") (all_of (map prefix_item (first ∷ more)))
 
 -- the prefixes of the pool
 abbrev pub pool_list : List ℕ → Markup
-pool_list prefixes = beside (plain (codes "h2") (text (codes "Pool"))) (prefix_list prefixes)
+pool_list prefixes = beside (plain (codes "h2") (text (codes "Prefixes"))) (prefix_list prefixes)
 
 -- a file of IEEE's form, and how many blocks it has
 abbrev pub counted_file : List ℕ → List ℕ → ℕ → Markup
@@ -135,32 +149,33 @@ abbrev pub authority_said : Option Note → Markup
 authority_said None = nothing
 authority_said (Some n) = said n.note
 
--- links to the last changes, and to the index for programs
+-- links to the blocks, to the last changes, and to the index for programs
 abbrev pub more_links : Markup
 more_links =
     plain (codes "p")
     (all_of
-    (link (codes "changes.html") (codes "Changes") ∷ text (codes " ")
+    (link (codes "blocks.html") (codes "Blocks") ∷ text (codes " ")
+    ∷ link (codes "changes.html") (codes "Changes") ∷ text (codes " ")
     ∷ link (codes "index.json") (codes "JSON") ∷ []))
 
--- what stands above the registries: what the authority says, where to apply, and links
+-- what the authority says, and where to apply
 abbrev pub front : Option Note → Markup
-front authority = beside (authority_said authority) (beside (apply_line authority) more_links)
+front authority = beside (authority_said authority) (apply_line authority)
 
--- the first page by its title: the moment, the registries as rows, the pool and the blocks;
--- its head names the feed
+-- the first page by its title: links, the moment, what the authority says, the registries as rows, the
+-- pool and the blocks; its head names the feed
 abbrev pub index_markup : Option Note → List Markup → List ℕ → List Listed → ℕ → Markup
 index_markup authority rows prefixes blocks moment =
     page_with_feed (codes "style.css") (codes "changes.atom") (title_of authority (codes "Registries"))
     (all_of
-    (as_of moment ∷ front authority ∷ registries_shown rows ∷ pool_list prefixes
+    (more_links ∷ as_of moment ∷ front authority ∷ registries_shown rows ∷ pool_list prefixes
     ∷ block_counts blocks ∷ []))
 
 unfoldable pub index_by_rows : Option Note → List Markup → List ℕ → List Listed → ℕ → List ℕ
 index_by_rows authority rows prefixes blocks moment =
     document (index_markup authority rows prefixes blocks moment)
 
--- the bytes of the first page, with what is noted about the authority, and the last changes
-abbrev pub index_page : Option Note → List IndexRow → List ℕ → List Listed → ℕ → List ℕ
-index_page authority rows prefixes blocks moment =
-    index_by_rows authority (map register_row rows) prefixes blocks moment
+-- the bytes of the first page, with what is noted about the authority and the registries
+abbrev pub index_page : Option Notes → List IndexRow → List ℕ → List Listed → ℕ → List ℕ
+index_page notes rows prefixes blocks moment =
+    index_by_rows (noted_in notes []) (map (register_row notes) rows) prefixes blocks moment

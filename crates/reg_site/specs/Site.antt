@@ -135,12 +135,12 @@ abbrev pub rows_by : List HistoryRecord → List Page → List IndexRow
 rows_by records pages = map (λ page. (summary page, last_changed records page.name)) pages
 
 -- the first page, and the index for programs
-abbrev pub index_files : Option Note → List (List ℕ) → List IndexRow → List ℕ → List Listed → ℕ → Files
-index_files authority digests registers prefixes rows moment =
-    (path_of file.Index, index_page authority registers prefixes rows moment)
+abbrev pub index_files : Option Notes → List (List ℕ) → List IndexRow → List ℕ → List Listed → ℕ → Files
+index_files notes digests registers prefixes rows moment =
+    (path_of file.Index, index_page notes registers prefixes rows moment)
     ∷ (
       path_of file.IndexTree,
-      index_tree (site_title authority) (moment_text moment) (length digests)
+      index_tree (site_title (noted_in notes [])) (moment_text moment) (length digests)
           (text_of (last_digest digests)) registers,
     )
     ∷ []
@@ -167,7 +167,7 @@ abbrev pub summed_files : Option Notes → List ℕ → List HistoryRecord → L
     → List Listed → ℕ → Files
 summed_files notes text records digests pages prefixes rows moment =
     steady_files notes text records digests pages prefixes rows
-    ++ index_files (noted_in notes []) digests (rows_by records pages) prefixes rows moment
+    ++ index_files notes digests (rows_by records pages) prefixes rows moment
 
 -- these files, and then their sums
 abbrev pub with_sums_file : Files → Files

@@ -5,7 +5,7 @@ ghost use Rattle.reg_html.specs.Appended.{Shown};
 ghost use Rattle.reg_html.specs.Document.{plain};
 ghost use Rattle.reg_html.specs.Markup.{all_of};
 ghost use Rattle.reg_site.specs.IndexTree.{row_of};
-ghost use Rattle.reg_site.specs.Index.{as_of, as_of_text, authority_said, block_counts, changed_part, counted_file, front, index_page, item, linked_cell, more_links, name_cell, number_cell, page_place, pool_list, prefix_item, prefix_list, register_row, registries_shown, registries_table, registry_row, said, share_item, share_texts, size_item};
+ghost use Rattle.reg_site.specs.Index.{as_of, as_of_text, authority_said, block_counts, changed_part, counted_file, front, index_page, item, linked_cell, more_links, name_cell, number_cell, page_place, pool_list, prefix_item, prefix_list, register_row, registries_shown, registries_table, registry_row, said, share_item, share_texts, size_item, title_part, titled};
 
 use crate::index_tree::Register;
 use crate::policy::treatment_name;
@@ -22,17 +22,18 @@ use reg_html::markup::Piece::{Link, Markup, Number, Text};
 use reg_html::markup::{push, push_all};
 use reg_html::table;
 use reg_notes::note::Note;
+use reg_notes::notes::Notes;
 use reg_pages::blocks::count_of;
-use reg_pages::noted::push_apply;
+use reg_pages::noted::{of_authority, of_registry, push_apply};
 use std::alloc::{AllocError, Global};
 
 /// The first page: the moment, in seconds since 1970-01-01T00:00:00Z; what is noted about the authority,
-/// which is its title, where to apply, and what else it says; the registries with the policies of their
-/// ranges, their counts and the moments of their last changes; the prefixes of the pool; and how many
+/// which is its title, where to apply, and what else it says; the registries with the titles that are
+/// noted, the policies of their ranges, their counts and the moments of their last changes; the prefixes of the pool; and how many
 /// blocks were given. Only want of memory is an error.
 pub fn index_page(
     alloc: Global,
-    authority: Option<&Note>,
+    notes: Option<&Notes>,
     registers: &[Register<'_>],
     pool: &Pool,
     blocks: &[Listed],
@@ -40,15 +41,15 @@ pub fn index_page(
 ) -> Result<Vec<u8>, AllocError>
     ensures { IfOk result
         (λ v. v.items
-        ≡ index_page (option_copied authority.entry) (map row_of registers.now) pool.now blocks.now
+        ≡ index_page (option_copied notes.entry) (map row_of registers.now) pool.now blocks.now
         moment) }
 {
-    page_of(alloc, authority, registers, pool.prefixes(), blocks, moment)
+    page_of(alloc, notes, registers, pool.prefixes(), blocks, moment)
 }
 
 fn page_of(
     alloc: Global,
-    authority: Option<&Note>,
+    notes: Option<&Notes>,
     registers: &[Register<'_>],
     prefixes: &[u32],
     blocks: &[Listed],
@@ -56,9 +57,10 @@ fn page_of(
 ) -> Result<Vec<u8>, AllocError>
     ensures { IfOk result
         (λ v. v.items
-        ≡ index_page (option_copied authority.entry) (map row_of registers.now)
+        ≡ index_page (option_copied notes.entry) (map row_of registers.now)
         prefixes.now blocks.now moment) }
 {
+    let authority = of_authority(notes);
     let mut out = Vec::new(alloc);
     push_start_with_feed(
         &mut out,
@@ -66,9 +68,10 @@ fn page_of(
         "changes.atom",
         title_of(authority, "Registries"),
     )?;
+    push_more_links(&mut out)?;
     push_as_of(&mut out, alloc, moment)?;
     push_front(&mut out, authority)?;
-    push_registries(&mut out, alloc, registers)?;
+    push_registries(&mut out, alloc, notes, registers)?;
     push_pool(&mut out, alloc, prefixes)?;
     push_blocks(&mut out, blocks)?;
     push_end(&mut out)?;
@@ -82,7 +85,6 @@ fn push_front(out: &mut Vec<u8>, authority: Option<&Note>) -> Result<(), AllocEr
 {
     push_authority(out, authority)?;
     push_apply(out, authority)?;
-    push_more_links(out)?;
     Ok(())
 }
 
@@ -105,6 +107,7 @@ fn push_said(out: &mut Vec<u8>, words: &str) -> Result<(), AllocError>
     push_all(out, &[Markup("<p>"), Text(words), Markup("</p>")])
 }
 
+// Links to the other pages, and to the index for programs.
 fn push_more_links(out: &mut Vec<u8>) -> Result<(), AllocError>
     ensures { OnOk result (Shown out.old.items out.new.items more_links) }
 {
@@ -112,6 +115,8 @@ fn push_more_links(out: &mut Vec<u8>) -> Result<(), AllocError>
         out,
         &[
             Markup("<p>"),
+            Link("blocks.html", "Blocks"),
+            Markup(" "),
             Link("changes.html", "Changes"),
             Markup(" "),
             Link("index.json", "JSON"),
@@ -139,24 +144,28 @@ fn push_time(out: &mut Vec<u8>, text: &str) -> Result<(), AllocError>
 fn push_registries(
     out: &mut Vec<u8>,
     alloc: Global,
+    notes: Option<&Notes>,
     registers: &[Register<'_>],
 ) -> Result<(), AllocError>
     ensures { OnOk result
-        (Shown out.old.items out.new.items (registries_shown (map register_row (map row_of registers.now)))) }
+        (Shown out.old.items out.new.items (registries_shown
+        (map (register_row (option_copied notes.entry)) (map row_of registers.now)))) }
 {
     match registers.first() {
         None => push(out, "<p>There are no registries yet.</p>"),
-        Some(_) => push_table(out, alloc, registers),
+        Some(_) => push_table(out, alloc, notes, registers),
     }
 }
 
 fn push_table(
     out: &mut Vec<u8>,
     alloc: Global,
+    notes: Option<&Notes>,
     registers: &[Register<'_>],
 ) -> Result<(), AllocError>
     ensures { OnOk result
-        (Shown out.old.items out.new.items (registries_table (map register_row (map row_of registers.now)))) }
+        (Shown out.old.items out.new.items (registries_table
+        (map (register_row (option_copied notes.entry)) (map row_of registers.now)))) }
 {
     let columns = [
         "Registry",
@@ -167,7 +176,7 @@ fn push_table(
         "Free",
     ];
     table::push_start(out, "Registries", &columns)?;
-    push_registry_rows(out, alloc, registers)?;
+    push_registry_rows(out, alloc, notes, registers)?;
     table::push_end(out)?;
     Ok(())
 }
@@ -175,13 +184,16 @@ fn push_table(
 fn push_registry_rows(
     out: &mut Vec<u8>,
     alloc: Global,
+    notes: Option<&Notes>,
     registers: &[Register<'_>],
 ) -> Result<(), AllocError>
     ensures { OnOk result
-        (Shown out.old.items out.new.items (all_of (map register_row (map row_of registers.now)))) }
+        (Shown out.old.items out.new.items (all_of
+        (map (register_row (option_copied notes.entry)) (map row_of registers.now)))) }
 {
     for register in registers {
-        push_registry(out, alloc, register.changed, register.summary)?;
+        let note = of_registry(notes, register.summary.name.as_str());
+        push_registry(out, alloc, note, register.changed, register.summary)?;
     }
     Ok(())
 }
@@ -189,14 +201,15 @@ fn push_registry_rows(
 fn push_registry(
     out: &mut Vec<u8>,
     alloc: Global,
+    note: Option<&Note>,
     changed: &str,
     registry: &Summary,
 ) -> Result<(), AllocError>
     ensures { OnOk result
-        (Shown out.old.items out.new.items (registry_row changed.now registry.now)) }
+        (Shown out.old.items out.new.items (registry_row (option_copied note.entry) changed.now registry.now)) }
 {
     table::push_row_start(out, Some(registry.name.as_str()))?;
-    push_name(out, alloc, changed, &registry.name)?;
+    push_name(out, alloc, note, changed, &registry.name)?;
     push(out, "<td><ul>")?;
     push_shares(out, alloc, registry.shares.as_slice())?;
     push(out, "</ul></td>")?;
@@ -208,12 +221,19 @@ fn push_registry(
     Ok(())
 }
 
-// The name of a registry, by which its page is found, and its last change.
-fn push_name(out: &mut Vec<u8>, alloc: Global, changed: &str, name: &Name) -> Result<(), AllocError>
-    ensures { OnOk result (Shown out.old.items out.new.items (name_cell changed.now name.now)) }
+// The title of a registry, its name, by which its page is found, and its last change.
+fn push_name(
+    out: &mut Vec<u8>,
+    alloc: Global,
+    note: Option<&Note>,
+    changed: &str,
+    name: &Name,
+) -> Result<(), AllocError>
+    ensures { OnOk result
+        (Shown out.old.items out.new.items (name_cell (option_copied note.entry) changed.now name.now)) }
 {
     let target = target_of(alloc, name.as_str())?;
-    push_name_texts(out, target.as_str(), name.as_str(), changed)
+    push_name_texts(out, note, target.as_str(), name.as_str(), changed)
 }
 
 // Where the page of a registry is.
@@ -225,17 +245,39 @@ fn target_of(alloc: Global, name: &str) -> Result<String, AllocError>
 
 fn push_name_texts<'a>(
     out: &mut Vec<u8>,
+    note: Option<&Note>,
     target: &'a str,
     name: &'a str,
     changed: &'a str,
 ) -> Result<(), AllocError>
     ensures { OnOk result
-        (Shown out.old.items out.new.items (linked_cell target.now name.now changed.now)) }
+        (Shown out.old.items out.new.items (linked_cell (option_copied note.entry) target.now name.now changed.now)) }
 {
-    push_all(out, &[Markup("<th scope=\"row\">"), Link(target, name)])?;
+    push(out, "<th scope=\"row\">")?;
+    push_titled(out, note)?;
+    push_all(out, &[Link(target, name)])?;
     push_changed(out, changed)?;
     push(out, "</th>")?;
     Ok(())
+}
+
+// The title that is noted.
+fn push_titled(out: &mut Vec<u8>, note: Option<&Note>) -> Result<(), AllocError>
+    ensures { OnOk result (Shown out.old.items out.new.items (titled (option_copied note.entry))) }
+{
+    match note {
+        Some(note) => push_title(out, note.title.as_str()),
+        None => Ok(()),
+    }
+}
+
+fn push_title(out: &mut Vec<u8>, title: &str) -> Result<(), AllocError>
+    ensures { OnOk result (Shown out.old.items out.new.items (title_part title.now)) }
+{
+    if title.is_empty() {
+        return Ok(());
+    }
+    push_all(out, &[Markup("<div>"), Text(title), Markup("</div>")])
 }
 
 fn push_changed(out: &mut Vec<u8>, changed: &str) -> Result<(), AllocError>
@@ -303,7 +345,7 @@ fn push_pool(out: &mut Vec<u8>, alloc: Global, prefixes: &[u32]) -> Result<(), A
     ensures { OnOk result
         (Shown out.old.items out.new.items (pool_list prefixes.now)) }
 {
-    push(out, "<h2>Pool</h2>")?;
+    push(out, "<h2>Prefixes</h2>")?;
     push_prefix_list(out, alloc, prefixes)?;
     Ok(())
 }
@@ -313,7 +355,7 @@ fn push_prefix_list(out: &mut Vec<u8>, alloc: Global, prefixes: &[u32]) -> Resul
         (Shown out.old.items out.new.items (prefix_list prefixes.now)) }
 {
     match prefixes.first() {
-        None => push(out, "<p>The pool is empty.</p>"),
+        None => push(out, "<p>There are no prefixes yet.</p>"),
         Some(_) => push_items(out, alloc, prefixes),
     }
 }

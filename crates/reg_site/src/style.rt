@@ -16,6 +16,7 @@ table{width:100%;border-collapse:collapse;margin:1.5rem 0}
 caption{text-align:left;font-weight:600;padding:.4rem 0}
 th,td{text-align:left;vertical-align:top;padding:.3rem .8rem .3rem 0;border-bottom:1px solid var(--line)}
 th{white-space:nowrap}
+th div{white-space:normal}
 td{overflow-wrap:anywhere}
 td:nth-child(3):nth-last-child(5),td:nth-child(5):nth-last-child(3),td:nth-child(6):nth-last-child(2){\
 white-space:nowrap}

@@ -1,5 +1,6 @@
 use Rattle.std.proofs.Common.{◌≡◌, map, sym, ap, ◌∙◌}
 use Rattle.std.proofs.lemmas.Simd.{map-map}
+use Rattle.std.specs.Option.{option_copied}
 use Rattle.reg_history.specs.Chain.{chained}
 use Rattle.reg_history.specs.Overview.{moment_by}
 use Rattle.reg_changes.specs.Recorded.{last_changed}
@@ -26,6 +27,6 @@ returns g c = λ records is.
     let given = sym (ap blocks_of c.in_ok-blocks_in.ensures) in
     summed_as g.F.Folder.Puts c.args.folder.now c.publish_indexes.new.folder c.args.sums.now
     c.publish_indexes.new.sums _ _
-    (λ i. index_files (c.of_authority.ensures i) (chained records).digests (rows i) (pool i)
+    (λ i. index_files (option_copied c.args.notes) (chained records).digests (rows i) (pool i)
     (given i) c.args.moment)
     (c.in_ok-publish_indexes.ensures records is)

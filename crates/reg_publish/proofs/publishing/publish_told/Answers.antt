@@ -1,7 +1,6 @@
 use Rattle.std.proofs.Common.{[], ◌++◌, ap, ◌∙◌}
 use Rattle.std.specs.Option.{option_copied}
 use Rattle.reg_history.specs.Chain.{chained}
-use Rattle.reg_pages.specs.Noted.{noted_in}
 use Rattle.reg_site.specs.Site.{index_files, one_file, rows_by, shown_files}
 use Rattle.reg_site.specs.Sums.{entries_of, lines_of, with_sums}
 use Rattle.reg_site.specs.declared.files.File.TheVariants.{Changes, Sums}
@@ -32,7 +31,7 @@ returns g c = λ records is.
     c.in_ok-put.ensures in
     let shown = shown_files notes records digests pages prefixes rows in
     let steady = one_file Changes text ++ shown in
-    let indexes = index_files (noted_in notes []) digests (rows_by records pages) prefixes rows
+    let indexes = index_files notes digests (rows_by records pages) prefixes rows
     c.args.moment in
     let files = steady ++ indexes in
     let summed = places_summed Puts (f, entries_of s) (f3, entries_of s3) files

@@ -3,7 +3,4 @@ use Rattle.reg_site.proofs.index.push_front.Goals as goal
 
 pub returns : goal.returns
 returns c =
-    shown
-    (joined c.in_ok-push_authority.ensures.bytes
-    (joined c.in_ok-push_apply.ensures.bytes
-    (c.in_ok-push_more_links.ensures.bytes)))
+    shown (joined c.in_ok-push_authority.ensures.bytes (c.in_ok-push_apply.ensures.bytes))

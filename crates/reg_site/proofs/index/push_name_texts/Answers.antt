@@ -4,6 +4,8 @@ use Rattle.reg_site.proofs.index.push_name_texts.Goals as goal
 pub returns : goal.returns
 returns c =
     shown
+    (joined c.in_ok-push.ensures
+    (joined c.in_ok-push_titled.ensures.bytes
     (joined c.in_ok-push_all.ensures
     (joined c.in_ok-push_changed.ensures.bytes
-    (c.in_ok-push.ensures)))
+    (c.in_ok-push-2.ensures)))))
