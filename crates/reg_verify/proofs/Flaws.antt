@@ -6,7 +6,11 @@ use Rattle.reg_history.specs.Chain.{chained, says}
 use Rattle.reg_changes.specs.declared.change.HistoryRecord.{HistoryRecord}
 use Rattle.reg_history.specs.Noted.{some_begins}
 use Rattle.reg_history.specs.History.{TellsWrong}
-use Rattle.reg_changes.specs.Said.{said_by}
+use Rattle.reg_changes.specs.Said.{Says, said_by}
+use Rattle.std.specs.BTreeMap.{BTreeMap}
+use Rattle.reg_changes.specs.declared.change.Details.{Details}
+use Rattle.reg_changes.specs.declared.change.Subject.{Subject}
+use Rattle.reg_verify.proofs.Nameless.{nameless_said}
 use Rattle.reg_history.specs.declared.history.History.{History}
 use Rattle.reg_changes.specs.declared.change.Fact.{Fact}
 use Rattle.reg_history.specs.declared.history.Unreadable.{Unreadable}
@@ -45,23 +49,25 @@ module _ (Found : FolderPart → Option (List ℕ) → Type 0) (Names : List (Li
   tells_unreadable text (unreadable.Wrong number) found told = (text, found, told)
 
   -- a registry has no name
-  pub tells_nameless : (records : List HistoryRecord) (why : Unverified) → HasHistory Found records
-      → IsNameless why → TellsWhy Found Names None why
-  tells_nameless records un.Memory has h = tt
-  tells_nameless records un.Read has h = tt
-  tells_nameless records un.Large has h = tt
-  tells_nameless records (un.Flawed flaw.Name) has h = (records, has)
-  tells_nameless records (un.Flawed (flaw.Missing f)) has h = absurd h
-  tells_nameless records (un.Flawed flaw.Header) has h = absurd h
-  tells_nameless records (un.Flawed (flaw.Record n)) has h = absurd h
-  tells_nameless records (un.Flawed flaw.Index) has h = absurd h
-  tells_nameless records (un.Flawed (flaw.Misspelt f)) has h = absurd h
-  tells_nameless records (un.Flawed flaw.Unnamed) has h = absurd h
-  tells_nameless records (un.Flawed (flaw.Listing name)) has h = absurd h
-  tells_nameless records (un.Flawed (flaw.Stray file)) has h = absurd h
-  tells_nameless records (un.Flawed (flaw.Subject s)) has h = absurd h
-  tells_nameless records (un.Flawed flaw.Short) has h = absurd h
-  tells_nameless records (un.Flawed flaw.Digest) has h = absurd h
+  pub tells_nameless : (said : BTreeMap Subject Details) (records : List HistoryRecord) (why : Unverified)
+      → HasHistory Found records → Says said (says records) → IsNameless (said_by said) why
+      → TellsWhy Found Names None why
+  tells_nameless said records un.Memory has same h = tt
+  tells_nameless said records un.Read has same h = tt
+  tells_nameless said records un.Large has same h = tt
+  tells_nameless said records (un.Flawed flaw.Name) has same h =
+      (records, has, nameless_said (said_by said) (says records) same h)
+  tells_nameless said records (un.Flawed (flaw.Missing f)) has same h = absurd h
+  tells_nameless said records (un.Flawed flaw.Header) has same h = absurd h
+  tells_nameless said records (un.Flawed (flaw.Record n)) has same h = absurd h
+  tells_nameless said records (un.Flawed flaw.Index) has same h = absurd h
+  tells_nameless said records (un.Flawed (flaw.Misspelt f)) has same h = absurd h
+  tells_nameless said records (un.Flawed flaw.Unnamed) has same h = absurd h
+  tells_nameless said records (un.Flawed (flaw.Listing name)) has same h = absurd h
+  tells_nameless said records (un.Flawed (flaw.Stray file)) has same h = absurd h
+  tells_nameless said records (un.Flawed (flaw.Subject s)) has same h = absurd h
+  tells_nameless said records (un.Flawed flaw.Short) has same h = absurd h
+  tells_nameless said records (un.Flawed flaw.Digest) has same h = absurd h
 
   -- a subject is published otherwise
   pub tells_unlike : (records : List HistoryRecord) (facts : List Fact) (why : Unverified)

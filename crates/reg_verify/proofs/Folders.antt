@@ -18,7 +18,8 @@ use Rattle.reg_history.specs.History.{IsHistory, SaysJust}
 use Rattle.reg_changes.specs.Said.{said_by}
 use Rattle.reg_history.specs.declared.history.History.{History}
 use Rattle.reg_verify.specs.Index.{IsInHistory, NamedRecord, named_record}
-use Rattle.reg_verify.specs.Strays.{HasNoStray}
+use Rattle.reg_verify.specs.Strays.{AllHaveNames, HasNoStray}
+use Rattle.reg_verify.proofs.Nameless.{names_said}
 use Rattle.reg_verify.proofs.StrayFiles.{none_said}
 use Rattle.reg_verify.specs.Verifying.{AddsBlocks, AddsPage, AddsPool, AreFactsOf, AreFactsOfPages, HasIndex, HasPage, IsHistoryIn, IsNotedIn, IsPageIn, IsVerified}
 use Rattle.reg_verify.specs.declared.part.FolderPart.{FolderPart}
@@ -95,13 +96,14 @@ module _ (Found : FolderPart → Option (List ℕ) → Type 0) where
 
 -- what is verified, by its parts
 module _ (Found : FolderPart → Option (List ℕ) → Type 0) (Names : List (List ℕ) → Type 0) where
-  -- a history that says just what the files publish, and has the record of the index, where no file is stray
+  -- a history that says just what the files publish, and has the record of the index, where each registry
+  -- has a name and no file is stray
   pub verified_by : (h : History) (digests : List (List ℕ)) (facts : List Fact)
       → IsHistoryIn Found h → HasIndex Found h.chain.digests.items → AreFactsOf Found facts
-      → HasNoStray Names (said_by h.said)
+      → AllHaveNames (said_by h.said) → HasNoStray Names (said_by h.said)
       → ((records : List HistoryRecord) → IsHistory h records → SaysJust records facts)
       → digests ≡ h.chain.digests.items → IsVerified Found Names None digests
-  verified_by h digests facts is index are none says same = record {
+  verified_by h digests facts is index are named none says same = record {
     records = is.0;
     facts = facts;
     history = is.1;
@@ -109,6 +111,7 @@ module _ (Found : FolderPart → Option (List ℕ) → Type 0) (Names : List (Li
     index = subst (HasIndex Found) (sym same) index;
     published = are;
     says = says is.0 is.2;
+    named = names_said (said_by h.said) (says_of is.0) is.2.said named;
     no_stray = none_said Names (said_by h.said) (says_of is.0) is.2.said none;
     has = tt;
   }
@@ -127,6 +130,7 @@ module _ (Found : FolderPart → Option (List ℕ) → Type 0) (Names : List (Li
         index = is.index;
         published = is.published;
         says = is.says;
+        named = is.named;
         no_stray = is.no_stray;
         has = has;
       })

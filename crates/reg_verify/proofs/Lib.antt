@@ -1,5 +1,6 @@
 mod Flaws
 mod Folders
 mod Named
+mod Nameless
 mod Portioned
 mod StrayFiles

@@ -67,7 +67,7 @@ between name v s above below =
     )
 
 -- a range of a registry is one that the history has
-has_range : (map : BTreeMap Subject Details) (name : List ℕ) (s : Subject)
+pub has_range : (map : BTreeMap Subject Details) (name : List ℕ) (s : Subject)
     → IsSome (said_by map s) → IsRegistryRange name s → HasRegistry (said_by map) name
 has_range map name s some is =
     let same : s ≡ range_at name s.value =
@@ -197,7 +197,7 @@ module _ {X : Type 0} (f : X → List ℕ) (said : Said) where
 -- ---- As the records say
 
 -- where the same is said of each subject, the same registries are there
-has_said : (a b : Said) → ((s : Subject) → a s ≡ b s) → (name : List ℕ) → HasRegistry a name
+pub has_said : (a b : Said) → ((s : Subject) → a s ≡ b s) → (name : List ℕ) → HasRegistry a name
     → HasRegistry b name
 has_said a b same name has = (has.0, subst IsSome (same (range_at name has.0)) has.1)
 

@@ -1,7 +1,8 @@
 -- The files of the folder `registries`, by their names, and whether a history has a registry for each.
-use Rattle.std.specs.Prelude.{◌≡◌, ◌⊎◌, List, ℕ, ◌++◌, Option, Some, None, All, Contains, IsSome, codes}
+use Rattle.std.specs.Prelude.{◌≡◌, ◌⊎◌, true, false, List, ℕ, ◌++◌, Option, Some, None, All, Contains, IsSome, codes}
 use Rattle.std.specs.BTreeMap.{BTreeMap}
 use Rattle.std.specs.BTreeMap.Range.{IsLeBy}
+use Rattle.reg_core.specs.Names.{is_name}
 use Rattle.reg_changes.specs.Replay.{Said}
 use Rattle.reg_changes.specs.Said.{said_by}
 use Rattle.reg_changes.specs.Subjects.{subject_cmp}
@@ -32,6 +33,14 @@ range_at name value = record { registry = name; class = class.Range; value = val
 -- the history has the registry of this name, since it has a range of it
 abbrev pub HasRegistry : Said → List ℕ → Type 0
 HasRegistry said name = (value : List ℕ) × IsSome (said (range_at name value))
+
+-- each registry of the history has a name
+abbrev pub AllHaveNames : Said → Type 0
+AllHaveNames said = (name : List ℕ) → HasRegistry said name → is_name name ≡ true
+
+-- the history has a registry whose name is none
+abbrev pub HasNameless : Said → Type 0
+HasNameless said = (name : List ℕ) × HasRegistry said name × (is_name name ≡ false)
 
 -- a file of this name is of no other registry than those of the history
 abbrev pub IsKnown : Said → List ℕ → Type 0

@@ -1,8 +1,9 @@
 -- What it means that a published folder is verified. `Found` says which bytes a file of the folder has, or
 -- that it is not there; `Names` says which names the files of its folder `registries` have.
-use Rattle.std.specs.Prelude.{◌≡◌, ◌≢◌, ◌≤◌, ◌<◌, ⊤, ℕ, true, false, List, [], ◌++◌, Option, Some, None, codes, length, if◌then◌else◌, ◌==◌, map, All, string_bytes}
+use Rattle.std.specs.Prelude.{◌≡◌, ◌≢◌, ◌≤◌, ◌<◌, ⊤, ℕ, true, false, List, [], ◌∷◌, ◌++◌, Option, Some, None, codes, length, if◌then◌else◌, ◌==◌, map, All, string_bytes}
 use Rattle.std.specs.Fmt.{decimal}
 use Rattle.std.specs.List.{flat_map}
+use Rattle.reg_core.specs.Names.{is_name}
 use Rattle.reg_core.specs.declared.holding.Listed.{Listed}
 use Rattle.reg_core.specs.declared.page.Page.{Page}
 use Rattle.reg_core.specs.declared.told.Told.TheVariants as tells
@@ -13,7 +14,9 @@ use Rattle.reg_history.specs.History.{IsHistory, SaysJust, TellsWrong}
 use Rattle.reg_history.specs.Unlike.{TellsUnlike}
 use Rattle.reg_history.specs.Published.{block_fact, page_facts, prefix_fact, published_facts}
 use Rattle.reg_changes.specs.Replay.{Said}
+use Rattle.reg_changes.specs.declared.change.Class.TheVariants as class
 use Rattle.reg_changes.specs.declared.change.Fact.{Fact}
+use Rattle.reg_changes.specs.declared.change.Subject.{Subject}
 use Rattle.reg_history.specs.declared.history.History.{History}
 use Rattle.reg_history.specs.declared.history.Unlike.TheVariants as unlike
 use Rattle.reg_history.specs.declared.history.Unreadable.TheVariants as unreadable
@@ -22,7 +25,7 @@ use Rattle.reg_site.specs.Site.{told_text}
 use Rattle.reg_verify.specs.Parts.{place_of}
 use Rattle.reg_verify.specs.declared.part.FolderPart.{FolderPart}
 use Rattle.reg_verify.specs.declared.part.FolderPart.TheVariants as part
-use Rattle.reg_verify.specs.Strays.{HasNoStray, HasStray}
+use Rattle.reg_verify.specs.Strays.{AllHaveNames, HasNameless, HasNoStray, HasStray}
 use Rattle.reg_verify.specs.Index.{IsInHistory, NamedRecord, named_record}
 use Rattle.reg_verify.specs.declared.flaw.FolderFlaw.{FolderFlaw}
 use Rattle.reg_verify.specs.declared.flaw.FolderFlaw.TheVariants as flaw
@@ -108,8 +111,8 @@ IsNotedIn digests None = ⊤
 IsNotedIn digests (Some digits) = (16 ≤ length digits) × (some_begins digits digests ≡ true)
 
 -- The history of the folder has these digests, the record that the index names, and the digest that was
--- noted, if one was. What it says is just what the files publish, and no other file there is the JSON or
--- the listing of a registry.
+-- noted, if one was. What it says is just what the files publish, each of its registries has a name, and no
+-- other file there is the JSON or the listing of a registry.
 pub record IsVerified (Found : FolderPart → Option (List ℕ) → Type 0) (Names : List (List ℕ) → Type 0)
     (noted : Option (List ℕ)) (digests : List (List ℕ)) : Type 0 where
   pub records : List HistoryRecord
@@ -118,6 +121,7 @@ pub record IsVerified (Found : FolderPart → Option (List ℕ) → Type 0) (Nam
   pub tied : digests ≡ (chained records).digests
   pub index : HasIndex Found digests
   pub published : AreFactsOf Found facts
+  pub named : AllHaveNames (says records)
   pub no_stray : HasNoStray Names (says records)
   pub says : SaysJust records facts
   pub has : IsNotedIn digests noted
@@ -143,7 +147,8 @@ TellsFlaw Found Names noted flaw.Header =
     (text : List ℕ) × Found part.History (Some text) × TellsWrong text unreadable.Header
 TellsFlaw Found Names noted (flaw.Record number) =
     (text : List ℕ) × Found part.History (Some text) × TellsWrong text (unreadable.Wrong number)
-TellsFlaw Found Names noted flaw.Name = (records : List HistoryRecord) × HasHistory Found records
+TellsFlaw Found Names noted flaw.Name =
+    (records : List HistoryRecord) × HasHistory Found records × HasNameless (says records)
 TellsFlaw Found Names noted flaw.Index =
     (records : List HistoryRecord) × (bytes : List ℕ) × (named : NamedRecord)
     × HasHistory Found records × Found part.Index (Some bytes)
@@ -179,11 +184,30 @@ TellsWhy Found Names noted (un.Flawed f) = TellsFlaw Found Names noted f
 
 -- ---- Parts of it
 
--- the name of a registry is none, or memory was wanting
-abbrev pub IsNameless : Unverified → Type 0
-IsNameless un.Memory = ⊤
-IsNameless (un.Flawed flaw.Name) = ⊤
-IsNameless _ = ⊥
+-- a registry of what is said has no name, or memory was wanting
+abbrev pub IsNameless : Said → Unverified → Type 0
+IsNameless said un.Memory = ⊤
+IsNameless said (un.Flawed flaw.Name) = HasNameless said
+IsNameless said _ = ⊥
+
+-- the registry of a subject has no name, or memory was wanting
+abbrev pub IsNamelessAt : Subject → Unverified → Type 0
+IsNamelessAt subject un.Memory = ⊤
+IsNamelessAt subject (un.Flawed flaw.Name) = is_name subject.registry ≡ false
+IsNamelessAt subject _ = ⊥
+
+-- a subject is a range of another registry than the one of the last name
+abbrev pub IsNewRange : Option (List ℕ) → Subject → Type 0
+IsNewRange last subject = (subject.class ≡ class.Range) × (last ≢ Some subject.registry)
+
+-- it is of that one, if it is a range
+abbrev pub IsOfLast : Option (List ℕ) → Subject → Type 0
+IsOfLast last subject = subject.class ≡ class.Range → last ≡ Some subject.registry
+
+-- the name of the registry of a subject came to these
+abbrev pub AddsName : Subject → List (List ℕ) → List (List ℕ) → Type 0
+AddsName subject names names' =
+    (is_name subject.registry ≡ true) × (names' ≡ names ++ subject.registry ∷ [])
 
 -- a subject is unlike what was said, or memory was wanting
 abbrev pub IsUnlikeBy : Said → List Fact → Unverified → Type 0

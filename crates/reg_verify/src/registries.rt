@@ -1,10 +1,13 @@
 //! What the files of a published folder publish, as facts.
-ghost use Rattle.std.specs.Prelude.{true, List, Some, None, OnOk, IfOk, IfErr};
+ghost use Rattle.std.specs.Prelude.{true, List, Some, None, OnOk, IfOk, IfErr, MatchBool};
+ghost use Rattle.std.specs.Option.{option_copied};
+ghost use Rattle.reg_changes.specs.Said.{Says, said_by};
 ghost use Rattle.reg_changes.specs.declared.change.HistoryRecord.{HistoryRecord};
 ghost use Rattle.reg_print.specs.Listing.{listing_text};
 ghost use Rattle.reg_verify.specs.declared.part.FolderPart.TheVariants as part;
-ghost use Rattle.reg_verify.specs.Strays.{Lists};
-ghost use Rattle.reg_verify.specs.Verifying.{AddsBlocks, AddsPage, AddsPool, AreFactsOf, AreFactsOfPages, Finds, HasHistory, IsPageIn, IsNameless, TellsWhy};
+ghost use Rattle.reg_history.specs.Chain.{says};
+ghost use Rattle.reg_verify.specs.Strays.{AllHaveNames, Lists};
+ghost use Rattle.reg_verify.specs.Verifying.{AddsBlocks, AddsName, AddsPage, AddsPool, AreFactsOf, AreFactsOfPages, Finds, HasHistory, IsNameless, IsNamelessAt, IsNewRange, IsOfLast, IsPageIn, TellsWhy};
 
 use crate::files::{blocks_in, bytes_of, page_in, pool_in, told_in};
 use crate::flaw::{FolderFlaw, Unverified};
@@ -18,7 +21,7 @@ use reg_core::page::Page;
 use reg_core::text::Name;
 use reg_history::published::{add_blocks, add_page, add_prefixes};
 use reg_site::listing::RegistryCsv;
-use std::alloc::{AllocError, Global};
+use std::alloc::Global;
 
 /// All that is published by the files of a folder, of which the registries are those that a history names.
 pub(crate) fn facts_in<F: Reads>(
@@ -28,8 +31,10 @@ pub(crate) fn facts_in<F: Reads>(
 ) -> Result<Vec<Fact>, Unverified>
     ensures facts { IfOk result
         (λ facts. AreFactsOf (Finds F.Tells F.held folder.now) facts.items) }
+    ensures named { OnOk result (AllHaveNames (said_by said.now)) }
     ensures why { IfErr result (λ why. (records : List HistoryRecord)
         → HasHistory (Finds F.Tells F.held folder.now) records
+        → Says said.now (says records)
         → TellsWhy (Finds F.Tells F.held folder.now)
         (Lists F.Tells F.listed folder.now) None why) }
 {
@@ -42,7 +47,8 @@ pub(crate) fn facts_in<F: Reads>(
 
 // The names of the registries of a history, each once, in order. `Name` where one is none.
 fn names_in(alloc: Global, said: &Said) -> Result<Vec<Name>, Unverified>
-    ensures { IfErr result IsNameless }
+    ensures named { OnOk result (AllHaveNames (said_by said.now)) }
+    ensures why { IfErr result (IsNameless (said_by said.now)) }
 {
     let mut names = Vec::new(alloc);
     for subject in said.keys() {
@@ -54,7 +60,10 @@ fn names_in(alloc: Global, said: &Said) -> Result<Vec<Name>, Unverified>
 }
 
 // Whether a subject is a range of another registry than the last.
-fn is_new(last: Option<&Name>, subject: &Subject) -> bool {
+fn is_new(last: Option<&Name>, subject: &Subject) -> bool
+    ensures { MatchBool result (IsNewRange (option_copied last.entry) subject.now)
+        (IsOfLast (option_copied last.entry) subject.now) }
+{
     match (subject.class, last) {
         (Class::Range, Some(name)) => name.as_str() != subject.registry.as_str(),
         (Class::Range, None) => true,
@@ -64,11 +73,14 @@ fn is_new(last: Option<&Name>, subject: &Subject) -> bool {
 
 // Adds the name of the registry that a subject is of.
 fn push_name(names: &mut Vec<Name>, subject: &Subject) -> Result<(), Unverified>
-    ensures { IfErr result IsNameless }
+    ensures named { OnOk result (AddsName subject.now names.old.items names.new.items) }
+    ensures why { IfErr result (IsNamelessAt subject.now) }
 {
     match Name::read(subject.registry.as_str().as_bytes()) {
         Some(name) => {
-            names.push(name).map_err(AllocError::from)?;
+            if names.push(name).is_err() {
+                return Err(Unverified::Memory);
+            }
             Ok(())
         }
         None => Err(Unverified::Flawed(FolderFlaw::Name)),

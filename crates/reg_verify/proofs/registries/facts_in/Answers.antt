@@ -1,5 +1,7 @@
 use Rattle.std.proofs.Common.{List, None}
 use Rattle.reg_changes.specs.declared.change.HistoryRecord.{HistoryRecord}
+use Rattle.reg_history.specs.Chain.{says}
+use Rattle.reg_changes.specs.Said.{Says}
 use Rattle.reg_verify.specs.Strays.{Lists}
 use Rattle.reg_verify.specs.Verifying.{Finds, HasHistory, TellsWhy}
 use Rattle.reg_verify.proofs.Flaws.{handed_on, tells_nameless}
@@ -16,7 +18,9 @@ pub returns-in_err-names-clause-why : goal.returns-in_err-names-clause-why
 returns-in_err-names-clause-why g c =
     let Found = Finds g.F.Reads.Tells g.F.Reads.held c.args.folder.now in
     let Names = Lists g.F.Reads.Tells g.F.Reads.listed c.args.folder.now in
-    handed_on (λ why. (records : List HistoryRecord) → HasHistory Found records → TellsWhy Found Names None why)
+    handed_on (λ why. (records : List HistoryRecord) → HasHistory Found records
+    → Says c.args.said.now (says records) → TellsWhy Found Names None why)
     c.from_residual.result c.in_err-names.field-0.0
     c.from_residual.ensures.1
-    (λ records has. tells_nameless Found Names records c.in_err-names.field-0.0 has c.in_err-names.ensures)
+    (λ records has same. tells_nameless Found Names c.args.said.now records c.in_err-names.field-0.0 has same
+    c.in_err-names.ensures.why)

@@ -16,7 +16,7 @@ returns-in-None-clause-verified g c =
     let Names = Lists g.F.Reads.Tells g.F.Reads.listed c.args.folder.now in
     verified_by (Finds g.F.Reads.Tells g.F.Reads.held c.args.folder.now) Names c.in_ok-history.history
     c.in_ok-chain.chain.digests.items c.in_ok-facts.facts.items c.in_ok-history.ensures.history
-    c.in_ok-find_record.ensures.found c.in_ok-facts.ensures.facts
+    c.in_ok-find_record.ensures.found c.in_ok-facts.ensures.facts c.in_ok-facts.ensures.named
     (no_stray Names (said_by c.in_ok-history.history.said) c.in_ok-stray.stray c.in-None.is
     c.in_ok-stray.ensures.stray)
     (λ records is.
@@ -39,7 +39,7 @@ returns-in_err-facts-clause-why g c =
     handed_on (TellsWhy (Finds g.F.Reads.Tells g.F.Reads.held c.args.folder.now)
     (Lists g.F.Reads.Tells g.F.Reads.listed c.args.folder.now) None)
     c.from_residual-in_err-facts.result c.in_err-facts.field-0.0
-    c.from_residual-in_err-facts.ensures.1 (c.in_err-facts.ensures.why is.0 is.1)
+    c.from_residual-in_err-facts.ensures.1 (c.in_err-facts.ensures.why is.0 is.1 is.2.said)
 
 pub returns-in_err-chain-clause-why : goal.returns-in_err-chain-clause-why
 returns-in_err-chain-clause-why g c =
