@@ -16,7 +16,7 @@ use Rattle.reg_changes.proofs.SameSubjects.{same_subject-exact}
 use Rattle.reg_changes.specs.declared.change.Class.TheVariants as class
 use Rattle.reg_changes.specs.declared.change.Details.{Details}
 use Rattle.reg_changes.specs.declared.change.Subject.{Subject}
-use Rattle.reg_verify.specs.Strays.{AllHaveNames, HasNameless, HasRegistry, range_at}
+use Rattle.reg_verify.specs.Strays.{AllHaveNames, HasNameless, range_at}
 use Rattle.reg_verify.specs.Verifying.{IsNameless, IsNamelessAt, IsNewRange, IsOfLast, AddsName}
 use Rattle.reg_verify.specs.declared.flaw.FolderFlaw.TheVariants as flaw
 use Rattle.reg_verify.specs.declared.flaw.Unverified.{Unverified}
