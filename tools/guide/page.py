@@ -29,7 +29,7 @@ systemctl stop registry; sleep 3; curl -s -o /dev/null -w '%{{http_code}}\\n' {S
 FOUND = f'''journalctl -q --no-pager -o export | grep -ac {WORD}
 grep -rla {WORD} /var/log /var/lib/nginx /var/lib/caddy /srv /tmp | grep -v '^/var/log/journal' | wc -l'''
 ROOM = 'for process in $(pidof nginx); do nsenter -t $process -m df --output=fstype,size /var/lib/nginx | tail -n 1; done | tr -s " " | sort -u'
-SENTENCE = 'grep -c "Clerks can use the desk only from the office.\'s network" /usr/share/reg-cli/desk/errors.js'
+SENTENCE = 'grep -c "Clerks can use the desk only from the office\'s network" /usr/share/reg-cli/desk/errors.js'
 PACKED = '''for path in /site/changes.csv /registries/codes /requests; do
     curl -s -o /dev/null -D - -H 'Accept-Encoding: gzip' https://registry.example.org$path | grep -ic '^content-encoding: gzip'; done; true'''
 BY_SIX = '''curl -s -k -o /dev/null -w '%{http_code}\\n' 'https://[::1]/registries'; curl -s -o /dev/null -w '%{http_code}\\n' 'http://[::1]/' '''
