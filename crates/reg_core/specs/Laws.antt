@@ -16,14 +16,15 @@ use Rattle.reg_core.specs.Capability.{last_until}
 use Rattle.reg_core.specs.Counting.{counts}
 use Rattle.reg_core.specs.Command.{kind_of, has_command_form}
 use Rattle.reg_core.specs.Lists.{CapList, HaveGone, PendingList, Shows, BlockList, IsRow, IsOwnRow, IsFile, IsItem, OwnList, HasHoldingOf, HoldingList, QueueList, AccountList, ShowsMark, SaidOfAgent}
+use Rattle.reg_core.specs.Journal.{recorded, stamp_of_job}
 use Rattle.reg_core.specs.Names.{is_token, is_digest}
 use Rattle.reg_core.specs.Request.{is_pending, request_rows}
 use Rattle.reg_core.specs.Rules.{change_to_give}
 use Rattle.reg_core.specs.Run.{Event, have_forms, world_after}
 use Rattle.reg_core.specs.Step.{answer_to, step}
-use Rattle.reg_core.specs.View.{published, cap_at, view_of}
+use Rattle.reg_core.specs.View.{published, cap_at, view_of, view_by_now}
 use Rattle.reg_core.specs.WellKept.{WellKept, CanApply}
-use Rattle.reg_core.specs.World.{World, Place, RequestName, empty_world, applied}
+use Rattle.reg_core.specs.World.{World, Place, RequestName, empty_world}
 use Rattle.reg_core.specs.declared.advice.Advice.{Advice}
 use Rattle.reg_core.specs.declared.advice.Verdict.TheVariants.{For}
 use Rattle.reg_core.specs.declared.ask.Ask.{Ask}
@@ -80,6 +81,24 @@ TwoWorlds digest_of =
     (w v : World) (caller : Option (List ℕ)) (moment : ℕ) (command : Command)
     → WellKept w → WellKept v → IsNoClerk w caller
     → view_of w caller ≡ view_of v caller → AreAlike digest_of w v caller moment command
+
+-- the caller is answered alike in both worlds, and then sees the same by now in both
+pub record AreAlikeByNow (digest_of : List ℕ → List ℕ) (w v : World) (caller : Option (List ℕ))
+    (moment : ℕ) (command : Command) : Type 0 where
+  pub replies : (step digest_of w caller moment command).reply
+      ≡ (step digest_of v caller moment command).reply
+  pub views : view_by_now (step digest_of w caller moment command).world caller
+      ≡ view_by_now (step digest_of v caller moment command).world caller
+
+-- the view without times is enough for that, since no command is answered by times: two well kept
+-- worlds that show a caller who is no clerk the same by now answer it alike, and then show it the same
+-- by now
+abbrev pub TwoWorldsByNow : (List ℕ → List ℕ) → Type 0
+TwoWorldsByNow digest_of =
+    (w v : World) (caller : Option (List ℕ)) (moment : ℕ) (command : Command)
+    → WellKept w → WellKept v → IsNoClerk w caller
+    → view_by_now w caller ≡ view_by_now v caller
+    → AreAlikeByNow digest_of w v caller moment command
 
 -- ---- Well kept
 
@@ -373,14 +392,14 @@ pub record TakesJust (old new : FinMap text_cmp Cap) (chosen : CapRow → Bool) 
   pub none : (digest : List ℕ) → get old digest ≡ None → get new digest ≡ None
 
 -- a clerk who is told of capabilities that have gone after such a command took just these, and nothing
--- else changes; the token in use keeps its capability
+-- else changes but the journal; the token in use keeps its capability
 abbrev pub TookJust : (List ℕ → List ℕ) → World → Option (List ℕ) → ℕ → ClerkCommand
     → (CapRow → Bool) → List CapRow → Type 0
 TookJust digest_of w caller moment command chosen rows =
     let after = step digest_of w caller moment (Clerk command) in
     after.reply ≡ Accepted (Capabilities rows)
     → TakesJust w.caps after.world.caps chosen rows
-    × (after.world ≡ record w { caps = after.world.caps })
+    × (after.world ≡ record w { caps = after.world.caps; journal = after.world.journal })
     × (cap_at after.world caller ≡ cap_at w caller)
 
 -- a clerk who names a token by digits takes away no more than the one capability whose digest begins
@@ -446,9 +465,9 @@ DecidesSame {A} same = (a b : A) → IsTrue (same a b) ↔ (a ≡ b)
 abbrev pub clerk_cap : Cap
 clerk_cap = record { account = codes "clerk"; kind = kind.Clerk; until = last_until }
 
--- the world of a new office, whose first clerk has a token with this digest
+-- the world of a new office, whose first clerk has a token with this digest, without a moment
 abbrev pub founded_world : List ℕ → World
-founded_world digest = applied empty_world (GrantIt digest clerk_cap)
+founded_world digest = recorded (stamp_of_job None) empty_world (GrantIt digest clerk_cap)
 
 abbrev pub FirstWorldsAreWellKept : Type 0
 FirstWorldsAreWellKept =

@@ -8,13 +8,15 @@ use Rattle.reg_core.specs.Capability.{same_kind}
 use Rattle.reg_core.specs.Counting.{counts}
 use Rattle.reg_core.specs.Entry.{page_entry, with_hold}
 use Rattle.reg_core.specs.Rules.{assign_rule, approve_rule, decline_rule, hold_rule, define_rule, pool_rule, grant_rule, revoke_rule, revoke_digits_rule, revoke_account_rule}
-use Rattle.reg_core.specs.View.{published, view_of}
+use Rattle.reg_core.specs.Journal.{stamp_of, recorded_if}
+use Rattle.reg_core.specs.View.{published, view_of, cap_at}
 use Rattle.reg_early.specs.Moment.{is_in_clock, utc_day}
 use Rattle.reg_core.specs.File.{file, waiting_files, was_advised}
 use Rattle.reg_core.specs.Request.{request_rows}
-use Rattle.reg_core.specs.World.{World, RequestName, applied_if}
+use Rattle.reg_core.specs.World.{World, RequestName}
 use Rattle.reg_core.specs.declared.capability.Cap.{Cap}
 use Rattle.reg_core.specs.declared.capability.Kind.TheVariants.{Clerk}
+use Rattle.reg_core.specs.declared.change.Change.{Change}
 use Rattle.reg_core.specs.declared.command.Command.{Command}
 use Rattle.reg_core.specs.declared.command.Command.TheVariants as command
 use Rattle.reg_core.specs.declared.command.ClerkCommand.{ClerkCommand}
@@ -22,6 +24,7 @@ use Rattle.reg_core.specs.declared.command.ClerkCommand.TheVariants.{AllRequests
 use Rattle.reg_core.specs.declared.told.Told.{Told}
 use Rattle.reg_core.specs.declared.told.Told.TheVariants as tells
 use Rattle.reg_core.specs.declared.decide.Decision.{Decision}
+use Rattle.reg_core.specs.declared.journal.Stamp.{Stamp}
 use Rattle.reg_core.specs.declared.refusal.Refusal.TheVariants as no
 use Rattle.reg_core.specs.declared.reply.Reply.{Reply}
 use Rattle.reg_core.specs.declared.request.Case.{Case}
@@ -35,13 +38,22 @@ is_clerk (Some cap) moment = same_kind cap.kind Clerk && nat_lt moment cap.until
 abbrev pub acts_as_clerk : Option Cap → ℕ → Bool
 acts_as_clerk cap moment = is_in_clock moment && is_clerk cap moment
 
--- the reply of a step, and the world after it
+-- the reply of a step, and the world after it, with the acts of its change in the journal
 pub record Stepped : Type 0 where
   pub reply : Reply
   pub world : World
 
-abbrev pub stepped : World → Answer → Stepped
-stepped w a = record { reply = reply_of a; world = applied_if w (change_of a) }
+abbrev pub stepped : Stamp → World → Answer → Stepped
+stepped stamp w a =
+    record { reply = reply_of a; world = recorded_if stamp w (change_of a) }
+
+-- by this caller, with the capability that it has in the world, at a moment
+abbrev pub stamp_in : World → Option (List ℕ) → ℕ → Stamp
+stamp_in w caller moment = stamp_of caller (cap_at w caller) moment
+
+-- the world after what a caller's command changes at a moment, if it changes something
+abbrev pub carried : World → Option (List ℕ) → ℕ → Option Change → World
+carried w caller moment made = recorded_if (stamp_in w caller moment) w made
 
 -- what the desk is told after a decision about a request
 abbrev pub desk_by : RequestName → Case → Decision → Told
@@ -114,4 +126,5 @@ module _ (digest_of : List ℕ → List ℕ) where
 
   -- a step: a clerk's on the whole world, anybody else's as told, with its effect
   abbrev pub step : World → Option (List ℕ) → ℕ → Command → Stepped
-  step w caller moment command = stepped w (answer_to w caller moment command)
+  step w caller moment command =
+      stepped (stamp_in w caller moment) w (answer_to w caller moment command)

@@ -4,12 +4,14 @@ use Rattle.std.specs.FinMap.{get}
 use Rattle.std.specs.List.{AllZip}
 use Rattle.reg_maps.specs.Maps.{same_text}
 use Rattle.reg_core.specs.File.{name_of}
+use Rattle.reg_core.specs.Journal.{deed_about}
 use Rattle.reg_core.specs.Run.{Event, run, world_after}
-use Rattle.reg_core.specs.Unseen.{Stage, stages, is_unseen, kept_stages, struck}
+use Rattle.reg_core.specs.Unseen.{Stage, stages, is_hidden, is_unseen, kept_stages, struck}
 use Rattle.reg_core.specs.View.{published, cap_at, view_of}
 use Rattle.reg_core.specs.World.{World, RequestName}
 use Rattle.reg_core.specs.declared.capability.Cap.{Cap}
 use Rattle.reg_core.specs.declared.case_file.CaseFile.{CaseFile}
+use Rattle.reg_core.specs.declared.journal.Act.{Act}
 use Rattle.reg_core.specs.declared.told.Told.{Told}
 use Rattle.reg_core.specs.declared.told.Told.TheVariants as tells
 use Rattle.reg_core.specs.declared.queue.QueueRow.{QueueRow}
@@ -117,6 +119,13 @@ reply_without unseen (Refused refusal) = Refused refusal
 
 -- ---- Striking
 
+-- the act was about no such request; and a journal without those that were
+abbrev pub is_seen : (RequestName → Bool) → Act → Bool
+is_seen unseen act = not (is_hidden unseen (deed_about act.deed))
+
+abbrev pub acts_without : (RequestName → Bool) → List Act → List Act
+acts_without unseen acts = filter (is_seen unseen) acts
+
 -- none of these requests is there
 abbrev pub HasNoneUnseen : (RequestName → Bool) → World → Type 0
 HasNoneUnseen unseen w = (name : RequestName) → unseen name ≡ true → get w.requests name ≡ None
@@ -124,7 +133,8 @@ HasNoneUnseen unseen w = (name : RequestName) → unseen name ≡ true → get w
 -- an event in two runs, the second of which is struck: before and after it both worlds show the
 -- account the same, and it is answered alike; an answer that lists requests of others may differ
 -- in rows of unseen requests, and in nothing else; the second run leaves unseen requests as they
--- were, and where none is there, it lists all rows of the first run but theirs
+-- were, and where none is there, it lists all rows of the first run but theirs; the journals of both
+-- are the same once the acts about unseen requests are left out of both
 pub record AreAlikeTo (account : List ℕ) (unseen : RequestName → Bool) (s t : Stage) : Type 0 where
   pub event : s.event ≡ t.event
   pub before : ShowSame account s.before t.before
@@ -135,6 +145,7 @@ pub record AreAlikeTo (account : List ℕ) (unseen : RequestName → Bool) (s t 
   pub untouched : (name : RequestName) → unseen name ≡ true
       → get t.after.requests name ≡ get t.before.requests name
   pub without : HasNoneUnseen unseen t.before → t.reply ≡ reply_without unseen s.reply
+  pub journals : acts_without unseen s.after.journal ≡ acts_without unseen t.after.journal
 
 -- the run of the list without the events about unseen requests is alike at each event that is
 -- left, and at the end
@@ -145,6 +156,10 @@ pub record IsStruckAlike (digest_of : List ℕ → List ℕ) (account : List ℕ
       (stages digest_of w (struck digest_of account w events))
   pub end : ShowSame account (world_after digest_of w events)
       (world_after digest_of w (struck digest_of account w events))
+  pub journals : acts_without (is_unseen digest_of account w events)
+      (world_after digest_of w events).journal
+      ≡ acts_without (is_unseen digest_of account w events)
+      (world_after digest_of w (struck digest_of account w events)).journal
 
 -- requests of others that an account never sees, and that are given nothing, leave no trace in
 -- what it is shown, nor in the published registers; from every world, well kept or not, and for

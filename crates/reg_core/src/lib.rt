@@ -14,6 +14,7 @@ pub mod decide;
 pub mod entry;
 pub mod holding;
 pub mod item;
+pub mod journal;
 pub mod laws;
 pub mod link;
 pub mod page;

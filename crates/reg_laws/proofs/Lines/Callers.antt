@@ -4,7 +4,7 @@ use Rattle.std.specs.Prelude.{Option, Some, None, Ok, Err, option_map, nat_le, n
 use Rattle.reg_core.proofs.Common.{first_so, second_so, both_true, get, nat_tests, is_in_clock, utc_day}
 use Rattle.reg_core.proofs.Common.{Answer, as_kind, answer_at, answer, same_kind, is_clerk}
 use Rattle.reg_core.proofs.Common.{acts_as_clerk, clerk_answer, answer_to, Personal, personal}
-use Rattle.reg_core.proofs.Common.{with_personal, cap_at, view_of, WellKept, World}
+use Rattle.reg_core.proofs.Common.{with_personal, cap_at, view_of, WellKept, World, stamp_in}
 use Rattle.reg_laws.proofs.Types.{Cap, Kind, Command}
 use Rattle.reg_core.proofs.Common.{same_kind-decides, by_test}
 use Rattle.reg_laws.proofs.Types.{ClerkCommand}
@@ -13,7 +13,7 @@ use Rattle.reg_core.specs.declared.capability.Kind.TheVariants as kind
 use Rattle.reg_core.specs.declared.command.Command.TheVariants.{Public, Applicant, Expert, Clerk}
 use Rattle.reg_core.specs.declared.refusal.Refusal.TheVariants as no
 use Rattle.reg_laws.proofs.Lines.Commands.{public_goes, own_goes, expert_goes, clerk_goes}
-use Rattle.reg_laws.proofs.Lines.Turns.{By, fails}
+use Rattle.reg_laws.proofs.Lines.Turns.{By, by_any, fails}
 use Rattle.reg_laws.specs.AnswerLines.{Lines, refuses, ◌or_else◌}
 use Rattle.reg_laws.specs.CommandLines.{clerk_lines, IsOutsideYears, kind_lines, open_lines, command_lines, CommandsGoByTheirLines}
 
@@ -177,4 +177,6 @@ module _ (w : World) (moment : ℕ) where
     goes (Some digest) (Clerk given) = clerk_by digest given (get w.caps digest)
 
 pub commands_go : (digest_of : List ℕ → List ℕ) → CommandsGoByTheirLines digest_of
-commands_go digest_of w caller moment command kept = goes w moment kept digest_of caller command
+commands_go digest_of w caller moment command kept =
+    by_any (stamp_in w caller moment) w (command_lines digest_of w caller moment command)
+    (answer_to digest_of w caller moment command) (goes w moment kept digest_of caller command)

@@ -11,7 +11,7 @@ use Rattle.reg_core.proofs.Common.{kind_of, file, queue_rows, IsRow, IsOwnRow, S
 use Rattle.reg_core.proofs.Common.{request_rows, private_rule, link_rule, mark_rule, clerk_answer}
 use Rattle.reg_core.proofs.Common.{answer_to, step, Queued, as_queued, published, personal, requests_by}
 use Rattle.reg_core.proofs.Common.{queue_of, agents_of, principals_of, principal_rows_of, cap_at, World}
-use Rattle.reg_core.proofs.Common.{RequestName, Place, Link, in_state, applied_if}
+use Rattle.reg_core.proofs.Common.{RequestName, Place, Link, in_state, carried}
 use Rattle.reg_laws.proofs.Types.{Ask, Cap, Kind}
 use Rattle.reg_laws.proofs.Types.{Command, ApplicantCommand, ExpertCommand, ClerkCommand, PublicCommand}
 use Rattle.reg_core.proofs.Common.{same_text-itself}
@@ -309,33 +309,37 @@ module _ (digest_of : List ℕ → List ℕ) (v : World) (moment : ℕ) (now : i
 -- ---- The law
 
 -- the answer is no refusal, and changes nothing
-abbrev pub ChangesNothing : World → Answer → Type 0
-ChangesNothing v a = (is_refused (reply_of a) ≡ false) × (applied_if v (change_of a) ≡ v)
+abbrev pub ChangesNothing : World → Option (List ℕ) → ℕ → Answer → Type 0
+ChangesNothing v caller moment a =
+    (is_refused (reply_of a) ≡ false) × (carried v caller moment (change_of a) ≡ v)
 
-pub nothing : (v : World) (a : Answer) → OnlyTells a → ChangesNothing v a
-nothing v a tells =
-    (ap (λ a. is_refused (reply_of a)) tells.1, ap (λ a. applied_if v (change_of a)) tells.1)
+pub nothing : (v : World) (caller : Option (List ℕ)) (moment : ℕ) (a : Answer) → OnlyTells a
+    → ChangesNothing v caller moment a
+nothing v caller moment a tells = (
+  ap (λ a. is_refused (reply_of a)) tells.1,
+  ap (λ a. carried v caller moment (change_of a)) tells.1,
+)
 
 module _ (digest_of : List ℕ → List ℕ) (w : World) (caller : Option (List ℕ)) (first second : ℕ)
     (now : is_in_clock second ≡ true) where
   -- after an outcome its command is accepted again, by whose command it was
   again : (command : Command) (o : Outcome) → CommandSo digest_of w caller first command o
-      → let v = applied_if w o.change in
+      → let v = carried w caller first o.change in
       MayRepeat w v caller second (kind_of command) → Done digest_of w caller first command o
       → OnlyTells (answer_to digest_of v caller second command)
   again (Public command) o so may done =
-      public_again digest_of (applied_if w o.change) second now (cap_at w caller) first
+      public_again digest_of (carried w caller first o.change) second now (cap_at w caller) first
       caller command o.told done
   again (Applicant command) o so may done =
-      own_again digest_of (applied_if w o.change) second now (cap_at w caller) first
-      caller (acts w (applied_if w o.change) caller first second kind.Applicant so.0 may) command
+      own_again digest_of (carried w caller first o.change) second now (cap_at w caller) first
+      caller (acts w (carried w caller first o.change) caller first second kind.Applicant so.0 may) command
       o.told done
   again (Expert command) o so may done =
-      expert_again digest_of (applied_if w o.change) second now (cap_at w caller) first
-      caller (acts w (applied_if w o.change) caller first second kind.Expert so.0 may) command
+      expert_again digest_of (carried w caller first o.change) second now (cap_at w caller) first
+      caller (acts w (carried w caller first o.change) caller first second kind.Expert so.0 may) command
       o.told done
   again (Clerk command) o so may done =
-      let v = applied_if w o.change in
+      let v = carried w caller first o.change in
       subst (λ c. OnlyTells (answer_to digest_of v c second (Clerk command))) (sym so.0.is)
       (clerk_again digest_of v second now (cap_at w caller) first so.0.digest
       (clerk_acts w v caller first second so.0 may) command o.told done)
@@ -343,8 +347,8 @@ module _ (digest_of : List ℕ → List ℕ) (w : World) (caller : Option (List 
 pub once : (digest_of : List ℕ → List ℕ) → RepeatsActOnce digest_of
 once digest_of w caller first second command accepted now may =
     let by = accepted_done digest_of w caller first command accepted in
-    let after = ap (λ a. applied_if w (change_of a)) by.is in
-    nothing (step digest_of w caller first command).world _
+    let after = ap (λ a. carried w caller first (change_of a)) by.is in
+    nothing (step digest_of w caller first command).world caller second _
     (subst (λ u. OnlyTells (answer_to digest_of u caller second command)) (sym after)
     (again digest_of w caller first second now command by.outcome by.so
     (subst (λ u. MayRepeat w u caller second (kind_of command)) after may) by.done))
