@@ -16,7 +16,7 @@ ghost use Rattle.reg_core.specs.Request.{request_row, request_rows};
 ghost use Rattle.reg_core.specs.View.{agents_of, entries_of, holdings_of, principals_of, queue_of, requests_of};
 ghost use Rattle.reg_core.specs.WellKept.{WellKept, CanApply};
 ghost use Rattle.reg_core.specs.World.{World, applied};
-ghost use Rattle.reg_keeper.specs.Keeper.{Selects, Makes};
+ghost use Rattle.reg_keeper.specs.Keeper.{Selects, Makes, applied_with};
 
 use reg_blocks::block::Block;
 use reg_blocks::pool::Pool;
@@ -26,6 +26,7 @@ use reg_core::case_file::CaseFile;
 use reg_core::change::Change;
 use reg_core::entry::Entry;
 use reg_core::holding::{Holding, Listed};
+use reg_core::journal::Act;
 use reg_core::link::LinkRow;
 use reg_core::queue::QueueRow;
 use reg_core::request::Request;
@@ -223,10 +224,17 @@ pub trait Keeper {
         ensures { Selects world Holds Sound FAILS self.old self.new result
             (λ w rows. rows ≡ link_rows w.agents) };
 
-    /// Makes a change whole, or not at all.
+    /// Makes a change whole, or not at all. It leaves no act in the journal.
     fn apply(&mut self, change: Change) -> Result<(), Fault>
         requires { Holds self.old → CanApply (world self.old) change }
         ensures { Makes world Holds Sound FAILS self.old self.new result (λ w. applied w change) };
+
+    /// Makes a change whole and puts its acts into the journal, the last as the latest, or does
+    /// neither.
+    fn record(&mut self, change: Change, acts: &[Act]) -> Result<(), Fault>
+        requires { Holds self.old → CanApply (world self.old) change }
+        ensures { Makes world Holds Sound FAILS self.old self.new result
+            (λ w. applied_with acts.now w change) };
 
     /// The content is well kept.
     ghost well_kept: { (keeper : Self) → Holds keeper → WellKept (world keeper) };
