@@ -4,6 +4,7 @@ ghost use Rattle.reg_core.specs.WellKept.{WellKept};
 ghost use Rattle.reg_core.specs.World.{empty_world};
 ghost use Rattle.reg_store.specs.Lists.Blocks.{pool_held, blocks_given};
 ghost use Rattle.reg_store.specs.Lists.Content.{content};
+ghost use Rattle.reg_store.specs.Lists.Journal.{journal_held};
 ghost use Rattle.reg_store.specs.Lists.Links.{links_held};
 ghost use Rattle.reg_store.specs.Lists.Registrations.{entries_held};
 ghost use Rattle.reg_store.specs.Lists.Reviews.{world_of};
@@ -35,6 +36,7 @@ use reg_core::case_file::CaseFile;
 use reg_core::change::Change;
 use reg_core::entry::Entry;
 use reg_core::holding::{Holding, Listed};
+use reg_core::journal::Act;
 use reg_core::link::LinkRow;
 use reg_core::queue::QueueRow;
 use reg_core::request::Request;
@@ -47,15 +49,15 @@ use registrations::Registrations;
 use registries::{Registries, names_in, table_in};
 use requests::{all_rows, own_rows, request_in};
 use reviews::Reviews;
-use std::alloc::Global;
+use std::alloc::{AllocError, Global};
 use std::collections::BTreeMap;
 
 /// The content of an office in memory: capabilities by digest, registries by name, entries by
 /// registry and value, with the values that have entries as runs once more, requests by account and
 /// reference, their experts and the advice on them by request, and, once more, by expert, what is
 /// assigned to each as the expert sees it; the pool with the free places in it, the blocks that
-/// were given in order, and, once more, by account, those that each holds; and the agents of each
-/// account, and, once more, its principals.
+/// were given in order, and, once more, by account, those that each holds; the agents of each
+/// account, and, once more, its principals; and the journal, the latest act last.
 ///
 /// A row by its key and a change take O(log n), whatever else there is, but a change of a
 /// request's state O((1 + experts) log n), for the experts of that request, and the removal of
@@ -73,8 +75,10 @@ pub struct ListKeeper {
     reviews: Reviews,
     blocks: Blocks,
     links: Links,
+    journal: Vec<Act>,
     ghost well: { WellKept (content caps registries (entries_held registrations)
-        (world_of reviews) (pool_held blocks) (blocks_given blocks) (links_held links)) },
+        (world_of reviews) (pool_held blocks) (blocks_given blocks) (links_held links)
+        (journal_held journal)) },
 }
 
 // Not derived: what a crate above owes where it lets a keeper go is proved here, once.
@@ -88,12 +92,14 @@ impl Drop for ListKeeper {
             reviews: _,
             blocks: _,
             links: _,
+            journal: _,
         } = self;
     }
 }
 
 impl ListKeeper {
-    ghost use Rattle.reg_store.specs.Lists.{world_in};
+    ghost use Rattle.reg_core.specs.WellKept.{CanApply};
+    ghost use Rattle.reg_store.specs.Lists.{IsChanged, world_in};
 
     /// The empty office.
     pub fn new(alloc: Global) -> Self
@@ -107,7 +113,50 @@ impl ListKeeper {
             reviews: Reviews::new(alloc),
             blocks: Blocks::new(alloc),
             links: Links::new(alloc),
+            journal: Vec::new(alloc),
         }
+    }
+
+    // Makes a change whole, or not at all. The journal stays.
+    fn make(&mut self, change: Change) -> Result<(), AllocError>
+        requires { CanApply (world_in self.old) change }
+        ensures { IsChanged self.old self.new result change }
+    {
+        match change {
+            Change::Grant(digest, cap) => set_row(&mut self.caps, digest, cap)?,
+            Change::Revoke(digest) => unset_row(&mut self.caps, &digest),
+            Change::RevokeAll(digests) => take_caps(&mut self.caps, digests.as_slice()),
+            Change::Define(name, table) => set_row(&mut self.registries, name, table)?,
+            Change::AddPool(prefix) => self.blocks.add_prefix(prefix)?,
+            Change::Submit(account, reference, ask) => {
+                self.reviews.submit(self.alloc, account, reference, ask)?;
+            }
+            Change::Close(by, reference, state) => self.reviews.set_state(by, reference, state),
+            Change::Assign(account, reference, expert) => {
+                let name = (account, reference);
+                self.reviews.assign(self.alloc, name, expert)?;
+            }
+            Change::Advise(account, reference, expert, advice) => {
+                let name = (account, reference);
+                self.reviews.advise(self.alloc, name, expert, advice)?;
+            }
+            Change::GiveValue(account, reference, entry) => {
+                let approval = entry.approval();
+                self.registrations.put(self.alloc, entry)?;
+                self.reviews.set_state(account, reference, approval);
+            }
+            Change::GiveBlock(account, reference, holding) => {
+                let approval = holding.approval();
+                self.blocks.give(self.alloc, holding)?;
+                self.reviews.set_state(account, reference, approval);
+            }
+            Change::SetPrivate(block, private) => self.blocks.mark(&block, private),
+            Change::SetHold(name, value, held) => self.registrations.mark(&name, value, held),
+            Change::SetAgent(principal, agent, reads) => {
+                self.links.set(self.alloc, principal, agent, reads)?;
+            }
+        }
+        Ok(())
     }
 }
 
@@ -244,42 +293,13 @@ impl Keeper for ListKeeper {
     }
 
     fn apply(&mut self, change: Change) -> Result<(), Fault> {
-        match change {
-            Change::Grant(digest, cap) => set_row(&mut self.caps, digest, cap)?,
-            Change::Revoke(digest) => unset_row(&mut self.caps, &digest),
-            Change::RevokeAll(digests) => take_caps(&mut self.caps, digests.as_slice()),
-            Change::Define(name, table) => set_row(&mut self.registries, name, table)?,
-            Change::AddPool(prefix) => self.blocks.add_prefix(prefix)?,
-            Change::Submit(account, reference, ask) => {
-                self.reviews.submit(self.alloc, account, reference, ask)?;
-            }
-            Change::Close(account, reference, state) => {
-                self.reviews.set_state(account, reference, state);
-            }
-            Change::Assign(account, reference, expert) => {
-                let name = (account, reference);
-                self.reviews.assign(self.alloc, name, expert)?;
-            }
-            Change::Advise(account, reference, expert, advice) => {
-                let name = (account, reference);
-                self.reviews.advise(self.alloc, name, expert, advice)?;
-            }
-            Change::GiveValue(account, reference, entry) => {
-                let approval = entry.approval();
-                self.registrations.put(self.alloc, entry)?;
-                self.reviews.set_state(account, reference, approval);
-            }
-            Change::GiveBlock(account, reference, holding) => {
-                let approval = holding.approval();
-                self.blocks.give(self.alloc, holding)?;
-                self.reviews.set_state(account, reference, approval);
-            }
-            Change::SetPrivate(block, private) => self.blocks.mark(&block, private),
-            Change::SetHold(name, value, held) => self.registrations.mark(&name, value, held),
-            Change::SetAgent(principal, agent, reads) => {
-                self.links.set(self.alloc, principal, agent, reads)?;
-            }
-        }
+        Ok(self.make(change)?)
+    }
+
+    fn record(&mut self, change: Change, acts: &[Act]) -> Result<(), Fault> {
+        self.journal.reserve(acts.len())?;
+        self.make(change)?;
+        self.journal.extend_from_slice(acts).unwrap();
         Ok(())
     }
 }
