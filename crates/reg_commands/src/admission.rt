@@ -2,14 +2,15 @@
 ghost use Rattle.std.specs.Prelude.{◌≡◌, None, Err};
 ghost use Rattle.std.specs.Option.{option_copied};
 ghost use Rattle.reg_core.specs.Answer.{admitted};
-ghost use Rattle.reg_commands.specs.Caller.{admission, caller_of as caller};
+ghost use Rattle.reg_commands.specs.Caller.{admission, caller_of as caller, stamp_by};
 ghost use Rattle.reg_commands.specs.Performs.{LooksUp};
 
 use crate::digest::caller_of;
 use crate::stop::Stop;
 use reg_core::capability::{Cap, Kind};
+use reg_core::journal::{Actor, Stamp};
 use reg_core::refusal::Refusal;
-use reg_core::text::Digest;
+use reg_core::text::{Digest, first_digits};
 use reg_early::day::Day;
 use reg_keeper::keeper::Keeper;
 
@@ -24,6 +25,22 @@ pub struct Caller {
     pub moment: u64,
     /// The day of the moment.
     pub day: Day,
+}
+
+impl Caller {
+    /// When its command is given, and by whom.
+    pub fn stamp(&self) -> Stamp
+        ensures { result ≡ stamp_by self.now }
+    {
+        let actor = Actor {
+            account: self.capability.account,
+            token: first_digits(&self.digest),
+        };
+        Stamp {
+            moment: Some(self.moment),
+            by: Some(actor),
+        }
+    }
 }
 
 /// The caller with this token, where it may give commands of this kind at this moment, whose day is

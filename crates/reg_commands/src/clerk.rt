@@ -1,6 +1,7 @@
 //! What a clerk may do, once admitted: about capabilities, about requests at the desk, and about
 //! what is published at the registers.
 ghost use Rattle.reg_commands.specs.Answers.{answer_to_clerk};
+ghost use Rattle.reg_commands.specs.Caller.{stamp_by};
 ghost use Rattle.reg_commands.specs.Performs.{Performs};
 
 use crate::admission::Caller;
@@ -18,8 +19,8 @@ pub fn perform<K: Keeper>(
     caller: &Caller,
     command: &ClerkCommand,
 ) -> Result<Told, Stop>
-    ensures { Performs K.world K.Holds K.Sound K.FAILS keeper.old keeper.new result
-        (answer_to_clerk caller.now command.now) }
+    ensures { Performs K.world K.Holds K.Sound K.FAILS (stamp_by caller.now)
+        keeper.old keeper.new result (answer_to_clerk caller.now command.now) }
 {
     match command {
         ClerkCommand::AllRequests => desk::list_all(keeper),

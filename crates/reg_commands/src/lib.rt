@@ -2,6 +2,7 @@
 //! it needs, what is decided over them, and the change that is made.
 #![tactic(auto)]
 
+mod acts;
 pub mod admission;
 mod agents;
 pub mod applicant;
