@@ -1,16 +1,17 @@
 -- What the office answers: to all where it is closed, and to who is admitted where it is open.
-use Rattle.std.proofs.Common.{◌≡◌, ℕ, Bool, true, false, refl, ap, ◌∙◌, arith}
+use Rattle.std.proofs.Common.{◌≡◌, ℕ, Bool, true, false, refl, sym, ap, ◌∙◌, arith}
 use Rattle.std.specs.Prelude.{List, Option, Some, None, Result, Ok, Err, is_some, option_map, nat_le, nat_lt, if◌then◌else◌}
 use Rattle.std.specs.FinMap.{get}
 use Rattle.std.proofs.lemmas.Bool.Decides.{nat_tests}
 use Rattle.reg_maps.specs.Maps.{only_if}
 use Rattle.reg_early.specs.Moment.{is_in_clock, utc_day, day_of_moment}
 use Rattle.reg_core.specs.Allowance.{◌>>=◌, or_refusal}
-use Rattle.reg_core.specs.Answer.{Answer, admitted, as_kind, by_rule, own_answer, expert_answer, unchanged}
+use Rattle.reg_core.specs.Answer.{Answer, admitted, as_kind, by_rule, own_answer, expert_answer, public_answer, unchanged}
 use Rattle.reg_core.specs.Capability.{same_kind}
 use Rattle.reg_core.specs.Request.{request_rows}
 use Rattle.reg_core.specs.Rules.{agent_rule}
-use Rattle.reg_core.specs.Step.{answer_to, clerk_answer, is_clerk}
+use Rattle.reg_core.specs.Journal.{stamp_of}
+use Rattle.reg_core.specs.Step.{answer_to, clerk_answer, is_clerk, stamp_in}
 use Rattle.reg_core.specs.View.{Personal, published, personal, principal_rows_of, requests_by, requests_of, with_personal}
 use Rattle.reg_core.specs.World.{World}
 use Rattle.reg_core.specs.declared.capability.Cap.{Cap}
@@ -19,15 +20,16 @@ use Rattle.reg_core.specs.declared.capability.Kind.TheVariants as kind
 use Rattle.reg_core.specs.declared.command.ApplicantCommand.{ApplicantCommand}
 use Rattle.reg_core.specs.declared.command.ApplicantCommand.TheVariants.{OwnOne, Submit, Withdraw, SetAgent, PrincipalRows}
 use Rattle.reg_core.specs.declared.command.ClerkCommand.{ClerkCommand}
-use Rattle.reg_core.specs.declared.command.Command.TheVariants.{Applicant, Expert, Clerk}
+use Rattle.reg_core.specs.declared.command.Command.TheVariants.{Public, Applicant, Expert, Clerk}
 use Rattle.reg_core.specs.declared.command.ExpertCommand.{ExpertCommand}
+use Rattle.reg_core.specs.declared.command.PublicCommand.{PublicCommand}
 use Rattle.reg_core.specs.declared.told.Told.TheVariants as tells
 use Rattle.reg_core.specs.declared.refusal.Refusal.{Refusal}
 use Rattle.reg_core.specs.declared.refusal.Refusal.TheVariants as no
 use Rattle.reg_core.proofs.Links.{own_agent, own_principal, own_principal_rows}
 use Rattle.reg_core.proofs.Stepping.{admitted-ok, own_request}
 use Rattle.reg_commands.specs.Answers.{answer_to_account, answer_to_clerk, answer_to_expert}
-use Rattle.reg_commands.specs.Caller.{token_digest, admission}
+use Rattle.reg_commands.specs.Caller.{token_digest, admission, stamp_by}
 use Rattle.reg_commands.specs.declared.admission.Caller.{Caller}
 
 -- ---- The clock
@@ -70,6 +72,35 @@ as_caller w digest kind moment day told (Some cap) = by (admitted (Some cap) mom
         let ok = admitted-ok (Some cap) moment kind served is in
         let itself : cap ≡ served = cc in
         ap (λ (c : Cap). told c.account (personal c.account w)) itself
+
+-- ---- Anybody
+
+pub public_answered : (w : World) (caller : Option (List ℕ)) (moment day : ℕ)
+    (command : PublicCommand) → is_in_clock moment ≡ true → utc_day moment ≡ day
+    → public_answer (published w) day command ≡ answer_to token_digest w caller moment (Public command)
+public_answered w caller moment day command open_now today =
+    rw open_now (ap (λ day. public_answer (published w) day command) (sym today))
+
+-- ---- Who signs
+
+-- who is admitted is who the step is signed by
+pub signed_by : (w : World) (caller : Option (List ℕ)) (moment day : ℕ) (kind : Kind)
+    (who : Caller) → admission w caller moment day kind ≡ Ok who
+    → stamp_by who ≡ stamp_in w caller moment
+signed_by w None moment day kind who is = absurd (cc)
+signed_by w (Some digest) moment day kind who is =
+    by (admitted (get w.caps digest) moment kind) refl is
+  where
+    by : (outcome : Result Cap Refusal) → admitted (get w.caps digest) moment kind ≡ outcome
+        → caller_by digest moment day outcome ≡ Ok who
+        → stamp_by who ≡ stamp_in w (Some digest) moment
+    by (Err refusal) served h = absurd (cc)
+    by (Ok cap) served h =
+        let found = admitted-ok (get w.caps digest) moment kind cap served in
+        let itself :
+        record { digest = digest; capability = cap; moment = moment; day = day } ≡ who = cc in
+        ap stamp_by (sym itself)
+        ∙ ap (λ (o : Option Cap). stamp_of (Some digest) o moment) (sym found.0)
 
 -- ---- An applicant
 
