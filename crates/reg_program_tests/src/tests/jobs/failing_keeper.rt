@@ -9,6 +9,7 @@ use reg_core::case_file::CaseFile;
 use reg_core::change::Change;
 use reg_core::entry::Entry;
 use reg_core::holding::{Holding, Listed};
+use reg_core::journal::Act;
 use reg_core::link::LinkRow;
 use reg_core::queue::QueueRow;
 use reg_core::request::Request;
@@ -164,6 +165,13 @@ impl<K: Keeper> Keeper for FailingKeeper<K> {
 
     fn apply(&mut self, change: Change) -> Result<(), Fault> {
         match self.keeper.apply(change) {
+            Ok(()) => Ok(()),
+            Err(_) => Err(Fault::Store),
+        }
+    }
+
+    fn record(&mut self, change: Change, acts: &[Act]) -> Result<(), Fault> {
+        match self.keeper.record(change, acts) {
             Ok(()) => Ok(()),
             Err(_) => Err(Fault::Store),
         }
