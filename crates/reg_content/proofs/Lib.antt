@@ -1,4 +1,5 @@
 pub mod Found
+pub mod ActRowsWritten
 pub mod Statements
 pub mod Looking
 pub mod EntryRowsAscending
@@ -19,6 +20,7 @@ pub mod RequestRowsWritten
 pub mod Joining
 pub mod Fitting
 pub mod Revoked
+pub mod Journaled
 pub mod QueueRows
 pub mod JoinedRows
 pub mod QueuedRows

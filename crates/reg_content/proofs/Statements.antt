@@ -56,6 +56,7 @@ use Rattle.reg_statements.proofs.Defined.{by_all, by_first, by_key, key_has, pas
 use Rattle.reg_statements.proofs.Office as laws
 use Rattle.reg_content.proofs.AskedRows.{begins_at, held_by, read_by, waits}
 use Rattle.reg_content.proofs.BlockRows.{mark_read}
+use Rattle.reg_content.proofs.ActRowsWritten.{act_kept, act_long}
 use Rattle.reg_content.proofs.RequestRowsWritten as written
 
 -- ---- Of any table
@@ -313,6 +314,13 @@ pub takes_link : TakesRows office.agents texts.DELETE_AGENT.now
 takes_link = record {
   takes = edits.agent_deletes;
 }
+
+-- ---- Acts
+
+pub adds_act : InsertsRows office.journal texts.INSERT_JOURNAL.now
+adds_act =
+    adding inserts.adds_acts (λ a. act_long a.act.deed a refl)
+    (λ a. act_kept a.number a.act.stamp.moment a.act.stamp.by a.act.deed)
 
 -- ---- Blocks
 

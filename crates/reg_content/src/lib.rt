@@ -8,6 +8,7 @@ pub mod change;
 pub mod entries;
 mod give;
 mod holds;
+pub mod journal;
 pub mod kept;
 pub mod links;
 mod minutes;
