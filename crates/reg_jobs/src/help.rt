@@ -134,7 +134,7 @@ pub const CHECK_ABOUT: &str =
 pub const CHECK_EXAMPLE: &str = "Example:
   reg_cli check office.db
 prints first
-  version 3
+  version 4
   well kept
 and then a count for each kind of row, as: entries 340";
 
@@ -146,7 +146,7 @@ pub const COPY_EXAMPLE: &str =
 of FILE. An earlier copy of that name is replaced. Example:
   reg_cli copy office.db /backup/2026-11-28
 prints
-  copied version 3, 401 requests";
+  copied version 4, 401 requests";
 
 pub const TOKENS_ABOUT: &str =
     "Prints all tokens of the office at SOURCE as CSV, each by the first 12 digits of its digest";

@@ -3,7 +3,7 @@ use std::alloc::{AllocError, AllocFailed};
 use std::io;
 
 /// The version of the program. Its first number is the version of the offices that it keeps.
-pub const VERSION: &str = "3.0.0";
+pub const VERSION: &str = "4.0.0";
 
 /// What the address of an office begins with that is served over HTTP on this machine.
 pub const SERVED: &str = "http://127.0.0.1:";
