@@ -1,12 +1,12 @@
 -- What the rows of a journal tell, as they are read.
-use Rattle.std.proofs.Common.{◌≡◌, ◌<◌, ◌≤◌, ℕ, ℤ, zero, suc, ◌+◌, List, [], ◌∷◌, ◌++◌, length, map, true, false, refl, sym, ap, ap₂, subst, ◌∙◌, arith}
-use Rattle.std.proofs.Common.{Option, Some, None, IsPermutation, IsSome, IsTrue, codes, option_map}
+use Rattle.std.proofs.Common.{◌≡◌, ◌==◌, ◌<◌, ◌≤◌, ℕ, ℤ, ◌+◌, List, [], ◌∷◌, ◌++◌, length, map, true, false, refl, sym, ap, subst, ◌∙◌, arith}
+use Rattle.std.proofs.Common.{Option, Some, None, MatchOption, IsPermutation, IsSome, IsTrue, codes, option_map}
+use Rattle.std.proofs.lemmas.Bool.{eq-eqb, eqb-true}
 use Rattle.std.proofs.lemmas.Bool.Decides.{nat_tests}
 use Rattle.std.proofs.lemmas.List.{append-nil, append_assoc, length-map}
 use Rattle.std.proofs.lemmas.Simd.{map-map}
 use Rattle.std.specs.Cmp.{nat_cmp_is}
 use Rattle.std.specs.FinMap.{FinMap, entries}
-use Rattle.std.specs.Fmt.{digits}
 use Rattle.std.specs.List.{AllByRecursion, range_with_len}
 use Rattle.std.specs.List.Sorted.{IsStrictlySortedBy}
 use Rattle.std.specs.Ordering.{int_cmp, nat_cmp}
@@ -42,7 +42,7 @@ use Rattle.reg_statements.specs.Reading.{TakesAll}
 use Rattle.reg_statements.specs.Tables.{tables_in}
 use Rattle.reg_statements.proofs.Neighbours.{strict}
 use Rattle.reg_statements.proofs.Numbering.{length_latest, none_counted, none_latest}
-use Rattle.reg_opening.specs.Acts.{AreFollowing, AreWholeActs, CountsActs, CountsRows, TakesAct, number_of_act, shown_act_in}
+use Rattle.reg_opening.specs.Acts.{AreActs, AreFollowing, AreWholeActs, CountsActs, CountsRows, TakesAct, last_after, number_of_act, shown_act_in}
 use Rattle.reg_opening.specs.FedRows.{journal_placed}
 use Rattle.reg_opening.specs.Feeding.{tables_at}
 use Rattle.reg_opening.specs.Numbered.{HasRisen, ShowsNumbered, numbered_columns}
@@ -86,6 +86,35 @@ ascend_from n (a ∷ b ∷ more) are =
     let above : a.number < b.number = omega (arith, first, second) in
     (sym (nat_cmp_is a.number b.number Less above), ascend_from (n + 1) (b ∷ more) rest)
 
+-- what the last number tells of those behind one
+abbrev Reaches : ℕ → List NumberedAct → Option ℕ → Type 0
+Reaches n rows last =
+    MatchOption last (¬ AreFrom (n + 1) rows) (λ m. AreFrom (n + 1) rows × (m ≡ n + length rows))
+
+reaches_more : (n : ℕ) (a : NumberedAct) (rows : List NumberedAct) → a.number ≡ n + 1
+    → (last : Option ℕ) → Reaches a.number rows last → Reaches n (a ∷ rows) last
+reaches_more n a rows follows None unlike = λ are.
+    let rest : AreFrom (n + 1 + 1) rows = cc in
+    unlike (subst (λ k. AreFrom (k + 1) rows) (sym follows) rest)
+reaches_more n a rows follows (Some last) reaches =
+    let rest : AreFrom (n + 1 + 1) rows = subst (λ k. AreFrom (k + 1) rows) follows reaches.0 in
+    (λ i. follows i ∷ rest i, omega (arith, reaches.1, follows))
+
+reached : (n : ℕ) (rows : List NumberedAct) → Reaches n rows (last_after n rows)
+reached n [] = (refl, omega arith)
+reached n (a ∷ rows) =
+    elim (a.number == n + 1) as
+    (λ b. (a.number == n + 1) ≡ b
+    → Reaches n (a ∷ rows) (if b then last_after a.number rows else None)) [
+      | true ↦ λ t.
+          reaches_more n a rows (eqb-true a.number (n + 1) t) (last_after a.number rows)
+          (reached a.number rows)
+      | false ↦ λ f are.
+          let first : a.number ≡ n + 1 = cc in
+          let same = eq-eqb a.number (n + 1) first in
+          absurd (cc)
+    ] refl
+
 -- acts whose numbers follow are 1, 2, 3 .. in each order of their rows
 abbrev pub entry_of : NumberedAct → ℕ × Act
 entry_of a = (a.number, a.act)
@@ -119,15 +148,20 @@ module _ (table shown : List Row) (rows : List NumberedAct)
       is_item_table number_keys entry_of (λ r. act_in (stored 13 r)) rows taken.1 taken.2
       (strict number_keys number_of_act rows up)
 
-  pub whole_in_order : AreFollowing rows → AreWholeActs table × (length rows ≡ length (latest_first (held_in act_at table)))
-  whole_in_order follow = (
-    (in_order.0, counted_by (held_in act_at table) rows in_order.1 follow),
-    count_by (held_in act_at table) rows in_order.1,
-  )
+  -- so the last number tells how many they are, or that they are no whole journal
+  pub counted_in_order : (last : ℕ) → Some last ≡ last_after 0 rows
+      → AreWholeActs table × (last ≡ length (latest_first (held_in act_at table)))
+  counted_in_order last is =
+      let told = subst (Reaches 0 rows) (sym is) (reached 0 rows) in
+      let all : last ≡ length rows = omega (arith, told.1) in (
+        (in_order.0, counted_by (held_in act_at table) rows in_order.1 told.0),
+        all ∙ count_by (held_in act_at table) rows in_order.1,
+      )
 
-  pub not_in_order : ¬ AreFollowing rows → ¬ AreWholeActs table
-  not_in_order unlike whole =
-      unlike (followed_by (held_in act_at table) rows in_order.1 whole.1)
+  pub uncounted_in_order : None ≡ last_after 0 rows → ¬ AreWholeActs table
+  uncounted_in_order is whole =
+      let told : ¬ AreFollowing rows = subst (Reaches 0 rows) (sym is) (reached 0 rows) in
+      told (followed_by (held_in act_at table) rows in_order.1 whole.1)
 
 -- what a query of all acts shows
 pub acts_shown : (old new : State) (shown : List Row) → BeginsWith 14 old.now.schema
@@ -163,7 +197,7 @@ same_at = λ i r.
     without None id = refl
     without (Some value) id = refl
 
-rowids_read : (shown : List Row) (values : List ShownAct) → ReadAs shown_act_in shown values
+pub rowids_read : (shown : List Row) (values : List ShownAct) → ReadAs shown_act_in shown values
     → map (λ r. int_in (column r 13)) shown ≡ map (λ v. v.rowid) values
 rowids_read [] [] read = refl
 rowids_read [] (v ∷ values) read = absurd (cc)
@@ -208,10 +242,10 @@ tally_follows start now (value ∷ more) taken follows =
     let rest = tally_follows taken.0 now more taken.2 follows in
     let here = taken.1.follows rest.before in
     let next : taken.0.last ≡ start.last + 1 = taken.1.last ∙ here.1 in
+    let after = rest.numbers ∙ ap (λ n. range_with_len (n + 1) (length (map row_of more))) next in
     record {
       before = here.0;
-      numbers = ap₂ (λ n ns. n ∷ ns) here.1
-          (rest.numbers ∙ ap (λ n. range_with_len (n + 1) (length (map row_of more))) next);
+      numbers = λ i. here.1 i ∷ after i;
       last = omega (arith, rest.last, next);
     }
 
@@ -220,7 +254,7 @@ module _ (table shown : List Row) (moved : IsPermutation (map seen table) shown)
   pub unread_acts : ¬ AllByRecursion (λ r. IsSome (shown_act_in r)) shown → ¬ AreWholeActs table
   unread_acts unread whole =
       unread_table shown_entry seen shown_act_in table shown moved unread
-      (subst (λ at. IsTable nat_cmp at table) (sym same_at) whole.0)
+      (subst (λ (at : Row → Option (ℕ × Act)). IsTable nat_cmp at table) (sym same_at) whole.0)
 
   module _ (values : List ShownAct) (read : ReadAs shown_act_in shown values) where
     -- they are by rowids that rise
@@ -304,10 +338,9 @@ module _ (v : Version) (old : State) (begins : BeginsWith (table_count v) old.no
         (selected by_rowid office.journal.table.tree [] (numbered_columns 13) shows_acts.order [] old
         new shown shows_acts.selects first_fourteen answer)
 
-    pub acts_unread : {E : Type 0} (flaw : E)
-        → ¬ AllByRecursion (λ r. IsSome (shown_act_in r)) shown
-        → CountsActs (tables_at v old.now) (Err flaw)
-    acts_unread flaw unread = λ acts.
+    pub acts_unread : ¬ AllByRecursion (λ r. IsSome (shown_act_in r)) shown
+        → ¬ AreActs (tables_at v old.now)
+    acts_unread unread acts =
         unread_acts table shown moved unread (subst AreWholeActs there acts.0)
 
     module _ (start now : ActTally) (values : List ShownAct) (read : ReadAs shown_act_in shown values)

@@ -32,16 +32,15 @@ use Rattle.reg_tables.proofs.RestLemmas.{stays_then}
 use Rattle.reg_statements.specs.Content.{HasVersionRow, content, content_at}
 use Rattle.reg_statements.specs.Loading.{ReadAs}
 use Rattle.reg_statements.specs.Tables.{Tables, tables_in}
-use Rattle.reg_opening.specs.Acts.{CountsActs, StandsBeside}
+use Rattle.reg_opening.specs.Acts.{StandsBeside}
 use Rattle.reg_opening.specs.Feeding.{FeedsTable, tables_at}
 use Rattle.reg_opening.specs.Opening.{AreRowsOf, IsOfVersion, FindsKind, HasVersionTables, ComesFirst, IsFlawIn, IsFlawOf, IsFoundAs, LeavesRoom, IsFreeBy}
-use Rattle.reg_opening.specs.Opening.{HasFlaw, IsOurs, IsReadAs, IsVersionOf, LeaveFree, Reads, only, kind_of}
+use Rattle.reg_opening.specs.Opening.{HasFlaw, IsOurs, IsReadAs, IsVersionOf, Reads, only, kind_of}
 use Rattle.reg_opening.specs.Parts.{AreFed, AreParts, IsBlankWorld, with_fed}
 use Rattle.reg_opening.specs.Rowids.{AreOrderedKeyed}
 use Rattle.reg_opening.specs.declared.beside.Beside.{Beside}
 use Rattle.reg_opening.specs.declared.flaw.Flaw.{Flaw}
 use Rattle.reg_opening.specs.declared.flaw.Flaw.TheVariants as flaws
-use Rattle.reg_opening.specs.declared.flaw.RowFlaw.{RowFlaw}
 use Rattle.reg_opening.specs.declared.kind.Found.{Found}
 use Rattle.reg_opening.specs.declared.kind.Found.TheVariants as found
 use Rattle.reg_opening.proofs.Versions.{first_begins, keyed_version, number_exact, office_rows, ranges_rows, registries_rows, schema_first, version_keyed}
@@ -179,21 +178,6 @@ rows_leave t old new (Some free) audits feeds are =
     let held = feeds.held empty_world audits blank are.0 in
     let left = are.1 (with_fed t empty_world) (feeds.audits empty_world audits blank held) in
     ((held, with_journal (with_fed t empty_world) left.0 (content t).journal), left.1)
-
--- beside them stand what they leave free, and the number of the last act, where the journal is whole
-pub leave_beside : (t : Tables) (free : Vacancies) (beside : Beside) → LeaveFed t (Some free)
-    → CountsActs {E = RowFlaw} t (Ok beside.last) → beside.vacancies ≡ free
-    → LeaveFree t (Some beside)
-leave_beside t free beside fed acts same = (
-  ((fed.0.0, acts.0), fed.0.1),
-  (subst (AreVacanciesOf (content t)) (sym same) fed.1, acts.1),
-)
-
--- where they are told, so are their rowids
-pub rows_told : (v : Version) (db : Database) (free : Option Beside) → AreOrderedKeyed db.trees
-    → LeaveFree (tables_at v db) free → AreRowsOf v db free
-rows_told v db None keyed leave = leave
-rows_told v db (Some free) keyed leave = (keyed, leave)
 
 -- a store of a version has the tables of registries and their ranges first
 pub version_first : (v : Version) (db : Database) → BeginsWith (table_count v) db.schema

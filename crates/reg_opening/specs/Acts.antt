@@ -1,5 +1,5 @@
 -- The acts of a journal, whose numbers are looked at as their rows are read.
-use Rattle.std.specs.Prelude.{◌≡◌, ◌++◌, ◌+◌, ◌⊎◌, ℕ, ℤ, List, [], ◌∷◌, length, map, Option, Some, None, MatchOption, Result, Ok, Err, IsTrue, option_map}
+use Rattle.std.specs.Prelude.{◌≡◌, ◌==◌, ◌++◌, ◌+◌, ◌⊎◌, if◌then◌else◌, ℕ, ℤ, List, [], ◌∷◌, length, map, Option, Some, None, Result, Ok, Err, IsTrue, option_map}
 use Rattle.std.specs.List.{range_with_len}
 use Rattle.std.specs.Ordering.{nat_cmp}
 use Rattle.sqlite.specs.Order.{Row, column}
@@ -54,10 +54,11 @@ number_of_act a = a.number
 abbrev pub AreFollowing : List NumberedAct → Type 0
 AreFollowing rows = map number_of_act rows ≡ range_with_len 1 (length rows)
 
--- the number of the last of them, which is how many there are, if they are such
-abbrev pub FollowsTo : List NumberedAct → Option ℕ → Type 0
-FollowsTo rows last =
-    MatchOption last (¬ AreFollowing rows) (λ n. AreFollowing rows × (n ≡ length rows))
+-- the number of the last of them, or this one where there is none, if the first follows on this one, and
+-- each other on the one before it
+abbrev pub last_after : ℕ → List NumberedAct → Option ℕ
+last_after n [] = Some n
+last_after n (a ∷ rows) = if a.number == n + 1 then last_after a.number rows else None
 
 -- one row more: its rowid rises above the last, and its number follows on the last
 pub record TakesAct (old : ActTally) (next : ShownAct) (new : ActTally) : Type 0 where

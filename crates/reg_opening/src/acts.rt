@@ -1,12 +1,11 @@
 //! The acts of a journal, whose rows are read, and whose numbers are to be 1, 2, 3 ..
-ghost use Rattle.std.specs.Prelude.{◌≡◌, ◌⊎◌, ◌+◌, [], IfErr, IfOk, length, map};
-ghost use Rattle.std.specs.List.{range_with_len};
+ghost use Rattle.std.specs.Prelude.{◌≡◌, ◌⊎◌, ◌&&◌, ◌==◌, ◌+◌, [], IfErr, IfOk};
 ghost use Rattle.sqlite.specs.Held.{state};
 ghost use Rattle.reg_tables.specs.Connection.{Endures, IsIdle, Stays, Works};
 ghost use Rattle.reg_tables.specs.Schema.{journal_table};
 ghost use Rattle.reg_tables.specs.Selecting.{BeginsWith};
 ghost use Rattle.reg_tables.specs.Version.{table_count};
-ghost use Rattle.reg_opening.specs.Acts.{AreActsUnordered, CountsActs, CountsRows, FollowsTo};
+ghost use Rattle.reg_opening.specs.Acts.{AreActsUnordered, CountsActs, CountsRows, last_after};
 ghost use Rattle.reg_opening.specs.Causes.{HasCause};
 ghost use Rattle.reg_opening.specs.Feeding.{tables_at};
 ghost use Rattle.reg_opening.specs.Numbered.{HasRisen};
@@ -96,10 +95,17 @@ impl<S: Grows> Sink<ShownAct, S> for ActTally {
     fn take(&mut self, shown: ShownAct) -> Result<(), AllocError> {
         let number = shown.row.number;
         self.rise = self.rise.then(shown.rowid);
-        self.follows = self.follows && u64::from(number) == u64::from(self.last) + 1;
+        self.follows = follows_on(self.follows, self.last, number);
         self.last = number;
         Ok(())
     }
+}
+
+/// Whether a number follows on the last one, where each before it did so too.
+fn follows_on(before: bool, last: u32, number: u32) -> bool
+    ensures { result ≡ (before && (number == last + 1)) }
+{
+    before && u64::from(number) == u64::from(last) + 1
 }
 
 /// How many acts the journal of a version has, if each row reads and their numbers are 1, 2, 3 ..; else
@@ -160,7 +166,7 @@ fn count_by_number<S: Opens>(
 
 /// The number of the last act, 0 where there is none, if their numbers are 1, 2, 3 ..
 fn last_number(mut rows: &[NumberedAct]) -> Option<u32>
-    ensures { FollowsTo rows.entry.now result }
+    ensures { result ≡ last_after 0 rows.entry.now }
 {
     let mut last = 0;
     'acts: while let [row, more @ ..] = rows {

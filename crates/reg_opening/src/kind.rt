@@ -78,9 +78,10 @@ pub fn check<S: Opens>(alloc: Global, conn: &mut Connection<S>) -> Result<StoreK
     Ok(find(alloc, conn)?.kind())
 }
 
-/// Tells what a store is, and finds what is free in an office's, and its last act. The columns of each row are read
-/// once; of the version, and of registries and their ranges, the rowids are read by themselves. The
-/// version is read before any other table is looked at, wherever its table stands.
+/// Tells what a store is, and finds what is free in an office's, and its last act. The columns of each
+/// row are read once, but those of acts that are not in the order of their numbers; of the version, and
+/// of registries and their ranges, the rowids are read by themselves. The version is read before any
+/// other table is looked at, wherever its table stands.
 pub fn find<S: Opens>(alloc: Global, conn: &mut Connection<S>) -> Result<Found, Fault>
     requires { IsIdle (state S.Store conn.old) }
     ensures finds { FindsKind (state S.Store conn.old) (state S.Store conn.new) result }
