@@ -351,8 +351,8 @@ module _ (v : Version) (old : State) (begins : BeginsWith (table_count v) old.no
           let risen = (tally_rises start now values [] taken rise).0 rose in
           keyed_acts table shown moved values read risen.0 risen.1 risen.2
 
-      pub acts_followed : {E : Type 0} → start.last ≡ 0 → IsTrue now.follows
-          → CountsActs {E = E} (tables_at v old.now) (Ok now.last)
+      pub acts_followed : start.last ≡ 0 → IsTrue now.follows
+          → CountsActs {E = Unit {0}} (tables_at v old.now) (Ok now.last)
       acts_followed first follows =
           let has_followed = tally_follows start now values taken follows in
           let rows = map row_of values in
@@ -360,11 +360,11 @@ module _ (v : Version) (old : State) (begins : BeginsWith (table_count v) old.no
           has_followed.numbers ∙ ap (λ n. range_with_len (n + 1) (length rows)) first in
           let whole = whole_acts table shown moved values read follow in
           let last : now.last ≡ length rows = omega (arith, has_followed.last, first) in
-          told_acts acts_keyed (Ok now.last) (whole.0, last ∙ whole.1)
+          told_acts {E = Unit {0}} acts_keyed (Ok now.last) (whole.0, last ∙ whole.1)
 
 -- a version that lacks the table has no act
-pub no_acts_told : {E : Type 0} (v : Version) (db : Database) → nat_lt 13 (table_count v) ≡ false
-    → CountsActs {E = E} (tables_at v db) (Ok 0)
+pub no_acts_told : (v : Version) (db : Database) → nat_lt 13 (table_count v) ≡ false
+    → CountsActs {E = Unit {0}} (tables_at v db) (Ok 0)
 no_acts_told v db lacks =
     subst (λ rows. (AreWholeActs rows × AreKeyed rows)
     × (0 ≡ length (latest_first (held_in act_at rows)))) (sym (journal_missing v db.trees lacks))

@@ -21,8 +21,8 @@ returns-in-Some-clause-counts g c works begins =
     (acts_shown old new found.0 begins found.1) found.2 c.in_ok-rows.ensures.ascending
     c.in-Some.last is
 
-pub returns-in-None-clause-counts : goal.returns-in-None-clause-counts
-returns-in-None-clause-counts g c works begins =
+pub returns-clause-counts : goal.returns-clause-counts
+returns-clause-counts g c works begins =
     let old = state g.S.Store c.args.conn.now in
     let new = state g.S.Store c.all.new.conn in
     let found = c.in_ok-rows.ensures.rows works in
