@@ -1,7 +1,7 @@
 -- Acts that are added one after the other.
-use Rattle.std.proofs.Common.{◌≡◌, ℕ, suc, ◌+◌, ◌-◌, ◌<◌, true, false, List, [], ◌∷◌, ◌++◌, length, take, drop}
+use Rattle.std.proofs.Common.{◌≡◌, ℕ, suc, ◌+◌, ◌-◌, ◌<◌, ◌≤◌, false, List, [], ◌∷◌, ◌++◌, length, take, drop}
 use Rattle.std.proofs.Common.{get_or, refl, sym, ap, subst, ◌∙◌, arith}
-use Rattle.std.proofs.lemmas.List.{length-append, take_all, take_more}
+use Rattle.std.proofs.lemmas.List.{length-take-le, take_all, take_more}
 use Rattle.reg_core.specs.Journal.{with_acts}
 use Rattle.reg_core.specs.World.{World, applied}
 use Rattle.reg_core.specs.declared.change.Change.{Change}
@@ -16,7 +16,7 @@ with_acts-append [] more journal = refl
 with_acts-append (act ∷ acts) more journal = with_acts-append acts more (act ∷ journal)
 
 -- there are as many more
-pub with_acts-length : (acts journal : List Act)
+with_acts-length : (acts journal : List Act)
     → length (with_acts acts journal) ≡ length journal + length acts
 with_acts-length [] journal = omega arith
 with_acts-length (act ∷ acts) journal =
@@ -25,6 +25,23 @@ with_acts-length (act ∷ acts) journal =
 -- all but the first
 abbrev pub later : List Act → List Act
 later acts = take (length acts - 1) (drop 1 acts)
+
+within : (acts : List Act) (i : ℕ) → i < length (later acts) → suc i ≤ length acts
+within [] i inside = absurd (omega (arith, inside))
+within (first ∷ others) i inside =
+    let whole : later (first ∷ others) ≡ others =
+    take_all (length (first ∷ others) - 1) others (omega arith) in
+    let left : i < length others = subst (λ more. i < length more) whole inside in
+    omega (arith, left)
+
+-- the number of the last of the first ones is how many there are then
+pub counted_on : (acts journal : List Act) (i number last : ℕ) → i < length (later acts)
+    → number ≡ last + suc i → last ≡ length journal
+    → number ≡ length (with_acts (take (suc i) acts) journal)
+counted_on acts journal i number last inside is was =
+    let long = with_acts-length (take (suc i) acts) journal in
+    let took = length-take-le (suc i) acts (within acts i inside) in
+    omega (arith, long, took, is, was)
 
 -- after the first ones, and then the next
 pub next_added : (acts journal : List Act) (i : ℕ) (act : Act) → i < length (later acts)

@@ -1,6 +1,6 @@
 use Rattle.std.proofs.Common.{ap, length, refl, rules, sym, ◌∙◌, ◌≡◌, false}
 use Rattle.reg_core.specs.Journal.{with_acts}
-use Rattle.reg_core.specs.World.{applied}
+use Rattle.reg_core.specs.World.{World, applied}
 use Rattle.reg_content.specs.Changing.{writes_row}
 use Rattle.reg_content.proofs.Joining.{steps_as}
 use Rattle.reg_content.proofs.Journaled.{applied_journal, nothing_applied}
@@ -13,7 +13,7 @@ returns-then-not-writes_row-clause-steps g c =
     let none : writes_row change ≡ false = search rules in
     steps_as c.add_acts.ensures.steps (λ w fits. (
       fits.1,
-      ap (λ v. record v { journal = with_acts c.args.acts.now w.journal })
+      ap (λ (v : World). record v { journal = with_acts c.args.acts.now w.journal })
           (sym (nothing_applied w change none)),
     ))
 

@@ -1,4 +1,6 @@
-use Rattle.std.proofs.Common.{◌≡◌, [], ap, rules, sym, ◌∙◌}
+use Rattle.std.proofs.Common.{◌≡◌, [], ap, length, sym, ◌∙◌}
+use Rattle.std.proofs.lemmas.Bool.{eqb-true}
+use Rattle.std.proofs.lemmas.List.{nil_from_length}
 use Rattle.sqlite.specs.Held.{state}
 use Rattle.reg_core.specs.World.{World}
 use Rattle.reg_keeper.specs.Keeper.{applied_with}
@@ -11,7 +13,9 @@ returns-then-is_empty-clause-alters g c =
     let done = c.in_ok-apply.ensures in
     let change = c.args.change.now in
     let w : World = world_in (state g.S.Store c.args.conn.now) in
-    let none : c.args.acts.now ≡ [] = search rules in
+    let acts = c.args.acts.now in
+    let none : acts ≡ [] =
+    nil_from_length acts (eqb-true (length acts) 0 (sym c.is_empty.ensures ∙ c.if-is_empty.true)) in
     record {
       keeping = done.keeping;
       endures = done.endures;

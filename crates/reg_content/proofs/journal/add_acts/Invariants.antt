@@ -1,4 +1,4 @@
-use Rattle.std.proofs.Common.{◌≡◌, ◌+◌, suc, take, length, Ok}
+use Rattle.std.proofs.Common.{◌≡◌, ◌+◌, ℕ, suc, take, length, Ok}
 use Rattle.sqlite.specs.Held.{state}
 use Rattle.reg_core.specs.Journal.{with_acts}
 use Rattle.reg_core.specs.World.{World}
@@ -13,7 +13,7 @@ invariant-loop-act g l =
     record {
       same_reference : l.tx.conn.ghost_name ≡ l.fn.tx.conn.ghost_name;
       number : l.number ≡ l.fn.last + suc l.act-index;
-      steps : Steps {T = Unit {0}} {E = Fault} old now (Ok tt)
+      steps : Steps {T = ℕ} {E = Fault} old now (Ok l.number)
           (λ (w : World). l.fn.last ≡ length w.journal)
           (λ (w : World). record w {
             journal = with_acts (take (suc l.act-index) l.fn.acts) w.journal;
