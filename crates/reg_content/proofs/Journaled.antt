@@ -16,7 +16,7 @@ with_acts-append [] more journal = refl
 with_acts-append (act ∷ acts) more journal = with_acts-append acts more (act ∷ journal)
 
 -- there are as many more
-with_acts-length : (acts journal : List Act)
+pub with_acts-length : (acts journal : List Act)
     → length (with_acts acts journal) ≡ length journal + length acts
 with_acts-length [] journal = omega arith
 with_acts-length (act ∷ acts) journal =

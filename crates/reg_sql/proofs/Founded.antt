@@ -13,7 +13,7 @@ use Rattle.reg_core.specs.Entry.{with_hold}
 use Rattle.reg_core.specs.Minutes.{with_minute}
 use Rattle.sqlite.specs.State.{State}
 use Rattle.reg_core.specs.WellKept.{WellKept}
-use Rattle.reg_core.specs.World.{empty_world, name_cmp, place_cmp}
+use Rattle.reg_core.specs.World.{World, empty_world, name_cmp, place_cmp}
 use Rattle.reg_core.proofs.Keeping.FirstWorlds.{first_worlds_kept}
 use Rattle.reg_core.proofs.KeyOrders.{name_keys, place_keys}
 use Rattle.reg_vacancies.specs.Vacancies.{AreVacancies, AreVacanciesOf}
@@ -113,7 +113,8 @@ keeps_founded s idle founded v are = record {
 
 -- and has no act
 pub counts_founded : (s : State) → (Holds s → IsFounded s.now) → CountsTo 0 s
-counts_founded s founded h = ap (λ w. length w.journal) (sym (founded_empty s.now (founded h)))
+counts_founded s founded h =
+    ap (λ (w : World). length w.journal) (sym (founded_empty s.now (founded h)))
 
 -- a store without tables has none that are not empty
 pub blank : (db : Database) → HasNoTables db → IsBlank no_schema db

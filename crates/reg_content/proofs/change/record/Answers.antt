@@ -15,7 +15,7 @@ returns-then-is_empty-clause-alters g c =
     let w : World = world_in (state g.S.Store c.args.conn.now) in
     let acts = c.args.acts.now in
     let none : acts ≡ [] =
-    nil_from_length acts (eqb-true (length acts) 0 (sym c.is_empty.ensures ∙ c.if-is_empty.true)) in
+    nil_from_length acts (eqb-true (length acts) 0 (sym c.if-is_empty.ensures)) in
     record {
       keeping = done.keeping;
       endures = done.endures;
