@@ -10,7 +10,7 @@ use Rattle.reg_content.proofs.change.make_with.Goals as goal
 pub returns-then-not-writes_row-clause-steps : goal.returns-then-not-writes_row-clause-steps
 returns-then-not-writes_row-clause-steps g c =
     let change = c.args.change.now in
-    let none : writes_row change ≡ false = sym c.if-writes_row.ensures in
+    let none : writes_row change ≡ false = sym c.writes_row.ensures ∙ c.if-not-writes_row.true in
     steps_as c.add_acts.ensures.steps (λ w fits. (
       fits.1,
       ap (λ (v : World). record v { journal = with_acts c.args.acts.now w.journal })
