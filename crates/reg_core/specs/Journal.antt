@@ -1,10 +1,12 @@
 -- The journal: what is kept of each change, when it was made, by whom, and what it was about.
-use Rattle.std.specs.Prelude.{ℕ, Bool, List, [], ◌∷◌, map, filter, Option, Some, None}
+use Rattle.std.specs.Prelude.{ℕ, ◌+◌, Bool, false, nat_eq, List, [], ◌∷◌, ◌++◌, length, map, filter, Option, Some, None}
 use Rattle.std.specs.List.{list_any}
 use Rattle.std.specs.FinMap.{FinMap, get}
 use Rattle.reg_maps.specs.Maps.{text_cmp, same_text}
 use Rattle.reg_blocks.specs.Block.{SizedPrefix, block_cmp}
+use Rattle.reg_early.specs.Moment.{utc_day}
 use Rattle.reg_core.specs.CapRows.{cap_list}
+use Rattle.reg_core.specs.File.{same_name}
 use Rattle.reg_core.specs.Names.{first_digits}
 use Rattle.reg_core.specs.World.{World, RequestName, applied}
 use Rattle.reg_core.specs.declared.capability.Cap.{Cap}
@@ -16,6 +18,7 @@ use Rattle.reg_core.specs.declared.journal.Act.{Act}
 use Rattle.reg_core.specs.declared.journal.Actor.{Actor}
 use Rattle.reg_core.specs.declared.journal.Deed.{Deed}
 use Rattle.reg_core.specs.declared.journal.Deed.TheVariants as did
+use Rattle.reg_core.specs.declared.journal.NumberedAct.{NumberedAct}
 use Rattle.reg_core.specs.declared.journal.Stamp.{Stamp}
 use Rattle.reg_core.specs.declared.request.State.{State}
 use Rattle.reg_core.specs.declared.request.State.TheVariants.{Declined}
@@ -127,3 +130,44 @@ deed_about (did.GiveBlock account reference block) = Some (account, reference)
 deed_about (did.Private holder block private) = None
 deed_about (did.Hold name value held) = None
 deed_about (did.Appoint principal agent reads) = None
+
+-- ---- Lists of acts
+
+-- the acts of a journal with their numbers, the oldest first
+abbrev pub numbered : List Act → List NumberedAct
+numbered [] = []
+numbered (act ∷ acts) = numbered acts ++ (record { number = length acts + 1; act = act }) ∷ []
+
+-- those that pass a test; and without their numbers
+abbrev pub numbered_where : (Act → Bool) → World → List NumberedAct
+numbered_where test w = filter (λ (n : NumberedAct). test n.act) (numbered w.journal)
+
+abbrev pub without_numbers : List NumberedAct → List Act
+without_numbers rows = map (λ (n : NumberedAct). n.act) rows
+
+abbrev pub acts_where : (Act → Bool) → World → List Act
+acts_where test w = without_numbers (numbered_where test w)
+
+-- made on this day
+abbrev pub is_moment_on : ℕ → Option ℕ → Bool
+is_moment_on day None = false
+is_moment_on day (Some moment) = nat_eq (utc_day moment) day
+
+abbrev pub is_on : ℕ → Act → Bool
+is_on day act = is_moment_on day act.stamp.moment
+
+-- made by this account
+abbrev pub is_actor : List ℕ → Option Actor → Bool
+is_actor account None = false
+is_actor account (Some actor) = same_text actor.account account
+
+abbrev pub is_by : List ℕ → Act → Bool
+is_by account act = is_actor account act.stamp.by
+
+-- about this request
+abbrev pub is_name_of : RequestName → Option RequestName → Bool
+is_name_of name None = false
+is_name_of name (Some about) = same_name about name
+
+abbrev pub is_about : RequestName → Act → Bool
+is_about name act = is_name_of name (deed_about act.deed)

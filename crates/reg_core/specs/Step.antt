@@ -8,10 +8,11 @@ use Rattle.reg_core.specs.Capability.{same_kind}
 use Rattle.reg_core.specs.Counting.{counts}
 use Rattle.reg_core.specs.Entry.{page_entry, with_hold}
 use Rattle.reg_core.specs.Rules.{assign_rule, approve_rule, decline_rule, hold_rule, define_rule, pool_rule, grant_rule, revoke_rule, revoke_digits_rule, revoke_account_rule}
-use Rattle.reg_core.specs.Journal.{stamp_of, recorded_if}
+use Rattle.reg_core.specs.Arrivals.{waiting_list}
+use Rattle.reg_core.specs.Journal.{acts_where, is_about, is_by, is_on, stamp_of, recorded_if}
 use Rattle.reg_core.specs.View.{published, view_of, cap_at}
 use Rattle.reg_early.specs.Moment.{is_in_clock, utc_day}
-use Rattle.reg_core.specs.File.{file, waiting_files, was_advised}
+use Rattle.reg_core.specs.File.{file, was_advised}
 use Rattle.reg_core.specs.Request.{request_rows}
 use Rattle.reg_core.specs.World.{World, RequestName}
 use Rattle.reg_core.specs.declared.capability.Cap.{Cap}
@@ -20,7 +21,7 @@ use Rattle.reg_core.specs.declared.change.Change.{Change}
 use Rattle.reg_core.specs.declared.command.Command.{Command}
 use Rattle.reg_core.specs.declared.command.Command.TheVariants as command
 use Rattle.reg_core.specs.declared.command.ClerkCommand.{ClerkCommand}
-use Rattle.reg_core.specs.declared.command.ClerkCommand.TheVariants.{AllRequests, OneRequest, AssignExpert, Approve, Decline, SetHold, Define, AddPool, Grant, Revoke, PendingRequests, AllCapabilities, RevokeDigits, RevokeAccount, CountRows}
+use Rattle.reg_core.specs.declared.command.ClerkCommand.TheVariants.{AllRequests, OneRequest, AssignExpert, Approve, Decline, SetHold, Define, AddPool, Grant, Revoke, PendingRequests, AllCapabilities, RevokeDigits, RevokeAccount, CountRows, ActsOn, ActsBy, ActsAbout}
 use Rattle.reg_core.specs.declared.told.Told.{Told}
 use Rattle.reg_core.specs.declared.told.Told.TheVariants as tells
 use Rattle.reg_core.specs.declared.decide.Decision.{Decision}
@@ -96,7 +97,7 @@ module _ (digest_of : List ℕ → List ℕ) where
   clerk_answer w in_use moment today (Revoke token) =
       by_rule (revoke_rule in_use (get w.caps (digest_of token)) (digest_of token))
       (λ decision. tells.Revoked)
-  clerk_answer w in_use moment today PendingRequests = unchanged (tells.Cases (waiting_files w))
+  clerk_answer w in_use moment today PendingRequests = unchanged (tells.Waiting (waiting_list w))
   clerk_answer w in_use moment today AllCapabilities =
       unchanged (tells.Capabilities (cap_list w.caps))
   clerk_answer w in_use moment today (RevokeDigits digits) =
@@ -106,6 +107,12 @@ module _ (digest_of : List ℕ → List ℕ) where
       let rows = caps_that (is_of account) w.caps in
       by_rule (revoke_account_rule in_use rows) (λ decision. tells.Capabilities rows)
   clerk_answer w in_use moment today CountRows = unchanged (tells.Counts (counts moment today w))
+  clerk_answer w in_use moment today (ActsOn day) = unchanged (tells.Acts (acts_where (is_on day) w))
+  clerk_answer w in_use moment today (ActsBy account) =
+      unchanged (tells.Acts (acts_where (is_by account) w))
+  clerk_answer w in_use moment today (ActsAbout account reference) = do
+    case ← or_refusal no.Request (get w.requests (account, reference))
+    unchanged (tells.ActsAbout (acts_where (is_about (account, reference)) w))
 
   -- a clerk's command; a caller who acts as no clerk is answered as any other is
   abbrev pub clerk_answer_to : World → Option (List ℕ) → ℕ → ClerkCommand → Answer
@@ -118,8 +125,11 @@ module _ (digest_of : List ℕ → List ℕ) where
   abbrev pub answer_to : World → Option (List ℕ) → ℕ → Command → Answer
   answer_to w caller moment (command.Public given) =
       answer (view_of w caller) moment (command.Public given)
+  answer_to w caller moment command.Token = answer (view_of w caller) moment command.Token
   answer_to w caller moment (command.Applicant given) =
       answer (view_of w caller) moment (command.Applicant given)
+  answer_to w caller moment (command.Times given) =
+      answer (view_of w caller) moment (command.Times given)
   answer_to w caller moment (command.Expert given) =
       answer (view_of w caller) moment (command.Expert given)
   answer_to w caller moment (command.Clerk given) = clerk_answer_to w caller moment given

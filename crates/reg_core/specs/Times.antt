@@ -1,12 +1,15 @@
 -- When requests came, and when they were decided, as the journal has it.
-use Rattle.std.specs.Prelude.{ℕ, Bool, false, List, find, Option, None, option_and_then, if◌then◌else◌}
+use Rattle.std.specs.Prelude.{ℕ, Bool, false, List, find, map, Option, None, option_and_then, if◌then◌else◌}
+use Rattle.std.specs.FinMap.{FinMap, entries}
+use Rattle.reg_maps.specs.Maps.{same_text, only_if, select}
 use Rattle.reg_core.specs.File.{same_name}
 use Rattle.reg_core.specs.Request.{is_pending}
-use Rattle.reg_core.specs.World.{RequestName}
+use Rattle.reg_core.specs.World.{RequestName, name_cmp}
 use Rattle.reg_core.specs.declared.journal.Act.{Act}
 use Rattle.reg_core.specs.declared.journal.Deed.{Deed}
 use Rattle.reg_core.specs.declared.journal.Deed.TheVariants.{Submit, Withdraw, Decline, GiveValue, GiveBlock}
 use Rattle.reg_core.specs.declared.request.Case.{Case}
+use Rattle.reg_core.specs.declared.request.RequestTimes.{RequestTimes}
 
 -- when a request came, and when it was approved, declined or withdrawn
 pub record Times : Type 0 where
@@ -37,3 +40,22 @@ times_of journal name case = record {
   submitted = last_moment (submits name) journal;
   decided = if is_pending case.state then None else last_moment (decides name) journal;
 }
+
+-- ---- Rows
+
+-- with the name of the request; and all rows of a map
+abbrev pub times_row : RequestName → Times → RequestTimes
+times_row name times = record {
+  account = name.0;
+  reference = name.1;
+  submitted = times.submitted;
+  decided = times.decided;
+}
+
+abbrev pub times_rows : FinMap name_cmp Times → List RequestTimes
+times_rows m = map (λ e. times_row e.0 e.1) (entries m)
+
+-- those of the requests that an account made
+abbrev pub times_of_requests_by : List ℕ → FinMap name_cmp Times → FinMap name_cmp Times
+times_of_requests_by account m =
+    select (λ name times. only_if (same_text name.0 account) times) m

@@ -7,4 +7,6 @@ pub mod DayTexts
 pub mod MomentsHaveDays
 pub mod TermsHaveDays
 pub mod TermsInWords
+pub mod Dates
+pub mod DaysReadBack
 mod KnownDays

@@ -36,7 +36,8 @@ use Rattle.reg_core.specs.World.{World, Place, RequestName}
 use Rattle.reg_core.specs.declared.change.Change.TheVariants as change
 use Rattle.reg_core.specs.declared.entry.Registration.{Registration}
 use Rattle.reg_core.proofs.KeyOrders.{place_keys}
-use Rattle.reg_import.specs.Days.{midnight, or_else, year_before, year_before_by}
+use Rattle.reg_early.specs.DayReading.{midnight}
+use Rattle.reg_import.specs.Years.{or_else, year_before, year_before_by}
 use Rattle.reg_import.specs.Lines.{Filing, applicant_token, entry_filing, entry_lines, filing_lines, hold_line, hold_lines, renewal_filing, renewal_lines}
 use Rattle.reg_import.specs.Rows.{may_renew, renewal_for, renewal_on}
 use Rattle.reg_import.specs.declared.entry.EarlyStanding.{EarlyStanding}

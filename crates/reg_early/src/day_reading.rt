@@ -1,12 +1,12 @@
-//! Days as registers write them, and those on which renewals are approved.
-ghost use Rattle.std.specs.Prelude.{◌≡◌, ◌≤◌, ◌<◌, IfSome};
-ghost use Rattle.reg_import.specs.Days.{day_at, midnight, pair, read_day, year_before, year_before_by};
+//! Days that are read from texts.
+ghost use Rattle.std.specs.Prelude.{◌≡◌, ◌<◌, IfSome};
+ghost use Rattle.reg_early.specs.DayReading.{day_at, midnight, pair, read_day};
 
+use crate::day::Day;
 use jiff::civil::Date;
-use reg_early::day::{Day, year_after};
 
 /// The day that is written as YYYY-MM-DD (RFC 3339, section 5.6), from 2000-01-01 to 9999-12-31.
-#[tactic(auto, unfolding(crate::specs::Days::read_day))]
+#[tactic(auto, unfolding(crate::specs::DayReading::read_day))]
 pub fn read_day(text: &[u8]) -> Option<Day>
     ensures { result ≡ read_day text.now }
 {
@@ -43,30 +43,6 @@ fn day_at(year: u32, month: u32, day: u32) -> Option<Day>
     }
     let date = Date::new(year as i16, month as i8, day as i8).ok()?;
     Day::from_days(date.to_plain().to_unix_epoch_day().unsigned_abs())
-}
-
-/// The day one year before a day: the one whose year ends on it, and the earlier where there are
-/// two, 28 and 29 February. None where there is none.
-pub fn year_before(day: Day) -> Option<Day>
-    ensures { result ≡ year_before day }
-{
-    match year_before_by(day, 366) {
-        Some(earlier) => Some(earlier),
-        None => year_before_by(day, 365),
-    }
-}
-
-// The day so many days before, where its year ends on the day.
-fn year_before_by(day: Day, days: u32) -> Option<Day>
-    requires { days ≤ 366 }
-    ensures { result ≡ year_before_by day days }
-{
-    let earlier = Day::from_days(day.days() - days)?;
-    if year_after(earlier) == day {
-        Some(earlier)
-    } else {
-        None
-    }
 }
 
 /// The first moment of a day in UTC.

@@ -13,7 +13,7 @@ use Rattle.reg_ranges.specs.Texts.{is_within}
 use Rattle.reg_early.specs.Calendar.{CivilDate, civil_date, IsDate, IsDay, day_number}
 use Rattle.reg_early.proofs.CalendarIsJiffs.{day_number_agrees, length_of_month, theirs}
 use Rattle.reg_early.proofs.DaysAreDates.{placed}
-use Rattle.reg_import.specs.Days.{day_at, is_date}
+use Rattle.reg_early.specs.DayReading.{day_at, is_date}
 
 within : (low high n : ℕ) → is_within low high n ≡ true → (low ≤ n) × (n ≤ high)
 within low high n h = (grind (arith, nat_tests), grind (arith, nat_tests))

@@ -8,8 +8,8 @@ use Rattle.reg_early.proofs.CalendarIsJiffs.{length_of_month}
 use Rattle.reg_early.specs.Calendar.{CivilDate, IsDate, IsDay, date_of, day_number}
 use Rattle.reg_early.specs.DayText.{date_text, text_of_day}
 use Rattle.reg_early.proofs.DaysAreDates.{IsDate-date_of, day_number-date_of}
-use Rattle.reg_import.specs.Days.{day_at, pair, read_day}
-use Rattle.reg_import.proofs.Dates.{passes}
+use Rattle.reg_early.specs.DayReading.{day_at, pair, read_day}
+use Rattle.reg_early.proofs.Dates.{passes}
 
 digit : (n : ℕ) → n < 10 → is_ascii_digit (48 + n) ≡ true
 digit n h = grind (arith, nat_tests)

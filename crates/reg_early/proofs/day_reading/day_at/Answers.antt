@@ -3,8 +3,8 @@ use Rattle.std.specs.Prelude.{unsigned_abs}
 use Rattle.std.proofs.lemmas.Int.{ints, to_z-of_z}
 use Rattle.jiff.specs.Words as jiff
 use Rattle.reg_early.specs.Calendar.{civil_date, day_number}
-use Rattle.reg_import.proofs.Dates.{day_is, not_there, there, too_early}
-use Rattle.reg_import.proofs.day_reading.day_at.Goals as goal
+use Rattle.reg_early.proofs.Dates.{day_is, not_there, there, too_early}
+use Rattle.reg_early.proofs.day_reading.day_at.Goals as goal
 use mir.Syntax.{w16}
 
 pub returns-then-year-lt2000 : goal.returns-then-year-lt2000

@@ -1,10 +1,9 @@
--- Days as registers write them, and those on which renewals are approved.
+-- Days that are read from texts.
 use Rattle.std.specs.Prelude.{◌≡◌, ℕ, ◌+◌, ◌-◌, ◌*◌, ◌==◌, ◌&&◌, Bool, List, length, slice_index, Option, Some, None, if◌then◌else◌}
 use Rattle.std.specs.Char.{is_ascii_digit}
 use Rattle.reg_ranges.specs.Texts.{is_within}
-use Rattle.reg_early.specs.Calendar.{CivilDate, IsDay, civil_date, day_number, month_lengths, year_after}
+use Rattle.reg_early.specs.Calendar.{CivilDate, IsDay, civil_date, day_number, month_lengths}
 use Rattle.reg_early.specs.DayText.{text_of_day}
-use Rattle.reg_early.specs.Forms.{is_day}
 
 infixl 10 ◌>>=◌
 abbrev pub ◌>>=◌ : {A B : Type 0} → Option A → (A → Option B) → Option B
@@ -46,19 +45,6 @@ read_day text =
 -- the text of a day is read as that day
 abbrev pub DaysReadBack : Type 0
 DaysReadBack = (day : ℕ) → IsDay day → read_day (text_of_day day) ≡ Some day
-
--- the day so many days before another, where its year ends on that one
-abbrev pub year_before_by : ℕ → ℕ → Option ℕ
-year_before_by day days =
-    if is_day (day - days) && year_after (day - days) == day then Some (day - days) else None
-
-abbrev pub or_else : Option ℕ → Option ℕ → Option ℕ
-or_else (Some x) other = Some x
-or_else None other = other
-
--- the day one year before: the one whose year ends on the day, and of 28 and 29 February the earlier
-abbrev pub year_before : ℕ → Option ℕ
-year_before day = or_else (year_before_by day 366) (year_before_by day 365)
 
 -- the first moment of a day
 abbrev pub midnight : ℕ → ℕ
