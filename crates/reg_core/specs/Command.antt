@@ -35,6 +35,11 @@ abbrev pub needs_capability : Command → Bool
 needs_capability (Public command) = false
 needs_capability command = true
 
+-- whether it asks when requests came
+abbrev pub asks_for_times : Command → Bool
+asks_for_times (Times command) = true
+asks_for_times command = false
+
 -- a request of the caller's account, if the caller has a capability
 abbrev pub own_name : Option Cap → List ℕ → Option RequestName
 own_name by reference = option_map (λ (cap : Cap). (cap.account, reference)) by

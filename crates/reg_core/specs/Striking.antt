@@ -10,7 +10,7 @@ use Rattle.reg_core.specs.Unseen.{Stage, stages, is_hidden, is_unseen, kept_stag
 use Rattle.reg_core.specs.View.{published, cap_at, view_of}
 use Rattle.reg_core.specs.World.{World, RequestName}
 use Rattle.reg_core.specs.declared.capability.Cap.{Cap}
-use Rattle.reg_core.specs.declared.case_file.CaseFile.{CaseFile}
+use Rattle.reg_core.specs.declared.case_file.WaitingFile.{WaitingFile}
 use Rattle.reg_core.specs.declared.journal.Act.{Act}
 use Rattle.reg_core.specs.declared.told.Told.{Told}
 use Rattle.reg_core.specs.declared.told.Told.TheVariants as tells
@@ -18,6 +18,7 @@ use Rattle.reg_core.specs.declared.queue.QueueRow.{QueueRow}
 use Rattle.reg_core.specs.declared.reply.Reply.{Reply}
 use Rattle.reg_core.specs.declared.reply.Reply.TheVariants.{Accepted, Refused}
 use Rattle.reg_core.specs.declared.request.Request.{Request}
+use Rattle.reg_core.specs.declared.request.RequestTimes.{RequestTimes}
 
 -- ---- Two worlds that show an account the same
 
@@ -41,8 +42,8 @@ abbrev pub is_others : List ℕ → Option Cap → Bool
 is_others account None = false
 is_others account (Some cap) = not (same_text cap.account account)
 
--- what is told lists all requests, or those that another account made, is assigned to, or may read as
--- an agent
+-- what is told lists all requests, or acts, or what another account made, is assigned to, or may read
+-- as an agent
 abbrev pub lists_others : List ℕ → Option Cap → Told → Bool
 lists_others account cap (tells.Names names) = false
 lists_others account cap (tells.Page page) = false
@@ -52,6 +53,7 @@ lists_others account cap (tells.Blocks rows) = false
 lists_others account cap (tells.Made row) = false
 lists_others account cap (tells.Row row) = false
 lists_others account cap (tells.Rows rows) = is_others account cap
+lists_others account cap (tells.Times rows) = is_others account cap
 lists_others account cap (tells.Held row) = false
 lists_others account cap (tells.Holdings rows) = false
 lists_others account cap (tells.Agent agent reads) = false
@@ -65,10 +67,13 @@ lists_others account cap (tells.Marked entry) = false
 lists_others account cap (tells.Defined name) = false
 lists_others account cap (tells.Pooled prefix) = false
 lists_others account cap (tells.Granted given) = false
+lists_others account cap (tells.InUse given) = false
 lists_others account cap tells.Revoked = false
-lists_others account cap (tells.Cases files) = true
+lists_others account cap (tells.Waiting files) = true
 lists_others account cap (tells.Capabilities rows) = false
 lists_others account cap (tells.Counts counts) = false
+lists_others account cap (tells.Acts acts) = true
+lists_others account cap (tells.ActsAbout acts) = false
 
 -- a refusal lists nothing
 abbrev pub reply_lists_others : List ℕ → Option Cap → Reply → Bool
@@ -82,8 +87,18 @@ requests_without unseen rows = filter (λ row. not (unseen (row.account, row.ref
 abbrev pub queue_without : (RequestName → Bool) → List QueueRow → List QueueRow
 queue_without unseen rows = filter (λ row. not (unseen (row.account, row.reference))) rows
 
-abbrev pub files_without : (RequestName → Bool) → List CaseFile → List CaseFile
-files_without unseen files = filter (λ file. not (unseen (name_of file))) files
+abbrev pub times_without : (RequestName → Bool) → List RequestTimes → List RequestTimes
+times_without unseen rows = filter (λ row. not (unseen (row.account, row.reference))) rows
+
+abbrev pub files_without : (RequestName → Bool) → List WaitingFile → List WaitingFile
+files_without unseen files = filter (λ waiting. not (unseen (name_of waiting.file))) files
+
+-- the act was about no such request; and the acts without those that were
+abbrev pub is_seen : (RequestName → Bool) → Act → Bool
+is_seen unseen act = not (is_hidden unseen (deed_about act.deed))
+
+abbrev pub acts_without : (RequestName → Bool) → List Act → List Act
+acts_without unseen acts = filter (is_seen unseen) acts
 
 -- what is told without the rows of unseen requests, where it lists requests
 abbrev pub told_without : (RequestName → Bool) → Told → Told
@@ -95,6 +110,7 @@ told_without unseen (tells.Blocks rows) = tells.Blocks rows
 told_without unseen (tells.Made row) = tells.Made row
 told_without unseen (tells.Row row) = tells.Row row
 told_without unseen (tells.Rows rows) = tells.Rows (requests_without unseen rows)
+told_without unseen (tells.Times rows) = tells.Times (times_without unseen rows)
 told_without unseen (tells.Held row) = tells.Held row
 told_without unseen (tells.Holdings rows) = tells.Holdings rows
 told_without unseen (tells.Agent agent reads) = tells.Agent agent reads
@@ -108,23 +124,19 @@ told_without unseen (tells.Marked entry) = tells.Marked entry
 told_without unseen (tells.Defined name) = tells.Defined name
 told_without unseen (tells.Pooled prefix) = tells.Pooled prefix
 told_without unseen (tells.Granted cap) = tells.Granted cap
+told_without unseen (tells.InUse cap) = tells.InUse cap
 told_without unseen tells.Revoked = tells.Revoked
-told_without unseen (tells.Cases files) = tells.Cases (files_without unseen files)
+told_without unseen (tells.Waiting files) = tells.Waiting (files_without unseen files)
 told_without unseen (tells.Capabilities rows) = tells.Capabilities rows
 told_without unseen (tells.Counts counts) = tells.Counts counts
+told_without unseen (tells.Acts acts) = tells.Acts (acts_without unseen acts)
+told_without unseen (tells.ActsAbout acts) = tells.ActsAbout (acts_without unseen acts)
 
 abbrev pub reply_without : (RequestName → Bool) → Reply → Reply
 reply_without unseen (Accepted told) = Accepted (told_without unseen told)
 reply_without unseen (Refused refusal) = Refused refusal
 
 -- ---- Striking
-
--- the act was about no such request; and a journal without those that were
-abbrev pub is_seen : (RequestName → Bool) → Act → Bool
-is_seen unseen act = not (is_hidden unseen (deed_about act.deed))
-
-abbrev pub acts_without : (RequestName → Bool) → List Act → List Act
-acts_without unseen acts = filter (is_seen unseen) acts
 
 -- none of these requests is there
 abbrev pub HasNoneUnseen : (RequestName → Bool) → World → Type 0
