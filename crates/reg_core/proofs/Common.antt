@@ -49,7 +49,6 @@ pub use Rattle.reg_core.specs.Award.{Allowance, Award, AwardedEntry, awarded_ent
 pub use Rattle.reg_core.specs.BlocksGiven.{IsDueIn}
 pub use Rattle.reg_core.specs.CapRows.{CapPlace, begins_with, by_account, cap_list, cap_place, cap_place_cmp, cap_row, cap_rows, caps_that, is_of}
 pub use Rattle.reg_core.specs.Capability.{has_cap_form, last_until, same_cap, same_kind}
-pub use Rattle.reg_core.specs.Arrivals.{Arrival, arrival, arrival_cmp, arrival_of, by_arrival, waiting_file, waiting_list}
 pub use Rattle.reg_core.specs.Command.{about, asks_for_times, has_command_form, needs_capability}
 pub use Rattle.reg_core.specs.Counting.{counts, entries_in, entry_counts, plus}
 pub use Rattle.reg_core.specs.EarlyAllocations.{MovesTerm}
