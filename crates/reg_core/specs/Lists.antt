@@ -154,9 +154,9 @@ pub record OwnList (w : World) (account : List ℕ) (rows : List Request) : Type
 -- the row says of a request of the account when it came and when it was decided
 abbrev pub HasTimesOf : World → List ℕ → RequestTimes → Type 0
 HasTimesOf w account row =
-    (row.account ≡ account) × (case : Case)
-    × (get w.requests (account, row.reference) ≡ Some case)
-    × (row ≡ times_row (account, row.reference) (times_of w.journal (account, row.reference) case))
+    let name = (row.account, row.reference) in
+    (row.account ≡ account) × (case : Case) × (get w.requests name ≡ Some case)
+    × (row ≡ times_row name (times_of w.journal name case))
 
 -- the rows are the times of an account's requests
 pub record TimesList (w : World) (account : List ℕ) (rows : List RequestTimes) : Type 0 where

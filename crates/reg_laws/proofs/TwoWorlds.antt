@@ -3,7 +3,7 @@
 use Rattle.std.proofs.Common.{◌≡◌, ℕ, Bool, false, List, refl, sym, ap, subst, ◌∙◌}
 use Rattle.std.specs.Prelude.{Option, Some, map, option_map, unwrap_or}
 use Rattle.std.specs.FinMap.{get, contains_key}
-use Rattle.reg_core.proofs.Common.{act_by, change_of, carried, stamp_in, with_acts, same_text}
+use Rattle.reg_core.proofs.Common.{act_by, answer, change_of, carried, stamp_in, with_acts, same_text}
 use Rattle.reg_core.proofs.Common.{SizedPrefix, WellKept, World}
 use Rattle.reg_laws.proofs.Types.{Advice, Ask, Cap, Case, Change, Declined, Holder, Withdrawn}
 use Rattle.reg_core.specs.Journal.{marked}
@@ -13,7 +13,7 @@ use Rattle.reg_core.specs.declared.change.Change.TheVariants.{Submit, Close, Adv
 use Rattle.reg_core.proofs.Outcomes.Dues.{Due, each_step}
 use Rattle.reg_laws.proofs.Agents.{principal_times_unchanged}
 use Rattle.reg_laws.proofs.Times.{own_submitted, own_withdrawn, principals_submitted, principals_withdrawn}
-use Rattle.reg_laws.proofs.TwoWorldsByNow.{ShowAlike, alike_by_now, no_clerk_serves, same_answers, same_block, same_caps, same_own, shown_alike}
+use Rattle.reg_laws.proofs.TwoWorldsByNow.{ShowAlike, alike_then, no_clerk_serves, same_answers, same_block, same_caps, same_own, shown_alike}
 
 -- ---- What two worlds tell of times after a change of an account's own
 
@@ -173,8 +173,9 @@ module _ (digest_of : List ℕ → List ℕ) where
   pub worlds_alike : TwoWorlds digest_of
   worlds_alike w v caller moment command kept_w kept_v not_w same =
       let now = same_now w v caller moment kept_w kept_v not_w same in
-      let one = same_answers digest_of w v caller moment command not_w now in
-      let by_now = alike_by_now digest_of w v caller moment command kept_w kept_v not_w now in
+      let one = same_answers digest_of w v caller moment command not_w now
+      (ap (λ (shown : View). answer shown moment command) same) in
+      let by_now = alike_then digest_of w v caller moment command kept_w kept_v not_w now one in
       let times = each_step digest_of w caller moment command
       (λ change.
       times_seen (carried w caller moment change) caller

@@ -3,7 +3,7 @@
 use Rattle.std.proofs.Common.{◌≡◌, ℕ, Bool, true, false, ◌&&◌, List, refl, sym, ap, subst, ◌∙◌}
 use Rattle.reg_core.proofs.Common.{same_text, only_if, update, same_kind, is_in_clock, utc_day}
 use Rattle.reg_core.proofs.Common.{SizedPrefix, masked, with_mark, with_advice, is_clerk, clerk_answer}
-use Rattle.reg_core.proofs.Common.{answer_to, WellKept}
+use Rattle.reg_core.proofs.Common.{answer_to, asks_for_times, WellKept}
 use Rattle.reg_laws.proofs.Types.{Advice, Ask, Cap, Kind, Change, Command, Holder}
 use Rattle.reg_core.proofs.Common.{reply_of, change_of, answer, answer_at, World}
 use Rattle.reg_laws.proofs.Types.{Case, State, Declined, Withdrawn}
@@ -12,7 +12,7 @@ use Rattle.reg_core.proofs.Common.{name_keys, block_keys, SameOthers, others_aft
 use Rattle.reg_core.proofs.Common.{others_after_update, queue_same, principal_rows_same, queue_advised}
 use Rattle.reg_core.proofs.Common.{FinMap, get, same_kind-is}
 use Rattle.reg_maps.proofs.MapLaws.{select-insert_same, select-update_same}
-use Rattle.reg_core.specs.Laws.{TwoWorldsByNow, IsNoClerk}
+use Rattle.reg_core.specs.Laws.{AreAlikeByNow, TwoWorldsByNow, IsNoClerk}
 use Rattle.reg_core.specs.View.{published, Published, Personal, personal, requests_of, holdings_of, queue_of, principal_rows_of, OwnTimes, View, ViewByNow, times_seen, view_of, view_by_now, cap_at, with_personal}
 use Rattle.reg_core.specs.declared.capability.Kind.TheVariants.{Clerk}
 use Rattle.reg_core.specs.declared.change.Change.TheVariants.{Submit, Close, Advise, SetPrivate, SetAgent}
@@ -241,21 +241,24 @@ module _ (w v : World) (caller : Option (List ℕ)) (moment : ℕ) (kept_w : Wel
 abbrev timed : ViewByNow → Option OwnTimes → View
 timed n times = record { published = n.published; me = n.me; times = times }
 
--- no command is answered by them
+-- no command but those that ask for times is answered by them
 untimed : (n : ViewByNow) (s t : Option OwnTimes) (moment : ℕ) (given : Command)
+    → asks_for_times given ≡ false
     → answer_at (timed n s) moment given ≡ answer_at (timed n t) moment given
-untimed n s t moment (command.Public given) = refl
-untimed n s t moment (command.Applicant given) = refl
-untimed n s t moment (command.Expert given) = refl
-untimed n s t moment (command.Clerk given) = refl
+untimed n s t moment (command.Public given) apart = refl
+untimed n s t moment command.Token apart = refl
+untimed n s t moment (command.Applicant given) apart = refl
+untimed n s t moment (command.Times given) apart = absurd (cc)
+untimed n s t moment (command.Expert given) apart = refl
+untimed n s t moment (command.Clerk given) apart = refl
 
 answers_by_now : (w v : World) (caller : Option (List ℕ)) (moment : ℕ) (given : Command)
-    → view_by_now w caller ≡ view_by_now v caller
+    → asks_for_times given ≡ false → view_by_now w caller ≡ view_by_now v caller
     → answer (view_of w caller) moment given ≡ answer (view_of v caller) moment given
-answers_by_now w v caller moment given same =
+answers_by_now w v caller moment given apart same =
     ap (λ n. answer (timed n (times_seen w caller)) moment given) same
     ∙ ap (λ a. if is_in_clock moment then a else Err no.Clock)
-    (untimed (view_by_now v caller) (times_seen w caller) (times_seen v caller) moment given)
+    (untimed (view_by_now v caller) (times_seen w caller) (times_seen v caller) moment given apart)
 
 -- ---- A caller who is no clerk
 
@@ -288,20 +291,23 @@ module _ (digest_of : List ℕ → List ℕ) where
       ]
   answer_to-view w caller moment command h = refl
 
-  -- so two worlds that show it the same by now answer it the same
+  -- so two worlds whose views answer it the same answer it the same
   pub same_answers : (w v : World) (caller : Option (List ℕ)) (moment : ℕ) (command : Command)
       → IsNoClerk w caller → view_by_now w caller ≡ view_by_now v caller
+      → answer (view_of w caller) moment command ≡ answer (view_of v caller) moment command
       → answer_to digest_of w caller moment command ≡ answer_to digest_of v caller moment command
-  same_answers w v caller moment command not_w same =
+  same_answers w v caller moment command not_w same alike =
       let not_v : IsNoClerk v caller =
       λ cap is_there. not_w cap (same_caps w v caller same ∙ is_there) in
-      answer_to-view w caller moment command not_w
-      ∙ answers_by_now w v caller moment command same
+      answer_to-view w caller moment command not_w ∙ alike
       ∙ sym (answer_to-view v caller moment command not_v)
 
-  pub alike_by_now : TwoWorldsByNow digest_of
-  alike_by_now w v caller moment command kept_w kept_v not_w same =
-      let one = same_answers w v caller moment command not_w same in
+  -- and then show it the same by now
+  pub alike_then : (w v : World) (caller : Option (List ℕ)) (moment : ℕ) (command : Command)
+      → WellKept w → WellKept v → IsNoClerk w caller → view_by_now w caller ≡ view_by_now v caller
+      → answer_to digest_of w caller moment command ≡ answer_to digest_of v caller moment command
+      → AreAlikeByNow digest_of w v caller moment command
+  alike_then w v caller moment command kept_w kept_v not_w same one =
       record {
         replies = ap reply_of one;
         views = each_step digest_of w caller moment command
@@ -312,3 +318,9 @@ module _ (digest_of : List ℕ → List ℕ) where
             (λ change is. due_after w v caller moment kept_w kept_v not_w same change is.due)
             ∙ ap (λ a. view_by_now (carried v caller moment (change_of a)) caller) one;
       }
+
+  pub alike_by_now : TwoWorldsByNow digest_of
+  alike_by_now w v caller moment command kept_w kept_v not_w apart same =
+      alike_then w v caller moment command kept_w kept_v not_w same
+      (same_answers w v caller moment command not_w same
+      (answers_by_now w v caller moment command apart same))

@@ -19,9 +19,9 @@ pub fn two_worlds()
     ensures { (digest_of : List ℕ → List ℕ) → TwoWorlds digest_of }
 {}
 
-/// The same without times: two well kept worlds that show a caller who is no clerk the same by now,
-/// whenever its requests came and were decided, answer its command alike, and then show it the same
-/// by now again.
+/// The same without times, for each command that asks for none: two well kept worlds that show a
+/// caller who is no clerk the same by now, whenever its requests came and were decided, answer its
+/// command alike, and then show it the same by now again.
 pub fn two_worlds_by_now()
     ensures { (digest_of : List ℕ → List ℕ) → TwoWorldsByNow digest_of }
 {}

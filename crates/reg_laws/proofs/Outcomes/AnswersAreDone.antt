@@ -16,10 +16,11 @@ use Rattle.reg_laws.proofs.Types.{Told, Make, Same}
 use Rattle.reg_core.proofs.Common.{principal_list, FinMap, text_cmp}
 use Rattle.reg_core.proofs.Journals.{carried_is}
 use Rattle.reg_maps.proofs.KeySets.{is_inserted}
-use Rattle.reg_core.specs.declared.command.Command.TheVariants.{Public, Applicant, Expert, Clerk}
+use Rattle.reg_core.specs.declared.command.Command.TheVariants.{Public, Token, Applicant, Times, Expert, Clerk}
+use Rattle.reg_core.specs.declared.command.TimesCommand.TheVariants as times
 use Rattle.reg_core.specs.declared.command.ApplicantCommand.TheVariants.{Own, OwnOne, Submit, Withdraw, Holdings, SetListing, SetAgent, Agents, Principals, PrincipalRows}
 use Rattle.reg_core.specs.declared.command.ExpertCommand.TheVariants.{Queue, Advise}
-use Rattle.reg_core.specs.declared.command.ClerkCommand.TheVariants.{AllRequests, OneRequest, AssignExpert, Approve, Decline, SetHold, Define, AddPool, Grant, Revoke, PendingRequests, AllCapabilities, RevokeDigits, RevokeAccount, CountRows}
+use Rattle.reg_core.specs.declared.command.ClerkCommand.TheVariants.{AllRequests, OneRequest, AssignExpert, Approve, Decline, SetHold, Define, AddPool, Grant, Revoke, PendingRequests, AllCapabilities, RevokeDigits, RevokeAccount, CountRows, ActsOn, ActsBy, ActsAbout}
 use Rattle.reg_core.specs.declared.command.PublicCommand.TheVariants.{Registries, Registry, RegistryCsv, PoolList, BlocksCsv}
 use Rattle.reg_core.specs.declared.request.Given.TheVariants.{Value, Block}
 use Rattle.reg_core.specs.Laws.{IsDone, WasDone, AnswersAreDone, TakesJust, is_refused}
@@ -30,7 +31,7 @@ use Rattle.reg_core.proofs.Outcomes.Accepted.{Comes, CommandSo, accepted}
 use Rattle.reg_laws.proofs.Capabilities.{takes_just, have_gone}
 use Rattle.reg_laws.proofs.Lines.Turns.{other_text}
 use Rattle.reg_laws.proofs.Outcomes.ClerkLists.{pending_list, cap_list_whole}
-use Rattle.reg_laws.proofs.Outcomes.WholeLists.{entry_list, block_list, own_list, holding_list, queue_list}
+use Rattle.reg_laws.proofs.Outcomes.WholeLists.{entry_list, block_list, own_list, holding_list, queue_list, times_list}
 
 -- ---- The forms of an outcome
 
@@ -156,6 +157,7 @@ module _ (digest_of : List ℕ → List ℕ) (w : World) (caller : Option (List 
       (refl, so.is, entry_list w name (utc_day moment))
   done (Public PoolList) o so = subst (Done (Public PoolList)) (sym so) refl
   done (Public BlocksCsv) o so = subst (Done (Public BlocksCsv)) (sym so) (block_list w)
+  done Token o so = subst (Done Token) (sym so.so) so.is_there
   done (Applicant Own) o so =
       subst (Done (Applicant Own)) (sym so.1)
       (so.0.cap, so.0.is_there, own_list w so.0.cap.account)
@@ -249,6 +251,12 @@ module _ (digest_of : List ℕ → List ℕ) (w : World) (caller : Option (List 
   done (Applicant (PrincipalRows principal)) o so =
       subst (Done (Applicant (PrincipalRows principal))) (sym so.1.so)
       (so.0.cap, so.0.is_there, ap is_some so.1.is, own_list w principal)
+  done (Times times.Own) o so =
+      subst (Done (Times times.Own)) (sym so.1)
+      (so.0.cap, so.0.is_there, times_list w so.0.cap.account)
+  done (Times (times.Principal principal)) o so =
+      subst (Done (Times (times.Principal principal))) (sym so.1.so)
+      (so.0.cap, so.0.is_there, ap is_some so.1.is, times_list w principal)
   done (Expert Queue) o so =
       subst (Done (Expert Queue)) (sym so.1)
       (so.0.cap, so.0.is_there, queue_list w so.0.cap.account)
@@ -346,6 +354,10 @@ module _ (digest_of : List ℕ → List ℕ) (w : World) (caller : Option (List 
       told_done (Clerk (RevokeAccount account)) _ o took.told
       (all_gone so.0.digest (is_of account) o took)
   done (Clerk CountRows) o so = subst (Done (Clerk CountRows)) (sym so.1) refl
+  done (Clerk (ActsOn day)) o so = subst (Done (Clerk (ActsOn day))) (sym so.1) refl
+  done (Clerk (ActsBy account)) o so = subst (Done (Clerk (ActsBy account))) (sym so.1) refl
+  done (Clerk (ActsAbout account reference)) o so =
+      subst (Done (Clerk (ActsAbout account reference))) (sym so.1.so) (ap is_some so.1.is, refl)
 
 -- an accepted command: its outcome, what was so, and that what its caller is told is so after it
 pub record IsAcceptedAndDone (digest_of : List ℕ → List ℕ) (w : World) (caller : Option (List ℕ))
