@@ -57,7 +57,7 @@ pub use Rattle.reg_core.specs.File.{experts_of, file, name_of, opinions_of, same
 pub use Rattle.reg_core.specs.FirstRefusals.{Applies, IsAbove, IsNotEarly, IsShut, Lacks, UnderPolicy, line_of, want_of}
 pub use Rattle.reg_core.specs.Holding.{ShownHolding, holder_in, holding_row, holding_rows, listed_rows, masked, masked_blocks, with_mark}
 pub use Rattle.reg_core.specs.Item.{item_name}
-pub use Rattle.reg_core.specs.Journal.{act_by, acts_if, acts_of, acts_where, deed_about, is_about, is_by, is_on, numbered, numbered_where, without_numbers, deeds_of, recorded, recorded_if, stamp_of, with_acts}
+pub use Rattle.reg_core.specs.Journal.{act_by, acts_if, acts_in_order, acts_of, acts_where, deed_about, is_about, is_by, is_name_of, is_on, deeds_of, recorded, recorded_if, stamp_of, with_acts}
 pub use Rattle.reg_core.specs.Laws.{GivesDigests, IsAdvised, IsApproved, IsDone, IsOfAsk, IsRenewedIn, StillAsks, StillGiven, StillStands, TakesJust, TwoWorlds, clerk_cap, founded_world, is_refused}
 pub use Rattle.reg_core.specs.LeastFree.{values_in}
 pub use Rattle.reg_core.specs.Link.{agent_rows, has_link_form, principal_names}
@@ -72,7 +72,7 @@ pub use Rattle.reg_core.specs.Request.{case_of, has_state_form, is_pending, read
 pub use Rattle.reg_core.specs.Rules.{advise_rule, agent_rule, all_rule, approve_rule, assign_rule, change_to_give, decline_rule, define_rule, give_rule, grant_rule, has_token, hold_rule, link_rule, mark_rule, new_advice_rule, new_hold_rule, one_rule, pool_rule, private_rule, revoke_account_rule, revoke_digits_rule, revoke_rule, submit_rule, withdraw_rule}
 pub use Rattle.reg_core.specs.Run.{Event, have_forms, run, step_of, world_after}
 pub use Rattle.reg_core.specs.Step.{Stepped, acts_as_clerk, answer_to, carried, clerk_answer, desk_by, is_clerk, stamp_in, step}
-pub use Rattle.reg_core.specs.Striking.{AreAlikeTo, HasNoneUnseen, ShowSame, StagesAreOfRun, UnseenLeaveNoTrace, acts_without, is_seen, reply_without}
+pub use Rattle.reg_core.specs.Striking.{AreAlikeTo, HasNoneUnseen, ShowSame, StagesAreOfRun, UnseenLeaveNoTrace, HasNoneUnseenActs, acts_without, is_seen, lists_acts, reply_without}
 pub use Rattle.reg_core.specs.Times.{Times, decides, last_moment, submits, times_of, times_of_requests_by, times_row, times_rows}
 pub use Rattle.reg_core.specs.Unseen.{Stage, is_hidden, is_outside, is_unseen, reveals_if, speaks_for, stage, stages, stays_in, struck}
 pub use Rattle.reg_core.specs.View.{OwnTimes, Personal, Queued, agents_of, as_queued, cap_at, entries_of, holdings_of, own_times, personal, principal_rows_of, principals_of, published, queue_of, queued_to, requests_by, requests_of, times_by, times_seen, view_by_now, view_of, with_personal}

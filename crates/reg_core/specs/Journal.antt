@@ -1,5 +1,5 @@
 -- The journal: what is kept of each change, when it was made, by whom, and what it was about.
-use Rattle.std.specs.Prelude.{ℕ, ◌+◌, Bool, false, nat_eq, List, [], ◌∷◌, ◌++◌, length, map, filter, Option, Some, None}
+use Rattle.std.specs.Prelude.{ℕ, Bool, false, nat_eq, List, [], ◌∷◌, ◌++◌, map, filter, Option, Some, None, if◌then◌else◌}
 use Rattle.std.specs.List.{list_any}
 use Rattle.std.specs.FinMap.{FinMap, get}
 use Rattle.reg_maps.specs.Maps.{text_cmp, same_text}
@@ -18,7 +18,6 @@ use Rattle.reg_core.specs.declared.journal.Act.{Act}
 use Rattle.reg_core.specs.declared.journal.Actor.{Actor}
 use Rattle.reg_core.specs.declared.journal.Deed.{Deed}
 use Rattle.reg_core.specs.declared.journal.Deed.TheVariants as did
-use Rattle.reg_core.specs.declared.journal.NumberedAct.{NumberedAct}
 use Rattle.reg_core.specs.declared.journal.Stamp.{Stamp}
 use Rattle.reg_core.specs.declared.request.State.{State}
 use Rattle.reg_core.specs.declared.request.State.TheVariants.{Declined}
@@ -133,20 +132,14 @@ deed_about (did.Appoint principal agent reads) = None
 
 -- ---- Lists of acts
 
--- the acts of a journal with their numbers, the oldest first
-abbrev pub numbered : List Act → List NumberedAct
-numbered [] = []
-numbered (act ∷ acts) = numbered acts ++ (record { number = length acts + 1; act = act }) ∷ []
-
--- those that pass a test; and without their numbers
-abbrev pub numbered_where : (Act → Bool) → World → List NumberedAct
-numbered_where test w = filter (λ (n : NumberedAct). test n.act) (numbered w.journal)
-
-abbrev pub without_numbers : List NumberedAct → List Act
-without_numbers rows = map (λ (n : NumberedAct). n.act) rows
+-- the acts of a journal that pass a test, the oldest first
+abbrev pub acts_in_order : (Act → Bool) → List Act → List Act
+acts_in_order test [] = []
+acts_in_order test (act ∷ acts) =
+    acts_in_order test acts ++ (if test act then act ∷ [] else [])
 
 abbrev pub acts_where : (Act → Bool) → World → List Act
-acts_where test w = without_numbers (numbered_where test w)
+acts_where test w = acts_in_order test w.journal
 
 -- made on this day
 abbrev pub is_moment_on : ℕ → Option ℕ → Bool

@@ -130,7 +130,7 @@ told_without unseen (tells.Cases files) = tells.Cases (files_without unseen file
 told_without unseen (tells.Capabilities rows) = tells.Capabilities rows
 told_without unseen (tells.Counts counts) = tells.Counts counts
 told_without unseen (tells.Acts acts) = tells.Acts (acts_without unseen acts)
-told_without unseen (tells.ActsAbout acts) = tells.ActsAbout (acts_without unseen acts)
+told_without unseen (tells.ActsAbout acts) = tells.ActsAbout acts
 
 abbrev pub reply_without : (RequestName → Bool) → Reply → Reply
 reply_without unseen (Accepted told) = Accepted (told_without unseen told)
@@ -142,11 +142,20 @@ reply_without unseen (Refused refusal) = Refused refusal
 abbrev pub HasNoneUnseen : (RequestName → Bool) → World → Type 0
 HasNoneUnseen unseen w = (name : RequestName) → unseen name ≡ true → get w.requests name ≡ None
 
+-- no act is about one of them
+abbrev pub HasNoneUnseenActs : (RequestName → Bool) → World → Type 0
+HasNoneUnseenActs unseen w = acts_without unseen w.journal ≡ w.journal
+
+-- the reply lists acts of a day, or of an account
+abbrev pub lists_acts : Reply → Bool
+lists_acts (Accepted (tells.Acts acts)) = true
+lists_acts reply = false
+
 -- an event in two runs, the second of which is struck: before and after it both worlds show the
--- account the same, and it is answered alike; an answer that lists requests of others may differ
--- in rows of unseen requests, and in nothing else; the second run leaves unseen requests as they
--- were, and where none is there, it lists all rows of the first run but theirs; the journals of both
--- are the same once the acts about unseen requests are left out of both
+-- account the same, and it is answered alike; an answer that lists requests of others, or acts, may
+-- differ in rows of unseen requests, and in nothing else; the second run leaves unseen requests as
+-- they were, and where none is there, and no act about one, it lists all rows of the first run but
+-- theirs; the journals of both are the same once the acts about unseen requests are left out of both
 pub record AreAlikeTo (account : List ℕ) (unseen : RequestName → Bool) (s t : Stage) : Type 0 where
   pub event : s.event ≡ t.event
   pub before : ShowSame account s.before t.before
@@ -156,7 +165,9 @@ pub record AreAlikeTo (account : List ℕ) (unseen : RequestName → Bool) (s t 
   pub rows : reply_without unseen s.reply ≡ reply_without unseen t.reply
   pub untouched : (name : RequestName) → unseen name ≡ true
       → get t.after.requests name ≡ get t.before.requests name
-  pub without : HasNoneUnseen unseen t.before → t.reply ≡ reply_without unseen s.reply
+  pub without : HasNoneUnseen unseen t.before
+      → (lists_acts t.reply ≡ true → HasNoneUnseenActs unseen t.before)
+      → t.reply ≡ reply_without unseen s.reply
   pub journals : acts_without unseen s.after.journal ≡ acts_without unseen t.after.journal
 
 -- the run of the list without the events about unseen requests is alike at each event that is

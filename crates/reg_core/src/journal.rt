@@ -63,13 +63,6 @@ pub struct Act {
     pub deed: Deed,
 }
 
-/// An act with its number in the journal: 1 for the first, then one more each time.
-#[derive(Clone, Copy)]
-pub struct NumberedAct {
-    pub number: u32,
-    pub act: Act,
-}
-
 /// What kind of act it is.
 #[derive(Clone, Copy)]
 pub enum ActKind {

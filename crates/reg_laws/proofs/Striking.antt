@@ -6,6 +6,7 @@ use Rattle.reg_core.proofs.Common.{contains_key, or_parts, not-false, same_text,
 use Rattle.reg_core.proofs.Common.{Event, step_of, world_after, ShowSame, HasNoneUnseen, AreAlikeTo}
 use Rattle.reg_core.proofs.Common.{UnseenLeaveNoTrace, StagesAreOfRun, World, RequestName, carried}
 use Rattle.reg_core.proofs.Common.{acts_without, not_some, stamp_in}
+use Rattle.reg_core.specs.Striking.{HasNoneUnseenActs, lists_acts}
 use Rattle.reg_laws.proofs.Types.{Change}
 use Rattle.reg_core.specs.Unseen.{Stage, stage, stages, about_at, reveals_if, is_unseen, is_hidden, stays_in}
 use Rattle.reg_core.proofs.Outcomes.Dues.{changes_due}
@@ -16,6 +17,7 @@ use Rattle.reg_laws.proofs.Striking.Views.{show_same}
 use Rattle.reg_laws.proofs.Striking.Worlds.{agree_itself, agree_if, agree_hidden_if, Blind, IsQuiet, IsOfHidden, blind_if, Unaware}
 pub mod Worlds
 pub mod Views
+pub mod Acts
 pub mod Answers
 pub mod Untouched
 pub mod Lists
@@ -101,8 +103,9 @@ module _ (digest_of : List ℕ → List ℕ) (account : List ℕ) (hidden : Requ
         → AreAlikeTo account hidden (stage digest_of w e) (stage digest_of v e)
     alike stays =
         let answers = same_answer digest_of account hidden e w v un stays in
-        let plain = λ (none : HasNoneUnseen hidden v).
-        answer_plain hidden v none digest_of e (answer_at digest_of v e) refl in
+        let plain = λ (none : HasNoneUnseen hidden v)
+        (acts : lists_acts (reply_of (answer_at digest_of v e)) ≡ true → HasNoneUnseenActs hidden v).
+        answer_plain hidden v none digest_of e (answer_at digest_of v e) refl acts in
         let apart = kept_apart digest_of account hidden e w v un stays in
         let open_made = subst (IsOfHidden false hidden) answers.change apart in
         record {
@@ -112,7 +115,7 @@ module _ (digest_of : List ℕ → List ℕ) (account : List ℕ) (hidden : Requ
           replies = λ lists. ap reply_of (answers.whole lists);
           rows = answers.rows;
           untouched = left_if hidden v (stamp_in v e.caller e.moment) (change_at v e) open_made;
-          without = λ none. sym (plain none) ∙ sym answers.rows;
+          without = λ none acts. sym (plain none acts) ∙ sym answers.rows;
           journals = (after_both answers.change).agree.acts;
         }
 

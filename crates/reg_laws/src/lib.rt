@@ -29,9 +29,10 @@ pub fn two_worlds_by_now()
 /// Striking: requests of others that an account never sees, and that are given nothing, can be
 /// struck from a run. Without the events about them (what the account itself does as an applicant
 /// or as an expert stays) every event that is left is answered alike, and finds and leaves the
-/// published registers and the account's views the same; only a list of all requests, or of
-/// another account's, may lack their rows. So too at the end. What is left changes none of these
-/// requests; and where none of them is there, such a list is the other list without their rows.
+/// published registers and the account's views the same; only a list of all requests, of another
+/// account's, or of acts may lack their rows. So too at the end. What is left changes none of these
+/// requests; and where none of them is there, nor an act about one, such a list is the other list
+/// without their rows.
 #[tactic(auto, using(crate::proofs::Striking::stages_of_run))]
 pub fn struck()
     ensures no_trace { (digest_of : List ℕ → List ℕ) → UnseenLeaveNoTrace digest_of }

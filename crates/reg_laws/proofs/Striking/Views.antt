@@ -7,7 +7,7 @@ use Rattle.reg_core.proofs.Common.{requests_of, requests_by, queue_of, principal
 use Rattle.reg_core.proofs.Common.{as_queued, cap_at, with_personal, World, RequestName, Seat, seat_cmp}
 use Rattle.reg_core.proofs.Common.{name_keys, seat_keys, false_from_ne_true, is_hidden, is_pending}
 use Rattle.reg_core.proofs.Common.{deed_about, acts_without, decides, submits, last_moment}
-use Rattle.reg_core.proofs.Common.{own_times, times_by, times_of, OwnTimes, Times}
+use Rattle.reg_core.proofs.Common.{own_times, times_by, times_of, times_of_requests_by, OwnTimes, Times}
 use Rattle.reg_laws.proofs.Types.{Act, Cap, Case, Deed}
 use Rattle.reg_maps.proofs.HiddenKeys.{AgreeBut, NoneAt, ChooseAlike, both_select, same_select}
 use Rattle.reg_core.specs.Striking.{has_account, ShowSame}
@@ -108,6 +108,37 @@ module _ {hidden : RequestName → Bool} {w v : World} (a : Agree hidden w v) (n
         decided = if is_pending case.state then None else decided i;
       }
 
+-- so the times of anybody's own requests, and of those of one of anybody's principals
+module _ {hidden : RequestName → Bool} {w v : World} (a : Agree hidden w v) where
+  pub times_of_agree : (of : List ℕ → Bool) → AgreeBut hidden (times_by of w) (times_by of v)
+  times_of_agree of = both_select name_keys hidden (chosen w) (chosen v) _ _ alike a.requests
+    where
+      chosen : World → RequestName → Case → Option Times
+      chosen x name case = only_if (of name.0) (times_of x.journal name case)
+
+      alike : ChooseAlike hidden (chosen w) (chosen v)
+      alike name h case = ap (λ times. only_if (of name.0) times) (times_agree a name h case)
+
+  pub principal_times_agree : (of principal : List ℕ)
+      → AgreeBut hidden (times_of_requests_by principal (own_times of w).principals)
+      (times_of_requests_by principal (own_times of v).principals)
+  principal_times_agree of principal =
+      both_select name_keys hidden by by _ _ (λ name h times. refl)
+      (both_select name_keys hidden (chosen w) (chosen v) _ _ alike a.requests)
+    where
+      by : RequestName → Times → Option Times
+      by name times = only_if (same_text name.0 principal) times
+
+      chosen : World → RequestName → Case → Option Times
+      chosen x name case =
+          only_if (contains_key x.agents (name.0, of)) (times_of x.journal name case)
+
+      alike : ChooseAlike hidden (chosen w) (chosen v)
+      alike name h case =
+          let reads = ap (λ (x : World). contains_key x.agents (name.0, of)) a.rest in
+          let times = times_agree a name h case in
+          λ i. only_if (reads i) (times i)
+
 -- and the rows of one request
 pub seats_same : {X : Type 0} (hidden : RequestName → Bool) (m n : FinMap seat_cmp X)
     → AgreeBut (at_seat hidden) m n → (name : RequestName) → hidden name ≡ false
@@ -207,6 +238,11 @@ module _
   times_same = λ i. record { own = own_times_same i; principals = principal_times_same i }
 
   -- so for every capability of the account's
+  pub same_times_of : (of : List ℕ) → same_text of account ≡ true → own_times of w ≡ own_times of v
+  same_times_of of h =
+      let mine = (bytes_eq-Decides of account).0 h in
+      ap (λ of. own_times of w) mine ∙ times_same ∙ sym (ap (λ of. own_times of v) mine)
+
   pub personal_same : (of : List ℕ) → same_text of account ≡ true → personal of w ≡ personal of v
   personal_same of h =
       let mine = (bytes_eq-Decides of account).0 h in
@@ -229,9 +265,7 @@ module _
   my_times_same : (existing : Option Cap) → has_account account existing ≡ true
       → option_map (times_with w) existing ≡ option_map (times_with v) existing
   my_times_same None h = refl
-  my_times_same (Some cap) h =
-      let mine = (bytes_eq-Decides cap.account account).0 h in
-      ap Some (ap (λ of. own_times of w) mine ∙ times_same ∙ sym (ap (λ of. own_times of v) mine))
+  my_times_same (Some cap) h = ap Some (same_times_of cap.account h)
 
   pub show_same : ShowSame account w v
   show_same = record {
