@@ -151,6 +151,11 @@ abbrev pub lists_acts : Reply → Bool
 lists_acts (Accepted (tells.Acts acts)) = true
 lists_acts reply = false
 
+-- so a reply of this world lists nothing of them
+abbrev pub ListsNoneUnseen : (RequestName → Bool) → World → Reply → Type 0
+ListsNoneUnseen unseen w reply =
+    HasNoneUnseen unseen w × (lists_acts reply ≡ true → HasNoneUnseenActs unseen w)
+
 -- an event in two runs, the second of which is struck: before and after it both worlds show the
 -- account the same, and it is answered alike; an answer that lists requests of others, or acts, may
 -- differ in rows of unseen requests, and in nothing else; the second run leaves unseen requests as
@@ -165,9 +170,7 @@ pub record AreAlikeTo (account : List ℕ) (unseen : RequestName → Bool) (s t 
   pub rows : reply_without unseen s.reply ≡ reply_without unseen t.reply
   pub untouched : (name : RequestName) → unseen name ≡ true
       → get t.after.requests name ≡ get t.before.requests name
-  pub without : HasNoneUnseen unseen t.before
-      → (lists_acts t.reply ≡ true → HasNoneUnseenActs unseen t.before)
-      → t.reply ≡ reply_without unseen s.reply
+  pub without : ListsNoneUnseen unseen t.before t.reply → t.reply ≡ reply_without unseen s.reply
   pub journals : acts_without unseen s.after.journal ≡ acts_without unseen t.after.journal
 
 -- the run of the list without the events about unseen requests is alike at each event that is

@@ -3,10 +3,10 @@ use Rattle.std.proofs.Common.{◌≡◌, ℕ, Bool, true, false, cond, ◌&&◌,
 use Rattle.std.specs.Prelude.{Option, filter}
 use Rattle.std.specs.List.{list_any, AllZip}
 use Rattle.reg_core.proofs.Common.{contains_key, or_parts, not-false, same_text, change_of, reply_of}
-use Rattle.reg_core.proofs.Common.{Event, step_of, world_after, ShowSame, HasNoneUnseen, AreAlikeTo}
+use Rattle.reg_core.proofs.Common.{Event, step_of, world_after, ShowSame, AreAlikeTo}
 use Rattle.reg_core.proofs.Common.{UnseenLeaveNoTrace, StagesAreOfRun, World, RequestName, carried}
 use Rattle.reg_core.proofs.Common.{acts_without, not_some, stamp_in}
-use Rattle.reg_core.specs.Striking.{HasNoneUnseenActs, lists_acts}
+use Rattle.reg_core.specs.Striking.{ListsNoneUnseen}
 use Rattle.reg_laws.proofs.Types.{Change}
 use Rattle.reg_core.specs.Unseen.{Stage, stage, stages, about_at, reveals_if, is_unseen, is_hidden, stays_in}
 use Rattle.reg_core.proofs.Outcomes.Dues.{changes_due}
@@ -103,9 +103,8 @@ module _ (digest_of : List ℕ → List ℕ) (account : List ℕ) (hidden : Requ
         → AreAlikeTo account hidden (stage digest_of w e) (stage digest_of v e)
     alike stays =
         let answers = same_answer digest_of account hidden e w v un stays in
-        let plain = λ (none : HasNoneUnseen hidden v)
-        (acts : lists_acts (reply_of (answer_at digest_of v e)) ≡ true → HasNoneUnseenActs hidden v).
-        answer_plain hidden v none digest_of e (answer_at digest_of v e) refl acts in
+        let plain = λ (none : ListsNoneUnseen hidden v (reply_of (answer_at digest_of v e))).
+        answer_plain hidden v none.0 digest_of e (answer_at digest_of v e) refl none.1 in
         let apart = kept_apart digest_of account hidden e w v un stays in
         let open_made = subst (IsOfHidden false hidden) answers.change apart in
         record {
@@ -115,7 +114,7 @@ module _ (digest_of : List ℕ → List ℕ) (account : List ℕ) (hidden : Requ
           replies = λ lists. ap reply_of (answers.whole lists);
           rows = answers.rows;
           untouched = left_if hidden v (stamp_in v e.caller e.moment) (change_at v e) open_made;
-          without = λ none acts. sym (plain none acts) ∙ sym answers.rows;
+          without = λ none. sym (plain none) ∙ sym answers.rows;
           journals = (after_both answers.change).agree.acts;
         }
 
