@@ -1,8 +1,8 @@
 //! Who may give a command.
 ghost use Rattle.std.specs.Prelude.{◌≡◌, None, Err};
 ghost use Rattle.std.specs.Option.{option_copied};
-ghost use Rattle.reg_core.specs.Answer.{admitted};
-ghost use Rattle.reg_commands.specs.Caller.{admission, caller_of as caller, stamp_by};
+ghost use Rattle.reg_core.specs.Answer.{admitted, in_force};
+ghost use Rattle.reg_commands.specs.Caller.{admission, caller_of as caller, stamp_by, valid_cap};
 ghost use Rattle.reg_commands.specs.Performs.{LooksUp};
 
 use crate::digest::caller_of;
@@ -68,6 +68,31 @@ pub fn admit<K: Keeper>(
         moment,
         day,
     })
+}
+
+/// The capability of the caller with this token, where it is valid at this moment, or the refusal:
+/// `Token`. A caller without a token is answered without a look at the keeper.
+pub fn valid<K: Keeper>(keeper: &mut K, token: Option<&[u8]>, moment: u64) -> Result<Cap, Stop>
+    ensures cap { LooksUp K.world K.Holds K.Sound K.FAILS keeper.old keeper.new result
+        (λ w. valid_cap w (caller (option_copied token.entry)) moment) }
+    ensures nobody { caller (option_copied token.entry) ≡ None →
+        result ≡ Err (Stop.Refused Refusal.Token) }
+    ensures untouched { caller (option_copied token.entry) ≡ None → keeper.new ≡ keeper.old }
+{
+    let digest = caller_of(token).ok_or(Refusal::Token)?;
+    let existing = keeper.cap(&digest)?;
+    Ok(valid_at(existing, moment)?)
+}
+
+// The capability that is there, where it is valid.
+fn valid_at(existing: Option<Cap>, moment: u64) -> Result<Cap, Refusal>
+    ensures { result ≡ in_force existing moment }
+{
+    let cap = existing.ok_or(Refusal::Token)?;
+    if cap.until.seconds() <= moment {
+        return Err(Refusal::Token);
+    }
+    Ok(cap)
 }
 
 // The capability by which a command of this kind may be given.

@@ -15,6 +15,8 @@ mod digest;
 pub mod expert;
 mod ground;
 mod holdings;
+mod journal;
 pub mod public;
 mod registers;
 pub mod stop;
+pub mod times;

@@ -8,6 +8,7 @@ ghost use Rattle.reg_core.specs.CapRows.{cap_rows};
 ghost use Rattle.reg_core.specs.Entry.{entry_row};
 ghost use Rattle.reg_core.specs.File.{file as file_of, waiting_files};
 ghost use Rattle.reg_core.specs.Holding.{holding_row, holding_rows, listed_rows, masked_blocks};
+ghost use Rattle.reg_core.specs.Journal.{acts_where, is_about, is_by, is_on};
 ghost use Rattle.reg_core.specs.LeastFree.{least_free_in};
 ghost use Rattle.reg_core.specs.Link.{agent_rows, link_rows, principal_names};
 ghost use Rattle.reg_core.specs.Page.{entry_rows};
@@ -32,6 +33,7 @@ use reg_core::queue::QueueRow;
 use reg_core::request::Request;
 use reg_core::rows::Rows;
 use reg_core::text::{Account, Digest, Name, Ref};
+use reg_early::day::Day;
 use reg_ranges::policy::Policy;
 use reg_ranges::table::RangeTable;
 use std::alloc::AllocError;
@@ -223,6 +225,21 @@ pub trait Keeper {
     fn links(&mut self) -> Result<Rows<LinkRow>, Fault>
         ensures { Selects world Holds Sound FAILS self.old self.new result
             (λ w rows. rows ≡ link_rows w.agents) };
+
+    /// The acts of a day, oldest first.
+    fn acts_on(&mut self, day: Day) -> Result<Rows<Act>, Fault>
+        ensures { Selects world Holds Sound FAILS self.old self.new result
+            (λ w acts. acts ≡ acts_where (is_on day) w) };
+
+    /// The acts that an account made, oldest first.
+    fn acts_by(&mut self, account: &Account) -> Result<Rows<Act>, Fault>
+        ensures { Selects world Holds Sound FAILS self.old self.new result
+            (λ w acts. acts ≡ acts_where (is_by account.now) w) };
+
+    /// The acts about the request of an account under a reference, oldest first.
+    fn acts_about(&mut self, account: &Account, reference: &Ref) -> Result<Rows<Act>, Fault>
+        ensures { Selects world Holds Sound FAILS self.old self.new result
+            (λ w acts. acts ≡ acts_where (is_about (account.now, reference.now)) w) };
 
     /// Makes a change whole, or not at all. It leaves no act in the journal.
     fn apply(&mut self, change: Change) -> Result<(), Fault>

@@ -153,6 +153,89 @@ applicant_answered w (Some digest) moment day command open_now =
     >>= told)
     (λ i who. own_rows w who.capability.account command i))
 
+-- ---- Times
+
+-- the times of an account's requests are told as those of its rows
+times_told : (w : World) (of : List ℕ)
+    → times_rows (times_by (λ applicant. same_text applicant of) w)
+    ≡ map (row_of_times w) (request_rows (requests_of of w))
+times_told w of =
+    rows_of_times w of ∙ sym (map-map (row_of_times w) (λ e. request_row e.0 e.1) (entries (requests_of of w)))
+
+own_times_rows : (w : World) (account : List ℕ) (command : TimesCommand)
+    → times_answer account (personal account w) (Some (own_times account w)) command
+    ≡ answer_about_times account command w
+own_times_rows w account times.Own = ap (λ rows. unchanged (tells.Times rows)) (times_told w account)
+own_times_rows w account (times.Principal principal) =
+    ap (λ o. or_refusal no.Principal o
+    >>= (λ link. unchanged (tells.Times
+    (times_rows (times_of_requests_by principal (own_times account w).principals)))))
+    (own_principal account principal w)
+    ∙ by (get w.agents (principal, account)) refl
+  where
+    by : (o : Option (Unit {0})) → get w.agents (principal, account) ≡ o
+        → (or_refusal no.Principal o
+        >>= (λ link. unchanged (tells.Times
+        (times_rows (times_of_requests_by principal (own_times account w).principals)))))
+        ≡ (or_refusal no.Principal (only_if (is_some o) (request_rows (requests_of principal w)))
+        >>= (λ rows. unchanged (tells.Times (map (row_of_times w) rows))))
+    by None is = refl
+    by (Some u) is =
+        ap (λ m. unchanged (tells.Times (times_rows m)))
+        (own_principal_times account principal w (ap is_some is))
+        ∙ ap (λ rows. unchanged (tells.Times rows)) (times_told w principal)
+
+pub times_answered : (w : World) (caller : Option (List ℕ)) (moment day : ℕ)
+    (command : TimesCommand) → is_in_clock moment ≡ true
+    → answer_to token_digest w caller moment (Times command)
+    ≡ (admission w caller moment day kind.Applicant
+    >>= (λ who. answer_about_times who.capability.account command w))
+times_answered w None moment day command open_now = rw open_now refl
+times_answered w (Some digest) moment day command open_now =
+    rw open_now (by (get w.caps digest))
+  where
+    by : (found : Option Cap)
+        → as_kind kind.Applicant (option_map (with_personal w) found) moment
+        (λ of my. times_answer of my (option_map (λ (cap : Cap). own_times cap.account w) found) command)
+        ≡ (caller_by digest moment day (admitted found moment kind.Applicant)
+        >>= (λ who. answer_about_times who.capability.account command w))
+    by None = refl
+    by (Some cap) =
+        elim (nat_le cap.until moment) as
+        (λ late. (if late then Err no.Token
+        else if same_kind cap.kind kind.Applicant then Ok cap else Err no.Kind)
+        >>= (λ (c : Cap). times_answer c.account (personal c.account w)
+        (Some (own_times cap.account w)) command)
+        ≡ (caller_by digest moment day (if late then Err no.Token
+        else if same_kind cap.kind kind.Applicant then Ok cap else Err no.Kind)
+        >>= (λ who. answer_about_times who.capability.account command w))) [
+          | true ↦ refl
+          | false ↦ elim (same_kind cap.kind kind.Applicant) as
+              (λ same. (if same then Ok cap else Err no.Kind)
+              >>= (λ (c : Cap). times_answer c.account (personal c.account w)
+              (Some (own_times cap.account w)) command)
+              ≡ (caller_by digest moment day (if same then Ok cap else Err no.Kind)
+              >>= (λ who. answer_about_times who.capability.account command w))) [
+                | true ↦ own_times_rows w cap.account command
+                | false ↦ refl
+              ]
+        ]
+
+-- ---- A token
+
+pub token_answered : (w : World) (caller : Option (List ℕ)) (moment : ℕ)
+    → is_in_clock moment ≡ true
+    → answer_to token_digest w caller moment Token
+    ≡ (valid_cap w caller moment >>= (λ cap. unchanged (tells.InUse cap)))
+token_answered w None moment open_now = rw open_now refl
+token_answered w (Some digest) moment open_now = rw open_now (by (get w.caps digest))
+  where
+    by : (found : Option Cap)
+        → token_answer (option_map (with_personal w) found) moment
+        ≡ (in_force found moment >>= (λ cap. unchanged (tells.InUse cap)))
+    by None = refl
+    by (Some cap) = refl
+
 -- ---- An expert
 
 pub expert_answered : (w : World) (caller : Option (List ℕ)) (moment day : ℕ)

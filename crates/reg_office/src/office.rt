@@ -1,8 +1,8 @@
 //! The office over whatever keeps its content.
-ghost use Rattle.std.specs.Prelude.{◌≡◌, None, Ok, Err, IfOk, IfErr, OnOk, OnErr, IsSome, true, false};
+ghost use Rattle.std.specs.Prelude.{◌≡◌, None, Ok, Err, IfOk, IfErr, OnOk, OnErr, true, false};
 ghost use Rattle.std.specs.Option.{option_copied};
 ghost use Rattle.reg_early.specs.Moment.{is_in_clock};
-ghost use Rattle.reg_core.specs.Command.{kind_of};
+ghost use Rattle.reg_core.specs.Command.{needs_capability};
 ghost use Rattle.reg_core.specs.Names.{is_token};
 ghost use Rattle.reg_core.specs.Step.{answer_to, stamp_in};
 ghost use Rattle.reg_keeper.specs.Keeper.{MayFault, IsUnfailed, GoesOn, Selects};
@@ -18,9 +18,9 @@ use crate::counting::{AllCounts, count_all};
 use crate::found::{FoundFault, found};
 use crate::revocation::{Choice, RevokeFault, revoke_chosen};
 use crate::stamps::{at, at_moment};
-use reg_commands::admission::admit;
+use reg_commands::admission::{admit, valid};
 use reg_commands::stop::Stop;
-use reg_commands::{applicant, clerk, expert, public};
+use reg_commands::{applicant, clerk, expert, public, times};
 use reg_core::capability::{CapRow, Kind};
 use reg_core::command::Command;
 use reg_core::refusal::Refusal;
@@ -148,7 +148,7 @@ impl<K: Keeper> Office<K> {
         ensures fault { IfErr result (MayFault K.FAILS) }
         ensures clock { is_in_clock moment ≡ false →
             (result ≡ Ok (Reply.Refused Refusal.Clock)) × (self.new ≡ self.old) }
-        ensures nobody { is_in_clock moment ≡ true → IsSome (kind_of command.now) →
+        ensures nobody { is_in_clock moment ≡ true → needs_capability command.now ≡ true →
             caller (option_copied token.entry) ≡ None →
             (result ≡ Ok (Reply.Refused Refusal.Token)) × (self.new ≡ self.old) }
     {
@@ -174,16 +174,21 @@ fn answer<K: Keeper>(
         (λ w. answer_to token_digest w who moment command.now) }
     ensures clock { is_in_clock moment ≡ false →
         (result ≡ Err (Stop.Refused Refusal.Clock)) × (keeper.new ≡ keeper.old) }
-    ensures nobody { is_in_clock moment ≡ true → IsSome (kind_of command.now) →
+    ensures nobody { is_in_clock moment ≡ true → needs_capability command.now ≡ true →
         caller (option_copied token.entry) ≡ None →
         (result ≡ Err (Stop.Refused Refusal.Token)) × (keeper.new ≡ keeper.old) }
 {
     let today = day_of(moment).ok_or(Refusal::Clock)?;
     match command {
         Command::Public(command) => public::perform(alloc, keeper, today, command),
+        Command::Token => Ok(Told::InUse(valid(keeper, token, moment)?)),
         Command::Applicant(command) => {
             let caller = admit(keeper, token, moment, today, Kind::Applicant)?;
             applicant::perform(keeper, &caller, command)
+        }
+        Command::Times(command) => {
+            let caller = admit(keeper, token, moment, today, Kind::Applicant)?;
+            times::perform(alloc, keeper, &caller.capability.account, command)
         }
         Command::Expert(command) => {
             let caller = admit(keeper, token, moment, today, Kind::Expert)?;
