@@ -1,18 +1,19 @@
 -- What the office answers: to all where it is closed, and to who is admitted where it is open.
 use Rattle.std.proofs.Common.{◌≡◌, ℕ, Bool, true, false, refl, sym, ap, ◌∙◌, arith}
-use Rattle.std.specs.Prelude.{List, Option, Some, None, Result, Ok, Err, is_some, option_map, nat_le, nat_lt, if◌then◌else◌}
+use Rattle.std.specs.Prelude.{List, map, Option, Some, None, Result, Ok, Err, is_some, option_map, nat_le, nat_lt, if◌then◌else◌}
 use Rattle.std.specs.FinMap.{get}
 use Rattle.std.proofs.lemmas.Bool.Decides.{nat_tests}
 use Rattle.reg_maps.specs.Maps.{only_if}
 use Rattle.reg_early.specs.Moment.{is_in_clock, utc_day, day_of_moment}
 use Rattle.reg_core.specs.Allowance.{◌>>=◌, or_refusal}
-use Rattle.reg_core.specs.Answer.{Answer, admitted, as_kind, by_rule, own_answer, expert_answer, public_answer, unchanged}
+use Rattle.reg_core.specs.Answer.{Answer, admitted, as_kind, by_rule, in_force, own_answer, expert_answer, public_answer, times_answer, token_answer, unchanged}
 use Rattle.reg_core.specs.Capability.{same_kind}
 use Rattle.reg_core.specs.Request.{request_rows}
 use Rattle.reg_core.specs.Rules.{agent_rule}
 use Rattle.reg_core.specs.Journal.{stamp_of}
 use Rattle.reg_core.specs.Step.{answer_to, clerk_answer, is_clerk, stamp_in}
-use Rattle.reg_core.specs.View.{Personal, published, personal, principal_rows_of, requests_by, requests_of, with_personal}
+use Rattle.reg_core.specs.Times.{times_of_requests_by, times_rows}
+use Rattle.reg_core.specs.View.{Personal, own_times, published, personal, principal_rows_of, requests_by, requests_of, with_personal}
 use Rattle.reg_core.specs.World.{World}
 use Rattle.reg_core.specs.declared.capability.Cap.{Cap}
 use Rattle.reg_core.specs.declared.capability.Kind.{Kind}
@@ -20,16 +21,19 @@ use Rattle.reg_core.specs.declared.capability.Kind.TheVariants as kind
 use Rattle.reg_core.specs.declared.command.ApplicantCommand.{ApplicantCommand}
 use Rattle.reg_core.specs.declared.command.ApplicantCommand.TheVariants.{OwnOne, Submit, Withdraw, SetAgent, PrincipalRows}
 use Rattle.reg_core.specs.declared.command.ClerkCommand.{ClerkCommand}
-use Rattle.reg_core.specs.declared.command.Command.TheVariants.{Public, Applicant, Expert, Clerk}
+use Rattle.reg_core.specs.declared.command.Command.TheVariants.{Public, Token, Applicant, Times, Expert, Clerk}
+use Rattle.reg_core.specs.declared.command.TimesCommand.{TimesCommand}
+use Rattle.reg_core.specs.declared.command.TimesCommand.TheVariants as times
 use Rattle.reg_core.specs.declared.command.ExpertCommand.{ExpertCommand}
 use Rattle.reg_core.specs.declared.command.PublicCommand.{PublicCommand}
 use Rattle.reg_core.specs.declared.told.Told.TheVariants as tells
 use Rattle.reg_core.specs.declared.refusal.Refusal.{Refusal}
 use Rattle.reg_core.specs.declared.refusal.Refusal.TheVariants as no
-use Rattle.reg_core.proofs.Links.{own_agent, own_principal, own_principal_rows}
+use Rattle.reg_core.proofs.Links.{own_agent, own_principal, own_principal_rows, own_principal_times}
 use Rattle.reg_core.proofs.Stepping.{admitted-ok, own_request}
-use Rattle.reg_commands.specs.Answers.{answer_to_account, answer_to_clerk, answer_to_expert}
-use Rattle.reg_commands.specs.Caller.{token_digest, admission, stamp_by}
+use Rattle.reg_commands.specs.Answers.{answer_about_times, answer_to_account, answer_to_clerk, answer_to_expert, row_of_times}
+use Rattle.reg_commands.specs.Caller.{token_digest, admission, stamp_by, valid_cap}
+use Rattle.reg_office.proofs.TimesTold.{times_told}
 use Rattle.reg_commands.specs.declared.admission.Caller.{Caller}
 
 -- ---- The clock
@@ -154,13 +158,6 @@ applicant_answered w (Some digest) moment day command open_now =
     (λ i who. own_rows w who.capability.account command i))
 
 -- ---- Times
-
--- the times of an account's requests are told as those of its rows
-times_told : (w : World) (of : List ℕ)
-    → times_rows (times_by (λ applicant. same_text applicant of) w)
-    ≡ map (row_of_times w) (request_rows (requests_of of w))
-times_told w of =
-    rows_of_times w of ∙ sym (map-map (row_of_times w) (λ e. request_row e.0 e.1) (entries (requests_of of w)))
 
 own_times_rows : (w : World) (account : List ℕ) (command : TimesCommand)
     → times_answer account (personal account w) (Some (own_times account w)) command
