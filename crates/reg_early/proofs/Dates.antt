@@ -22,7 +22,7 @@ within_from : (low high n : ℕ) → low ≤ n → n ≤ high → is_within low 
 within_from low high n l h = grind (arith, nat_tests)
 
 -- the test of a date
-tested : (date : CivilDate) → is_date date ≡ true → IsDate date
+pub tested : (date : CivilDate) → is_date date ≡ true → IsDate date
 tested date h =
     let first = and_parts (is_within 2000 9999 date.year) _ h in
     let second = and_parts (is_within 1 12 date.month) _ first.1 in (

@@ -9,4 +9,5 @@ pub mod TermsHaveDays
 pub mod TermsInWords
 pub mod Dates
 pub mod DaysReadBack
+pub mod DaysRead
 mod KnownDays

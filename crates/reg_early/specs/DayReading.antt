@@ -1,5 +1,5 @@
 -- Days that are read from texts.
-use Rattle.std.specs.Prelude.{◌≡◌, ℕ, ◌+◌, ◌-◌, ◌*◌, ◌==◌, ◌&&◌, Bool, List, length, slice_index, Option, Some, None, if◌then◌else◌}
+use Rattle.std.specs.Prelude.{◌≡◌, ℕ, ◌+◌, ◌-◌, ◌*◌, ◌==◌, ◌&&◌, Bool, nat_lt, List, length, slice_index, Option, Some, None, if◌then◌else◌}
 use Rattle.std.specs.Char.{is_ascii_digit}
 use Rattle.reg_ranges.specs.Texts.{is_within}
 use Rattle.reg_early.specs.Calendar.{CivilDate, IsDay, civil_date, day_number, month_lengths}
@@ -41,6 +41,13 @@ unfoldable pub read_day : List ℕ → Option ℕ
 read_day text =
     if length text == 10 && (slice_index text 4 == 45 && slice_index text 7 == 45)
     then day_within text else None
+
+-- the same where the day is before 3000-01-01
+abbrev pub in_clock_years : ℕ → Option ℕ
+in_clock_years day = if nat_lt day 376200 then Some day else None
+
+abbrev pub read_clock_day : List ℕ → Option ℕ
+read_clock_day text = read_day text >>= in_clock_years
 
 -- the text of a day is read as that day
 abbrev pub DaysReadBack : Type 0

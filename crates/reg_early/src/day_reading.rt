@@ -1,9 +1,12 @@
 //! Days that are read from texts.
 ghost use Rattle.std.specs.Prelude.{◌≡◌, ◌<◌, IfSome};
-ghost use Rattle.reg_early.specs.DayReading.{day_at, midnight, pair, read_day};
+ghost use Rattle.reg_early.specs.DayReading.{day_at, midnight, pair, read_clock_day, read_day};
 
 use crate::day::Day;
 use jiff::civil::Date;
+
+/// 3000-01-01, the first day after the years of the clock.
+const CLOCK_DAYS: u32 = 376_200;
 
 /// The day that is written as YYYY-MM-DD (RFC 3339, section 5.6), from 2000-01-01 to 9999-12-31.
 #[tactic(auto, unfolding(crate::specs::DayReading::read_day))]
@@ -18,6 +21,18 @@ pub fn read_day(text: &[u8]) -> Option<Day>
     let month = pair(text[5], text[6])?;
     let day = pair(text[8], text[9])?;
     day_at(100 * century + year, month, day)
+}
+
+/// The day that is written so, where it is one of the years 2000 to 2999.
+pub fn read_clock_day(text: &[u8]) -> Option<Day>
+    ensures { result ≡ read_clock_day text.now }
+{
+    let day = read_day(text)?;
+    if day.days() < CLOCK_DAYS {
+        Some(day)
+    } else {
+        None
+    }
 }
 
 // The number that two digits write.
