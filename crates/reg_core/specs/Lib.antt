@@ -40,4 +40,5 @@ pub mod EarlyAllocations
 pub mod Agents
 pub mod Item
 pub mod ActKind
+pub mod DeedParts
 pub mod WireRefusal

@@ -11,6 +11,7 @@ pub mod change;
 pub mod command;
 pub mod counts;
 pub mod decide;
+mod deed_parts;
 pub mod entry;
 pub mod holding;
 pub mod item;
