@@ -2,8 +2,18 @@
 use Rattle.std.specs.Prelude.{ℕ, List, Option, Some, None}
 use Rattle.reg_blocks.specs.Block.{SizedPrefix}
 use Rattle.reg_core.specs.declared.advice.Verdict.{Verdict}
+use Rattle.reg_core.specs.declared.journal.Actor.{Actor}
 use Rattle.reg_core.specs.declared.journal.Deed.{Deed}
 use Rattle.reg_core.specs.declared.journal.Deed.TheVariants as did
+
+-- who made a change, and by which token
+abbrev pub actor_account : Option Actor → Option (List ℕ)
+actor_account None = None
+actor_account (Some by) = Some by.account
+
+abbrev pub actor_token : Option Actor → Option (List ℕ)
+actor_token None = None
+actor_token (Some by) = Some by.token
 
 -- the account of a capability, the applicant of a request, the holder of a block, or a principal
 abbrev pub deed_account : Deed → Option (List ℕ)

@@ -1,6 +1,7 @@
 //! The journal: what was done in an office, when, and by whom.
 ghost use Rattle.std.specs.Prelude.{◌≡◌};
 ghost use Rattle.reg_core.specs.ActKind.{act_kind_of, act_kind_word, read_act_kind};
+ghost use Rattle.reg_core.specs.DeedParts.{actor_account, actor_token};
 
 use crate::advice::Verdict;
 use crate::text::{Account, FirstDigits, Name, Ref};
@@ -21,6 +22,28 @@ pub struct Stamp {
     pub moment: Option<u64>,
     /// None where a job made the change without a token.
     pub by: Option<Actor>,
+}
+
+impl Stamp {
+    /// The account that made the change.
+    pub fn account(&self) -> Option<Account>
+        ensures { result ≡ actor_account self.now.by }
+    {
+        match &self.by {
+            Some(by) => Some(by.account),
+            None => None,
+        }
+    }
+
+    /// The first digits of the digest of the token by which it was made.
+    pub fn token(&self) -> Option<FirstDigits>
+        ensures { result ≡ actor_token self.now.by }
+    {
+        match &self.by {
+            Some(by) => Some(by.token),
+            None => None,
+        }
+    }
 }
 
 /// What was done. It has no text of an applicant, an expert or a clerk.

@@ -5,9 +5,8 @@ use Rattle.serde_json.specs.View.{items_of}
 use Rattle.reg_blocks.specs.Digits.{block_text, prefix_text}
 use Rattle.reg_core.specs.ActKind.{act_kind_of, act_kind_word}
 use Rattle.reg_core.specs.Advice.{verdict_word}
-use Rattle.reg_core.specs.DeedParts.{deed_account, deed_agent, deed_block, deed_digest, deed_expert, deed_pool, deed_reference, deed_registry, deed_value, deed_verdict}
+use Rattle.reg_core.specs.DeedParts.{actor_account, actor_token, deed_account, deed_agent, deed_block, deed_digest, deed_expert, deed_pool, deed_reference, deed_registry, deed_value, deed_verdict}
 use Rattle.reg_core.specs.declared.journal.Act.{Act}
-use Rattle.reg_core.specs.declared.journal.Actor.{Actor}
 use Rattle.reg_print.specs.Trees.Members.{Listed, object_with, text, text_if}
 
 -- a number, where there is one
@@ -20,7 +19,7 @@ about_members act =
     (codes "account", text_if (deed_account act.deed))
     ∷ (codes "agent", text_if (deed_agent act.deed))
     ∷ (codes "block", option_map (λ b. string (block_text b)) (deed_block act.deed))
-    ∷ (codes "by", text_if (option_map (λ (by : Actor). by.account) act.stamp.by))
+    ∷ (codes "by", text_if (actor_account act.stamp.by))
     ∷ (codes "digest", text_if (deed_digest act.deed))
     ∷ (codes "expert", text_if (deed_expert act.deed))
     ∷ []
@@ -30,7 +29,7 @@ what_members act =
     (codes "pool", option_map (λ p. string (prefix_text p)) (deed_pool act.deed))
     ∷ (codes "reference", text_if (deed_reference act.deed))
     ∷ (codes "registry", text_if (deed_registry act.deed))
-    ∷ (codes "token", text_if (option_map (λ (by : Actor). by.token) act.stamp.by))
+    ∷ (codes "token", text_if (actor_token act.stamp.by))
     ∷ (codes "value", number_if (deed_value act.deed))
     ∷ (codes "verdict", option_map (λ v. string (verdict_word v)) (deed_verdict act.deed))
     ∷ []

@@ -35,11 +35,10 @@ fn put_about(out: &mut Printer, act: &Act) -> Result<(), AllocError>
     ensures { OnOk result
         (PrintedMembers out.old.json out.new.json 0 (about_members act.now)) }
 {
-    let by = act.stamp.by.map(|by| by.account);
     out.put_if("account", &act.deed.account())?;
     out.put_if("agent", &act.deed.agent())?;
     put_block_if(out, act.deed.block())?;
-    out.put_if("by", &by)?;
+    out.put_if("by", &act.stamp.account())?;
     out.put_if("digest", &act.deed.digest())?;
     out.put_if("expert", &act.deed.expert())?;
     Ok(())
@@ -50,12 +49,11 @@ fn put_what(out: &mut Printer, act: &Act) -> Result<(), AllocError>
     ensures { OnOk result
         (PrintedMembers out.old.json out.new.json 0 (what_members act.now)) }
 {
-    let token = act.stamp.by.map(|by| by.token);
     put_pool_if(out, act.deed.pool())?;
     out.put_if("reference", &act.deed.reference())?;
     out.put_if("registry", &act.deed.registry())?;
-    out.put_if("token", &token)?;
-    put_number_if(out, "value", act.deed.value().map(u64::from))?;
+    out.put_if("token", &act.stamp.token())?;
+    put_value_if(out, act.deed.value())?;
     put_verdict_if(out, act.deed.verdict())?;
     Ok(())
 }
@@ -69,6 +67,16 @@ fn put_block_if(out: &mut Printer, block: Option<Block>) -> Result<(), AllocErro
             let text = block.text(out.alloc)?;
             out.put_text("block", text.as_str())
         }
+        None => Ok(()),
+    }
+}
+
+fn put_value_if(out: &mut Printer, value: Option<u32>) -> Result<(), AllocError>
+    ensures { OnOk result (PrintedMembers out.old.json out.new.json 0
+        ((codes "value", option_map (λ v. number (unsigned v)) value) ∷ [])) }
+{
+    match value {
+        Some(value) => out.put_number("value", u64::from(value)),
         None => Ok(()),
     }
 }
