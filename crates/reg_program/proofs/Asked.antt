@@ -9,9 +9,10 @@ use Rattle.reg_core.specs.File.{file}
 use Rattle.reg_core.specs.Laws.{is_refused}
 use Rattle.reg_core.specs.Page.{page}
 use Rattle.reg_core.specs.Request.{request_rows}
-use Rattle.reg_core.specs.Step.{acts_as_clerk, answer_to, clerk_answer, clerk_answer_to, Stepped, stepped}
+use Rattle.reg_core.specs.Step.{acts_as_clerk, answer_to, clerk_answer, clerk_answer_to, stamp_in, Stepped, stepped}
 use Rattle.reg_core.specs.View.{Personal, Published, requests_by, view_of}
-use Rattle.reg_core.specs.World.{World, applied_if}
+use Rattle.reg_core.specs.Journal.{recorded_if}
+use Rattle.reg_core.specs.World.{World}
 use Rattle.reg_core.specs.declared.capability.Cap.{Cap}
 use Rattle.reg_core.specs.declared.capability.Kind.{Kind}
 use Rattle.reg_core.specs.declared.capability.Kind.TheVariants as kind
@@ -25,6 +26,7 @@ use Rattle.reg_core.specs.declared.command.ExpertCommand.{ExpertCommand}
 use Rattle.reg_core.specs.declared.command.ExpertCommand.TheVariants.{Queue, Advise}
 use Rattle.reg_core.specs.declared.command.ClerkCommand.{ClerkCommand}
 use Rattle.reg_core.specs.declared.command.ClerkCommand.TheVariants.{AllRequests, OneRequest, PendingRequests, AllCapabilities, CountRows}
+use Rattle.reg_core.specs.declared.journal.Stamp.{Stamp}
 use Rattle.reg_core.specs.declared.told.Told.TheVariants as tells
 use Rattle.reg_core.specs.declared.refusal.Refusal.{Refusal}
 use Rattle.reg_core.specs.declared.refusal.Refusal.TheVariants as no
@@ -41,23 +43,23 @@ use Rattle.reg_program.specs.declared.faults.Undone.TheVariants.{Fault, Explaine
 -- ---- Refusals
 
 -- a refusal changes nothing
-refusal_stays : (w : World) (a : Answer) → is_refused (reply_of a) ≡ true
-    → applied_if w (change_of a) ≡ w
-refusal_stays w (Ok outcome) h = cc
-refusal_stays w (Err refusal) h = refl
+refusal_stays : (by : Stamp) (w : World) (a : Answer) → is_refused (reply_of a) ≡ true
+    → recorded_if by w (change_of a) ≡ w
+refusal_stays by w (Ok outcome) h = cc
+refusal_stays by w (Err refusal) h = refl
 
 -- where nothing is printed of the reply to a step
-pub unprinted : (old new : World) (a : Answer) (told : Reply) (why : Undone)
-    → told ≡ reply_of a → new ≡ applied_if old (change_of a) → IsRefusedBy told why
-    → IsUnprinted (stepped old a) old new why
-unprinted old new a told (Refused line) replied changed h =
+pub unprinted : (by : Stamp) (old new : World) (a : Answer) (told : Reply) (why : Undone)
+    → told ≡ reply_of a → new ≡ recorded_if by old (change_of a) → IsRefusedBy told why
+    → IsUnprinted (stepped by old a) old new why
+unprinted by old new a told (Refused line) replied changed h =
     let refused = sym (ap is_refused replied) ∙ h.0 in (
       refused,
       h.1 ∙ ap (λ r. answer_line (answer.Reply r)) replied,
-      changed ∙ refusal_stays old a refused,
+      changed ∙ refusal_stays by old a refused,
     )
-unprinted old new a told (Fault failure) replied changed h = inr changed
-unprinted old new a told (Explained failure why) replied changed h = h
+unprinted by old new a told (Fault failure) replied changed h = inr changed
+unprinted by old new a told (Explained failure why) replied changed h = h
 
 -- a refusal, or want of memory, is no fault of the store
 pub refused_may : (fails : Bool) (told : Reply) (why : Undone) → IsRefusedBy told why
@@ -201,4 +203,5 @@ answer_stays w caller moment (Clerk command) h = clerk_to_stays w caller moment 
 pub looks : (w : World) (token : Option (List ℕ)) (moment : ℕ) (command : Command)
     → only_looks command ≡ true → (step_by w token moment command).world ≡ w
 looks w token moment command h =
-    ap (applied_if w) (answer_stays w (caller_of token) moment command h)
+    ap (recorded_if (stamp_in w (caller_of token) moment) w)
+    (answer_stays w (caller_of token) moment command h)
