@@ -1,5 +1,6 @@
 //! What an act is about, part by part.
 ghost use Rattle.std.specs.Prelude.{◌≡◌};
+ghost use Rattle.reg_core.specs.Journal.{deed_about};
 ghost use Rattle.reg_core.specs.DeedParts.{deed_account, deed_agent, deed_block, deed_digest, deed_expert, deed_pool, deed_reference, deed_registry, deed_value, deed_verdict};
 
 use crate::advice::Verdict;
@@ -40,6 +41,22 @@ impl Deed {
             | Deed::Advise(_, reference, _, _)
             | Deed::GiveValue(_, reference, _, _)
             | Deed::GiveBlock(_, reference, _) => Some(*reference),
+            _ => None,
+        }
+    }
+
+    /// The name of the request that it is about: the applicant's account, and its reference.
+    pub fn request(&self) -> Option<(Account, Ref)>
+        ensures { result ≡ deed_about self.now }
+    {
+        match self {
+            Deed::Submit(account, reference)
+            | Deed::Withdraw(account, reference)
+            | Deed::Decline(account, reference)
+            | Deed::Assign(account, reference, _)
+            | Deed::Advise(account, reference, _, _)
+            | Deed::GiveValue(account, reference, _, _)
+            | Deed::GiveBlock(account, reference, _) => Some((*account, *reference)),
             _ => None,
         }
     }

@@ -1,23 +1,27 @@
 -- One step of an office by a job.
 use Rattle.std.proofs.Common.{◌≡◌, ℕ, List, Bool, true, false, Option, Some, None, Result, Ok, Err, refl, sym, ap, ◌∙◌, subst, inr, if◌then◌else◌}
+use Rattle.std.specs.Prelude.{option_map}
 use Rattle.std.specs.FinMap.{get}
 use Rattle.std.specs.Io.KnownBytes.{Appends}
 use Rattle.reg_early.specs.Moment.{is_in_clock, utc_day}
 use Rattle.reg_core.specs.Allowance.{◌>>=◌, or_refusal}
-use Rattle.reg_core.specs.Answer.{Answer, admitted, answer as answered, answer_at, as_kind, change_of, expert_answer, own_answer, own_row, public_answer, reply_of, unchanged}
+use Rattle.reg_core.specs.Answer.{Answer, admitted, answer as answered, answer_at, as_kind, change_of, expert_answer, in_force, own_answer, own_row, public_answer, reply_of, times_answer, token_answer, unchanged}
 use Rattle.reg_core.specs.File.{file}
 use Rattle.reg_core.specs.Laws.{is_refused}
 use Rattle.reg_core.specs.Page.{page}
 use Rattle.reg_core.specs.Request.{request_rows}
 use Rattle.reg_core.specs.Step.{acts_as_clerk, answer_to, clerk_answer, clerk_answer_to, stamp_in, Stepped, stepped}
-use Rattle.reg_core.specs.View.{Personal, Published, requests_by, view_of}
-use Rattle.reg_core.specs.Journal.{recorded_if}
+use Rattle.reg_core.specs.View.{OwnTimes, Personal, Published, requests_by, view_of}
+use Rattle.reg_core.specs.Journal.{acts_where, is_about, recorded_if}
+use Rattle.reg_core.specs.Times.{times_of_requests_by, times_rows}
 use Rattle.reg_core.specs.World.{World}
 use Rattle.reg_core.specs.declared.capability.Cap.{Cap}
 use Rattle.reg_core.specs.declared.capability.Kind.{Kind}
 use Rattle.reg_core.specs.declared.capability.Kind.TheVariants as kind
 use Rattle.reg_core.specs.declared.command.Command.{Command}
-use Rattle.reg_core.specs.declared.command.Command.TheVariants.{Public, Applicant, Expert, Clerk}
+use Rattle.reg_core.specs.declared.command.Command.TheVariants.{Public, Token, Applicant, Times, Expert, Clerk}
+use Rattle.reg_core.specs.declared.command.TimesCommand.{TimesCommand}
+use Rattle.reg_core.specs.declared.command.TimesCommand.TheVariants as times
 use Rattle.reg_core.specs.declared.command.PublicCommand.{PublicCommand}
 use Rattle.reg_core.specs.declared.command.PublicCommand.TheVariants.{Registries, Registry, RegistryCsv, PoolList, BlocksCsv}
 use Rattle.reg_core.specs.declared.command.ApplicantCommand.{ApplicantCommand}
@@ -25,7 +29,7 @@ use Rattle.reg_core.specs.declared.command.ApplicantCommand.TheVariants.{Own, Ow
 use Rattle.reg_core.specs.declared.command.ExpertCommand.{ExpertCommand}
 use Rattle.reg_core.specs.declared.command.ExpertCommand.TheVariants.{Queue, Advise}
 use Rattle.reg_core.specs.declared.command.ClerkCommand.{ClerkCommand}
-use Rattle.reg_core.specs.declared.command.ClerkCommand.TheVariants.{AllRequests, OneRequest, PendingRequests, AllCapabilities, CountRows}
+use Rattle.reg_core.specs.declared.command.ClerkCommand.TheVariants.{AllRequests, OneRequest, PendingRequests, AllCapabilities, CountRows, ActsOn, ActsBy, ActsAbout}
 use Rattle.reg_core.specs.declared.journal.Stamp.{Stamp}
 use Rattle.reg_core.specs.declared.told.Told.TheVariants as tells
 use Rattle.reg_core.specs.declared.refusal.Refusal.{Refusal}
@@ -139,6 +143,21 @@ applicant_stays p account my (PrincipalRows principal) h =
     (λ link. refl)
 applicant_stays p account my _ h = cc
 
+token_stays : (me : Option (Cap × Personal)) (moment : ℕ)
+    → change_of (token_answer me moment) ≡ None
+token_stays me moment =
+    after_part (in_force (option_map (λ (of : Cap × Personal). of.0) me) moment)
+    (λ cap. unchanged (tells.InUse cap)) (λ cap. refl)
+
+times_stay : (account : List ℕ) (my : Personal) (seen : Option OwnTimes) (command : TimesCommand)
+    → change_of (times_answer account my seen command) ≡ None
+times_stay account my None command = refl
+times_stay account my (Some seen) times.Own = refl
+times_stay account my (Some seen) (times.Principal principal) =
+    after_found no.Principal (get my.principals (principal, account))
+    (λ link. unchanged (tells.Times (times_rows (times_of_requests_by principal seen.principals))))
+    (λ link. refl)
+
 expert_stays : (account : List ℕ) (my : Personal) (command : ExpertCommand)
     → expert_looks command ≡ true → change_of (expert_answer account my command) ≡ None
 expert_stays account my Queue h = refl
@@ -154,6 +173,12 @@ clerk_stays w in_use moment today (OneRequest account reference) h =
 clerk_stays w in_use moment today PendingRequests h = refl
 clerk_stays w in_use moment today AllCapabilities h = refl
 clerk_stays w in_use moment today CountRows h = refl
+clerk_stays w in_use moment today (ActsOn day) h = refl
+clerk_stays w in_use moment today (ActsBy account) h = refl
+clerk_stays w in_use moment today (ActsAbout account reference) h =
+    after_found no.Request (get w.requests (account, reference))
+    (λ case. unchanged (tells.ActsAbout (acts_where (is_about (account, reference)) w)))
+    (λ case. refl)
 clerk_stays w in_use moment today _ h = cc
 
 -- while the office is open or not
@@ -187,11 +212,18 @@ answer_stays : (w : World) (caller : Option (List ℕ)) (moment : ℕ) (command 
 answer_stays w caller moment (Public command) h =
     seen_stays w caller moment (Public command)
     (public_stays (view_of w caller).published (utc_day moment) command)
+answer_stays w caller moment Token h =
+    seen_stays w caller moment Token (token_stays (view_of w caller).me moment)
 answer_stays w caller moment (Applicant command) h =
     let v = view_of w caller in
     seen_stays w caller moment (Applicant command)
     (for_kind kind.Applicant v.me moment (λ account my. own_answer v.published account my command)
     (λ account my. applicant_stays v.published account my command h))
+answer_stays w caller moment (Times command) h =
+    let v = view_of w caller in
+    seen_stays w caller moment (Times command)
+    (for_kind kind.Applicant v.me moment (λ account my. times_answer account my v.times command)
+    (λ account my. times_stay account my v.times command))
 answer_stays w caller moment (Expert command) h =
     let v = view_of w caller in
     seen_stays w caller moment (Expert command)

@@ -9,6 +9,7 @@ ghost use Rattle.reg_store.specs.Lists.Links.{links_held};
 ghost use Rattle.reg_store.specs.Lists.Registrations.{entries_held};
 ghost use Rattle.reg_store.specs.Lists.Reviews.{world_of};
 
+mod acts;
 mod blocks;
 mod caps;
 mod entries;
@@ -24,6 +25,7 @@ mod requests;
 mod reviews;
 
 use crate::maps::{row_at, set_row, unset_row};
+use acts::{Choice, chosen};
 use blocks::Blocks;
 use caps::{Caps, cap_in, caps_in, take_caps};
 use entries::{entries_in, entry_in};
@@ -42,6 +44,7 @@ use reg_core::queue::QueueRow;
 use reg_core::request::Request;
 use reg_core::rows::Rows;
 use reg_core::text::{Account, Digest, Name, Ref};
+use reg_early::day::Day;
 use reg_keeper::keeper::{Fault, Keeper};
 use reg_ranges::policy::Policy;
 use reg_ranges::table::RangeTable;
@@ -66,7 +69,7 @@ use std::collections::BTreeMap;
 /// its entries, an account's own requests, blocks, agents and principals, a request's file and an
 /// expert's queue O(log n + rows); the names of all registries, all blocks, all requests, all
 /// capabilities and all agents O(rows), and the pool O(rows log rows); the files of the requests
-/// that wait O(requests + rows), and O(log n) more for each of these files.
+/// that wait O(requests + rows), and O(log n) more for each of these files; a list of acts O(acts).
 pub struct ListKeeper {
     alloc: Global,
     caps: Caps,
@@ -290,6 +293,19 @@ impl Keeper for ListKeeper {
 
     fn links(&mut self) -> Result<Rows<LinkRow>, Fault> {
         Ok(self.links.all(self.alloc)?)
+    }
+
+    fn acts_on(&mut self, day: Day) -> Result<Rows<Act>, Fault> {
+        Ok(chosen(self.alloc, self.journal.as_slice(), Choice::On(day))?)
+    }
+
+    fn acts_by(&mut self, account: &Account) -> Result<Rows<Act>, Fault> {
+        Ok(chosen(self.alloc, self.journal.as_slice(), Choice::By(account))?)
+    }
+
+    fn acts_about(&mut self, account: &Account, reference: &Ref) -> Result<Rows<Act>, Fault> {
+        let choice = Choice::About(account, reference);
+        Ok(chosen(self.alloc, self.journal.as_slice(), choice)?)
     }
 
     fn apply(&mut self, change: Change) -> Result<(), Fault> {
