@@ -1,10 +1,10 @@
 -- What the journal leaves of a world as it is.
-use Rattle.std.proofs.Common.{◌≡◌, ◌+◌, ℕ, List, [], ◌∷◌, map, length, refl, ap, arith}
-use Rattle.std.specs.Prelude.{Option, Some, None}
+use Rattle.std.proofs.Common.{◌≡◌, ◌∙◌, ◌+◌, ◌++◌, ℕ, Bool, true, false, cond, List, [], ◌∷◌, map, filter, length, refl, sym, ap, arith, append-nil, append_assoc}
+use Rattle.std.specs.Prelude.{Option, Some, None, if◌then◌else◌}
 use Rattle.std.specs.FinMap.{FinMap, get}
 use Rattle.reg_maps.specs.Maps.{text_cmp}
 use Rattle.reg_blocks.specs.Block.{block_cmp}
-use Rattle.reg_core.specs.Journal.{act_by, caps_at, closed, deed_about, deeds_of, marked, recorded_if, row_went, went, with_acts}
+use Rattle.reg_core.specs.Journal.{act_by, acts_in_order, caps_at, closed, deed_about, deeds_of, marked, recorded_if, row_went, went, with_acts}
 use Rattle.reg_core.specs.Step.{carried}
 use Rattle.reg_core.specs.World.{World, RequestName, applied, applied_if}
 use Rattle.reg_core.specs.declared.capability.Cap.{Cap}
@@ -47,6 +47,28 @@ stays_by_any s t w (Some change) h = by (deeds_of w.caps w.blocks change) h
     by (deed ∷ deeds) h =
         let same = ap (λ (v : World). length v.journal) h in
         absurd (omega (arith, same, longer (map (act_by s) (deed ∷ deeds)) w.journal))
+
+-- ---- Lists of acts
+
+-- the acts that come are listed behind those that were there
+pub in_order-with : (test : Act → Bool) (acts journal : List Act)
+    → acts_in_order test (with_acts acts journal)
+    ≡ acts_in_order test journal ++ filter test acts
+in_order-with test [] journal = sym (append-nil (acts_in_order test journal))
+in_order-with test (act ∷ acts) journal =
+    in_order-with test acts (act ∷ journal)
+    ∙ append_assoc (acts_in_order test journal) (if test act then act ∷ [] else []) (filter test acts)
+    ∙ ap (λ rest. acts_in_order test journal ++ rest) (by (test act))
+  where
+    by : (b : Bool) → (if b then act ∷ [] else []) ++ filter test acts
+        ≡ cond b (act ∷ filter test acts) (filter test acts)
+    by true = refl
+    by false = refl
+
+-- so those of a journal that is kept in order are those of it that pass
+pub in_order-is : (test : Act → Bool) (acts : List Act)
+    → acts_in_order test (with_acts acts []) ≡ filter test acts
+in_order-is test acts = in_order-with test acts []
 
 -- ---- What was done by a change
 
