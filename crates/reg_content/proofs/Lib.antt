@@ -7,6 +7,7 @@ pub mod MappedRows
 pub mod MarkedRows
 pub mod MinutedRows
 pub mod AskedRows
+pub mod AskedActs
 pub mod BlockRows
 pub mod BlockRowsListed
 pub mod BlockRowsFound

@@ -173,3 +173,18 @@ principals_of_agent = record { names = column_names agents_table; is = λ _ _. r
 pub all_acts : SelectsFrom 14 texts.SELECT_JOURNAL.now 28 [] (columns_of 13) (ordered_by (1 ∷ []))
 unfolding understood everything
 all_acts = record { names = column_names journal_table; is = λ _ _. refl; plain = (refl, refl); unlisted = λ _ _. refl }
+
+pub acts_of_day : SelectsFrom 14 texts.SELECT_ACTS_ON.now 28 (equals ((2, 0) ∷ []))
+    (columns_of 13) (ordered_by (1 ∷ []))
+unfolding understood everything
+acts_of_day = record { names = column_names journal_table; is = λ _ _. refl; plain = (refl, refl); unlisted = λ _ _. refl }
+
+pub acts_of_actor : SelectsFrom 14 texts.SELECT_ACTS_BY.now 28 (equals ((4, 0) ∷ []))
+    (columns_of 13) (ordered_by (1 ∷ []))
+unfolding understood everything
+acts_of_actor = record { names = column_names journal_table; is = λ _ _. refl; plain = (refl, refl); unlisted = λ _ _. refl }
+
+pub acts_of_request : SelectsFrom 14 texts.SELECT_ACTS_ABOUT.now 28 (equals ((7, 0) ∷ (8, 1) ∷ []))
+    (columns_of 13) (ordered_by (1 ∷ []))
+unfolding understood everything
+acts_of_request = record { names = column_names journal_table; is = λ _ _. refl; plain = (refl, refl); unlisted = λ _ _. refl }

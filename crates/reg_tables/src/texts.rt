@@ -215,6 +215,21 @@ pub const SELECT_JOURNAL: &str =
     "SELECT number, day, second, actor, token, kind, account, reference, other, verdict, registry, \
      value, size FROM journal ORDER BY number";
 
+/// The acts of a day, by their numbers.
+pub const SELECT_ACTS_ON: &str =
+    "SELECT number, day, second, actor, token, kind, account, reference, other, verdict, registry, \
+     value, size FROM journal WHERE day = ?1 ORDER BY number";
+
+/// The acts that an account made, by their numbers.
+pub const SELECT_ACTS_BY: &str =
+    "SELECT number, day, second, actor, token, kind, account, reference, other, verdict, registry, \
+     value, size FROM journal WHERE actor = ?1 ORDER BY number";
+
+/// The acts about a request, by their numbers.
+pub const SELECT_ACTS_ABOUT: &str =
+    "SELECT number, day, second, actor, token, kind, account, reference, other, verdict, registry, \
+     value, size FROM journal WHERE account = ?1 AND reference = ?2 ORDER BY number";
+
 /// Adds the row that says the version.
 pub const INSERT_VERSION: &str = "INSERT INTO office (version) VALUES (?1)";
 
