@@ -8,6 +8,7 @@ pub mod MarkedRows
 pub mod MinutedRows
 pub mod AskedRows
 pub mod AskedActs
+pub mod ActsListed
 pub mod BlockRows
 pub mod BlockRowsListed
 pub mod BlockRowsFound

@@ -17,6 +17,7 @@ use crate::vacancies::vacancies_of;
 use reg_blocks::block::Block;
 use reg_blocks::pool::Pool;
 use reg_blocks::size::Size;
+use reg_content::acts::{acts_about, acts_by, acts_on};
 use reg_content::blocks::{blocks, holding, holdings};
 use reg_content::caps::cap;
 use reg_content::change;
@@ -39,6 +40,7 @@ use reg_core::queue::QueueRow;
 use reg_core::request::Request;
 use reg_core::rows::Rows;
 use reg_core::text::{Account, Digest, Name, Ref};
+use reg_early::day::Day;
 use reg_keeper::keeper::{Fault, Keeper};
 use reg_opening::beside::Beside;
 use reg_ranges::policy::Policy;
@@ -307,6 +309,18 @@ impl<S: Reports + Loads> Keeper for SqlKeeper<S> {
 
     fn links(&mut self) -> Result<Rows<LinkRow>, Fault> {
         links(self.tables.alloc, &mut self.tables.conn)
+    }
+
+    fn acts_on(&mut self, day: Day) -> Result<Rows<Act>, Fault> {
+        acts_on(self.tables.alloc, &mut self.tables.conn, day)
+    }
+
+    fn acts_by(&mut self, account: &Account) -> Result<Rows<Act>, Fault> {
+        acts_by(self.tables.alloc, &mut self.tables.conn, account)
+    }
+
+    fn acts_about(&mut self, account: &Account, reference: &Ref) -> Result<Rows<Act>, Fault> {
+        acts_about(self.tables.alloc, &mut self.tables.conn, account, reference)
     }
 
     fn apply(&mut self, change: Change) -> Result<(), Fault> {

@@ -37,13 +37,12 @@ impl Choice<'_> {
 pub fn chosen(alloc: Global, acts: &[Act], choice: Choice<'_>) -> Result<Rows<Act>, AllocError>
     ensures { IfOk result (λ rows. rows ≡ filter (chosen_by choice) acts.now) }
 {
-    let mut rows = Vec::new(alloc);
-    'acts: for act in acts {
-        if choice.has(act) {
-            rows.push(*act)?;
-        }
-    }
-    Ok(Rows::from_vec(rows))
+    Ok(Rows::from_vec(
+        acts.iter()
+            .copied()
+            .filter(|act| choice.has(act))
+            .collect(alloc)?,
+    ))
 }
 
 fn is_on(act: &Act, day: Day) -> bool
