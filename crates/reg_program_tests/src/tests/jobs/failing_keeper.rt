@@ -15,6 +15,7 @@ use reg_core::queue::QueueRow;
 use reg_core::request::Request;
 use reg_core::rows::Rows;
 use reg_core::text::{Account, Digest, Name, Ref};
+use reg_early::day::Day;
 use reg_keeper::keeper::{Fault, Keeper};
 use reg_ranges::policy::Policy;
 use reg_ranges::table::RangeTable;
@@ -160,6 +161,18 @@ impl<K: Keeper> Keeper for FailingKeeper<K> {
     }
 
     fn links(&mut self) -> Result<Rows<LinkRow>, Fault> {
+        Err(Fault::Store)
+    }
+
+    fn acts_on(&mut self, _day: Day) -> Result<Rows<Act>, Fault> {
+        Err(Fault::Store)
+    }
+
+    fn acts_by(&mut self, _account: &Account) -> Result<Rows<Act>, Fault> {
+        Err(Fault::Store)
+    }
+
+    fn acts_about(&mut self, _account: &Account, _reference: &Ref) -> Result<Rows<Act>, Fault> {
         Err(Fault::Store)
     }
 
