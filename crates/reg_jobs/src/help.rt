@@ -148,6 +148,16 @@ of FILE. An earlier copy of that name is replaced. Example:
 prints
   copied version 4, 401 requests";
 
+pub const JOURNAL_ABOUT: &str =
+    "Prints the journal of the office in FILE as CSV, also while it is served: who did what, and when";
+
+pub const JOURNAL_EXAMPLE: &str =
+    "DIGEST is a digest that you noted earlier, or at least its first 16 digits. If no record
+has it, nothing is printed, and something before it was changed. Example:
+  reg_cli journal office.db --digest 3edb5d9d72eb0f34
+prints first
+  Number,Moment,By,Token,Kind,Account,Reference,Registry,Value,Block,Other,Digest";
+
 pub const TOKENS_ABOUT: &str =
     "Prints all tokens of the office at SOURCE as CSV, each by the first 12 digits of its digest";
 

@@ -68,6 +68,13 @@ pub enum Job {
         /// The path of the folder in which the copy is put.
         folder: String,
     },
+    /// Prints the journal of the office in a file.
+    Journal {
+        /// The path of the office's file.
+        file: String,
+        /// The first digits of a digest that the journal has to have.
+        digest: Option<String>,
+    },
     /// Prints the capabilities of the office in a file, or of one that is served.
     Tokens {
         /// The path of the office's file, or the address at which it is served.
