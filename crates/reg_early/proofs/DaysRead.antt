@@ -2,7 +2,7 @@
 use Rattle.std.proofs.Common.{◌≡◌, ℕ, ◌+◌, ◌*◌, Bool, true, false, List, Option, Some, None, refl, subst}
 use Rattle.std.specs.Prelude.{◌==◌, ◌&&◌, length, nat_lt, slice_index, if◌then◌else◌}
 use Rattle.reg_early.specs.Calendar.{IsDay, civil_date, day_number}
-use Rattle.reg_early.specs.DayReading.{◌>>=◌, day_at, day_within, is_date, read_clock_day, read_day}
+use Rattle.reg_early.specs.DayReading.{◌>>=◌, day_at, day_within, is_date, pair, read_clock_day, read_day}
 use Rattle.reg_early.proofs.Dates.{tested}
 use Rattle.reg_early.proofs.DaysAreDates.{placed}
 
@@ -25,7 +25,10 @@ day_at-is year month of day e = by (is_date (civil_date year month of)) refl e
 
 day_within-is : (text : List ℕ) (day : ℕ) → day_within text ≡ Some day → IsDay day
 day_within-is text =
-    bound _ _ (λ century. bound _ _ (λ year. bound _ _ (λ month. bound _ _ (λ of.
+    bound (pair (slice_index text 0) (slice_index text 1)) _ (λ century.
+    bound (pair (slice_index text 2) (slice_index text 3)) _ (λ year.
+    bound (pair (slice_index text 5) (slice_index text 6)) _ (λ month.
+    bound (pair (slice_index text 8) (slice_index text 9)) _ (λ of.
     day_at-is (100 * century + year) month of))))
 
 pub read_day-is : (text : List ℕ) (day : ℕ) → read_day text ≡ Some day → IsDay day
