@@ -14,7 +14,7 @@ use Rattle.reg_core.specs.Queue.{queue_rows}
 use Rattle.reg_core.specs.Request.{case_of, is_pending, request_rows, word_of}
 use Rattle.reg_core.specs.Times.{times_of, times_row}
 use Rattle.reg_core.specs.View.{published, requests_of, holdings_of, queue_of}
-use Rattle.reg_core.specs.World.{World, name_cmp}
+use Rattle.reg_core.specs.World.{World, RequestName, name_cmp}
 use Rattle.reg_core.specs.declared.capability.Cap.{Cap}
 use Rattle.reg_core.specs.declared.capability.CapRow.{CapRow}
 use Rattle.reg_core.specs.declared.entry.PageEntry.{PageEntry}
@@ -154,7 +154,7 @@ pub record OwnList (w : World) (account : List ℕ) (rows : List Request) : Type
 -- the row says of a request of the account when it came and when it was decided
 abbrev pub HasTimesOf : World → List ℕ → RequestTimes → Type 0
 HasTimesOf w account row =
-    let name = (row.account, row.reference) in
+    let name : RequestName = (row.account, row.reference) in
     (row.account ≡ account) × (case : Case) × (get w.requests name ≡ Some case)
     × (row ≡ times_row name (times_of w.journal name case))
 
