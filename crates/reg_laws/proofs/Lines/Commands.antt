@@ -11,7 +11,8 @@ use Rattle.reg_core.proofs.Common.{decline_rule, assign_rule, new_advice_rule, a
 use Rattle.reg_core.proofs.Common.{change_to_give, give_rule, approve_rule, define_rule, pool_rule}
 use Rattle.reg_core.proofs.Common.{grant_rule, revoke_rule, clerk_answer, published, personal, queued_to}
 use Rattle.reg_core.proofs.Common.{as_queued, WellKept, World, RequestName, Place}
-use Rattle.reg_core.proofs.Common.{own_times, times_answer, TimesCommand}
+use Rattle.reg_core.proofs.Common.{own_times, times_answer}
+use Rattle.reg_core.specs.declared.command.TimesCommand.{TimesCommand}
 use Rattle.reg_laws.proofs.Types.{Advice, Ask, Cap}
 use Rattle.reg_laws.proofs.Types.{ApplicantCommand, ExpertCommand, ClerkCommand, PublicCommand}
 use Rattle.reg_laws.proofs.Types.{Decision, Holder, Refusal, Case, State, Pending, Approved, Declined}

@@ -7,7 +7,8 @@ use Rattle.reg_core.proofs.Common.{admitted, as_kind, own_answer, expert_answer,
 use Rattle.reg_core.proofs.Common.{Event, is_clerk, acts_as_clerk, clerk_answer, answer_to, about}
 use Rattle.reg_core.proofs.Common.{is_outside, speaks_for, is_hidden, Personal, published, personal}
 use Rattle.reg_core.proofs.Common.{cap_at, with_personal, requests_of, queue_of, principals_of, World}
-use Rattle.reg_core.proofs.Common.{RequestName, acts_in_order, is_about, is_by, is_on, own_times, times_answer, token_answer, TimesCommand}
+use Rattle.reg_core.proofs.Common.{RequestName, acts_in_order, is_about, is_by, is_on, own_times, times_answer, token_answer}
+use Rattle.reg_core.specs.declared.command.TimesCommand.{TimesCommand}
 use Rattle.reg_laws.proofs.Types.{Cap, Kind, Command, ApplicantCommand, ExpertCommand}
 use Rattle.reg_core.proofs.Common.{same_kind-is}
 use Rattle.reg_laws.proofs.Types.{ClerkCommand, Refusal, Accepted}
@@ -276,7 +277,7 @@ module _
       times_same existing given =
           same_if (is_in_clock moment) _ _ _ _ (λ now. by existing) (λ past. same_itself (Err no.Clock))
         where
-          abbrev answered : World → Cap → Answer
+          answered : World → Cap → Answer
           answered x cap =
               as_kind kind.Applicant (Some (cap, personal cap.account x)) moment
               (λ of my. times_answer of my (Some (own_times cap.account x)) given)
