@@ -4,7 +4,6 @@ ghost use Rattle.reg_print.specs.Trees.File.{file_tree};
 use crate::bodies::request::put_standing;
 use crate::printing::{Itself, Print, Printer};
 use reg_core::case_file::CaseFile;
-use std::alloc::AllocError;
 
 /// A request as the desk sees it, also with its experts, and their advice.
 impl Print<Itself> for CaseFile {
@@ -12,14 +11,13 @@ impl Print<Itself> for CaseFile {
 
     ghost levels = { 3 };
 
-    fn print(&self, out: &mut Printer) -> Result<(), AllocError> {
-        out.open_object()?;
-        out.put("account", &self.request.account)?;
-        out.put("advice", &self.advice)?;
-        out.put("ask", &self.request.ask)?;
-        out.put("experts", &self.experts)?;
-        put_standing(out, &self.request)?;
-        out.close_object()?;
-        Ok(())
+    fn print(&self, out: &mut Printer) {
+        out.open_object();
+        out.put("account", &self.request.account);
+        out.put("advice", &self.advice);
+        out.put("ask", &self.request.ask);
+        out.put("experts", &self.experts);
+        put_standing(out, &self.request);
+        out.close_object();
     }
 }
