@@ -66,6 +66,16 @@ def looks(office, clerk):
     judge(tools == ['All tokens'], f'the searches are below {tools}')
 
 
+def skipped(clerk):
+    """The first key leads to the content of the same section."""
+    from selenium.webdriver.common.keys import Keys
+    clerk.go('Tokens')
+    clerk.script('document.querySelector(".skip").focus()')
+    clerk.press(Keys.ENTER)
+    clerk.until(lambda: clerk.script('return document.activeElement.id') == 'main', 'the focus on the content')
+    judge(clerk.script('return [location.hash, document.querySelector("h2").textContent]') == ['#tokens', 'Tokens'], 'the way to the content leads to another section')
+
+
 def sessions(person):
     """Nothing is shown after signing out, and a second tab has a session of its own."""
     person.sign_in(token_of('acme'))
@@ -126,6 +136,7 @@ def everybody(office, clerk, person):
     person.sign_out()
     by_name_and_role(clerk)
     looks(office, clerk)
+    skipped(clerk)
     [held] = office.ask('GET', '/holdings', token_of('acme'))
     with within(clerk, 1, 'who holds a block'):
         clerk.go('All requests')
