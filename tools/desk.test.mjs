@@ -338,3 +338,46 @@ test('errors belong to fields', () => {
   assert.equal(errors.fieldOf('storage'), undefined);
   assert.equal(errors.fieldOf('field', 'extra'), undefined);
 });
+
+// What the page tells of a request: an answer is a status, a text and perhaps a type, or null where the connection breaks. Time runs a hundred times faster.
+async function asked(answers, method = 'PUT', meanwhile = () => {}) {
+  const office = await load('office.js'), { setTimeout, fetch } = globalThis, sent = [], said = [];
+  office.listen({ tell: text => said.push(text), end: () => said.push('end') });
+  office.carry('token-of-somebody');
+  globalThis.setTimeout = (act, time) => setTimeout(act, time / 100);
+  globalThis.fetch = async (path, { method, headers, body }) => {
+    sent.push(`${method} ${path} ${headers.Authorization} ${body}`);
+    meanwhile(office);
+    const [status, text, type = 'application/json'] = answers[Math.min(sent.length, answers.length) - 1] ?? [];
+    if (!status) throw new TypeError('The connection broke');
+    return { status, text: async () => text, headers: new Map([['Content-Type', type]]) };
+  };
+  try {
+    const told = await office.ask(method, '/requests/r', method === 'PUT' ? { a: 1 } : undefined).catch(error => `${error.constructor.name} ${error.message}`);
+    return { told, sent: sent.length, same: new Set(sent).size === 1, said };
+  } finally {
+    Object.assign(globalThis, { setTimeout, fetch });
+  }
+}
+
+test('a request without an answer of the office is sent again as it was, and the page says what it knows', async () => {
+  const busy = [429, '<h1>429</h1>', 'text/html'], made = [201, '{"state":"pending"}'];
+  assert.deepEqual(await asked([made]), { told: { state: 'pending' }, sent: 1, same: true, said: [] });
+  const again = await asked([null, busy, made]);
+  assert.deepEqual([again.told, again.sent, again.same], [{ state: 'pending' }, 3, true]);
+  assert.deepEqual(again.said, ['The connection broke. Trying again (2 of 5).', 'Too many requests from your network. Trying again (3 of 5).', '']);
+  assert.match((await asked([busy])).told, /^Lost Too many requests .* Nothing was done\./);
+  assert.match((await asked([null, busy])).told, /^Lost The office does not answer\. It may or may not have your request\./);
+  assert.equal((await asked([null])).sent, 5);
+});
+
+test('what the office or a proxy refuses is not sent again', async () => {
+  const refusals = [[[503, '{"error":"storage"}'], 'storage'], [[403, '<h1>403</h1>', 'text/html'], 'status 403'], [[413, '', 'text/html'], 'large']];
+  for (const [answer, right] of refusals) {
+    const { told, sent } = await asked([answer]);
+    assert.deepEqual([told, sent], [`Refusal ${right}`, 1]);
+  }
+  assert.deepEqual((await asked([[401, '{"error":"token"}']])).said, ['end']);
+  assert.equal((await asked([null, [200, '[]']], 'GET', office => office.carry(null))).told, 'Gone ');
+  assert.equal((await asked([[200, 'Registry,Assignment\n', 'text/csv']], 'GET')).told, 'Registry,Assignment\n');
+});
