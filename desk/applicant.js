@@ -4,9 +4,9 @@ import { Told, attempt, button, choice, control, details, drafts, element, form,
 import { table } from './list.js';
 import {
   KINDS, POLICIES, STATES, askOf, dayOf, easiest, evidenceFor, faultsOf, freeUnder, hexOf, inWords, noteOn, openPolicies, optionsFor, outcome, policyOf,
-  rowsOf, valuesOf, waitingFirst, waitingTwin,
+  rowsOf, stateOf, valuesOf, waitingFirst, waitingTwin,
 } from './forms.js';
-import { endingBy, entryOf, valuesHeld } from './cases.js';
+import { ENTRY, endingBy, entryOf, valuesHeld } from './cases.js';
 
 /** The caller's own requests, and which values expire soon. */
 export async function requests(app) {
@@ -53,8 +53,9 @@ async function askFor(app, kind, values) {
 }
 
 function requestTable(rows, act, caption, empty, pages = new Map()) {
-  const cells = row => [row.reference, inWords(row.ask), STATES[row.state] ?? row.state, outcome(row, entryOf(row, pages))];
-  return table({ caption, columns: ['Reference', 'Request', 'State', 'Result'], rows, cells, act, empty, states: STATES, quiet: true });
+  const result = row => outcome(row, entryOf(row, pages));
+  const columns = { Reference: ({ reference }) => reference, Request: row => inWords(row.ask), State: stateOf, Result: result };
+  return table({ caption, columns, rows, act, empty, states: STATES, quiet: true });
 }
 
 /** A request in all its parts. */
@@ -81,7 +82,6 @@ export async function fresh(app) {
   return drafts.has('request') ? element('div', {}, element('p', {}, button('Empty this form', empty, { class: 'plain' })), node) : node;
 }
 
-const NEEDS = { renew: 'renew', permanent: 'make permanent' };
 const EARLY = 'An early allocation needs an Internet-Draft, a stable specification, enough interest, and the approval of the working group chairs and'
   + ' of the area director (RFC 7120). Under Specification Required, a designated expert must also recommend it.';
 const noteOf = text => element('p', { class: 'note' }, text);
@@ -158,7 +158,7 @@ class Draft {
     }
     const known = options[this.values.allocation] && this.values.allocation, change = { onchange: () => this.refresh() };
     if (Object.keys(options).length) this.put('top', [control('allocation', { options, label: 'Early allocation', value: known, ...change })]);
-    else if (!this.top.hasChildNodes()) this.put('top', [], noteOf(`You have no early allocation to ${NEEDS[kind]}.`));
+    else if (!this.top.hasChildNodes()) this.put('top', [], noteOf(`You have no early allocation to ${kind === 'renew' ? 'renew' : 'make permanent'}.`));
   }
 
   async load(registry) {
@@ -245,34 +245,27 @@ export async function agents(app) {
     await ask('PUT', `/agents/${agent}`, { reads });
     await app.go('agents', `${agent} can ${reads ? 'now' : 'no longer'} read your requests.`);
   };
-  const stop = agent => attempt(place, () => set(agent, false));
   const open = account => attempt(place, async () => {
     const rows = await ask('GET', `/principals/${account}/requests`);
     const actions = app => row => detailsButton(app, row, `Request ${row.reference} of ${account}`);
     app.open(`Requests of ${account}`, app => requestTable(rows, actions(app), `Requests of ${account}`, 'There are no requests.'));
   });
   const add = form({ title: 'Add an agent', verb: 'Add', controls: [control('agent')], key: 'agent', send: ({ agent }) => set(agent, true) });
-  const mine = table({
-    caption: 'Agents who may read my requests', columns: ['Account'], rows: names, empty: 'Nobody else may read your requests.',
-    cells: name => [name], act: name => button('Remove', () => stop(name), { 'aria-label': `Remove ${name}` }),
-  });
-  const others = table({
-    caption: 'Accounts whose requests I may read', columns: ['Account'], rows: principals, empty: 'No account has named you as its agent.',
-    cells: name => [name], act: name => button('Read', () => open(name), { 'aria-label': `Read the requests of ${name}` }),
-  });
+  const list = (caption, rows, empty, act) => table({ caption, columns: { Account: name => name }, rows, empty, act });
+  const mine = list('Agents who may read my requests', names, 'Nobody else may read your requests.',
+    name => button('Remove', () => attempt(place, () => set(name, false)), { 'aria-label': `Remove ${name}` }));
+  const others = list('Accounts whose requests I may read', principals, 'No account has named you as its agent.',
+    name => button('Read', () => open(name), { 'aria-label': `Read the requests of ${name}` }));
   return element('div', {}, place, element('p', {}, 'An agent sees your requests as you do. It cannot change anything.'), mine, add, others);
 }
 
 /** The values that the caller's account holds, and when each expires. */
 export async function values(app) {
   const rows = await ask('GET', '/requests'), held = valuesHeld(rows, await pagesOf(rows));
-  const renew = ({ registry, value }) => button('Renew', () => askFor(app, 'renew', { allocation: `${registry}/${value}` }),
-    { 'aria-label': `Renew value ${value} of ${registry}` });
-  return table({
-    quiet: true, caption: 'My values', columns: ['Registry', 'Value', 'Name', 'Status', 'Expires'], rows: held, empty: 'You hold no values yet.',
-    cells: ({ registry, value, label, status, held, expires }) => [registry, String(value), label, held ? 'Held' : status, expires ?? ''],
-    act: row => (row.expires ? renew(row) : []),
-  });
+  const way = (kind, verb, { registry, value }) => button(verb, () => askFor(app, kind, { allocation: `${registry}/${value}` }),
+    { 'aria-label': `${verb}: value ${value} of ${registry}` });
+  const act = row => (row.expires ? element('div', { class: 'row' }, way('renew', 'Renew', row), way('permanent', 'Make permanent', row)) : []);
+  return table({ caption: 'My values', columns: ENTRY, rows: held, act, quiet: true, empty: 'You hold no values yet.' });
 }
 
 /** The blocks that the caller's account holds, each with a switch that hides whose it is. */
@@ -291,7 +284,7 @@ export async function blocks() {
   });
   const about = 'The public always sees that a block is assigned. If you keep it private, the public sees neither your organization nor its address.';
   return element('div', {}, place, element('p', {}, about), table({
-    quiet: true, caption: 'My blocks', columns: ['Block', 'Size', 'Organization', 'Address'], acts: 'Private', act: toggle, rows,
-    cells: row => [row.block, row.size, row.organization, row.address], empty: 'You have no blocks. To ask for one, choose New request.',
+    columns: { Block: row => row.block, Size: row => row.size, Organization: row => row.organization, Address: row => row.address },
+    quiet: true, caption: 'My blocks', acts: 'Private', act: toggle, rows, empty: 'You have no blocks. To ask for one, choose New request.',
   }));
 }

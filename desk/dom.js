@@ -185,9 +185,6 @@ export function details(rows) {
   return element('dl', {}, rows.map(row => told(...row)));
 }
 
-/** A state as a word with a mark of its own. */
-export const badge = (state, text) => element('span', { class: `badge ${state}` }, text);
-
 /** Asks before something that cannot be undone: `yes`, `more` for a second way to go on, or an empty text. `stop` is for what declines or revokes. */
 export function sure(question, verb, { stop = false, more } = {}) {
   return new Promise(done => {
@@ -209,5 +206,5 @@ export function copyable(text, name, ...more) {
     const done = await navigator.clipboard.writeText(output.textContent).then(() => true, () => false);
     say(done ? `The ${name} is copied.` : `The browser does not allow that. Select the ${name} and copy it by hand.`);
   };
-  return [output, element('p', { class: 'actions' }, button('Copy', copy), more)];
+  return [output, element('p', { class: 'actions' }, button('Copy', copy, { class: 'plain' }), more)];
 }

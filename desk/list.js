@@ -1,16 +1,19 @@
 // Lists: how many rows there are, a search in what is seen, an order, 100 rows at a time. Where somebody was in a list is kept.
-import { badge, button, element, select } from './dom.js';
+import { button, element, select } from './dom.js';
 
 const SHOWN = 100, MANY = 10, { compare } = new Intl.Collator('en', { numeric: true }), places = new Map();
+// The columns that tell a row from others, whatever becomes of it.
+const NAMING = ['Account', 'Reference', 'Registry', 'Value', 'Name', 'Digest', 'Block', 'Prefix', 'First'];
 /** Forgets where somebody was in each list. */
 export const forgetPlaces = () => places.clear();
 
 /**
- * A list of rows. `cells` gives the texts of a row by column, once they are needed, with marks for State. `act` gives its controls, under the
- * title `acts`; it is also given a function that tells the rows as they are listed. Where `states` has words, one can choose among them. A `quiet` caption is only heard.
+ * A list of rows. `columns` gives the text of a row by title, once it is needed, with marks for State. `act` gives its controls, under the title
+ * `acts`; it is also given a function that tells the rows as they are listed. Where `states` has words, one can choose among them. A `quiet` caption is only heard.
  */
-export function table({ caption, columns, rows, cells, act, acts = 'Actions', empty, states, quiet = false }) {
-  const lines = rows.map(row => ({ row, get texts() { return (this.own ??= cells(row)); } })), seen = () => found(lines, at).map(({ row }) => row);
+export function table({ caption, columns: texts, rows, act, acts = 'Actions', empty, states, quiet = false }) {
+  const columns = Object.keys(texts), textsOf = row => columns.map(name => texts[name](row));
+  const lines = rows.map(row => ({ row, get texts() { return (this.own ??= textsOf(row)); } })), seen = () => found(lines, at).map(({ row }) => row);
   const at = places.get(caption) ?? { text: '', state: '', order: '', page: 0, key: '' };
   places.set(caption, at);
   const body = element('tbody', { role: 'rowgroup' }), info = element('p', { class: 'hint', role: 'status' });
@@ -53,8 +56,8 @@ function countOf(from, shown, all, total) {
 
 // The row that was used last is marked, so that the focus can return to it.
 function rowOf({ row, texts }, columns, at, actions) {
-  const key = texts.slice(0, 2).join(' '), [title, ...others] = texts, [, ...names] = columns;
-  const marked = (text, name) => (name === 'State' ? badge(row.state, text) : text);
+  const key = texts.filter((_, place) => NAMING.includes(columns[place])).join(' '), [title, ...others] = texts, [, ...names] = columns;
+  const marked = (text, name) => (name === 'State' ? element('span', { class: `badge ${row.state}` }, text) : text);
   const cell = (text, place) => element('td', { role: 'cell', 'data-label': names[place] }, marked(text, names[place]));
   const use = () => { at.key = key; };
   return element('tr', { role: 'row', class: at.key === key ? 'used' : undefined, onclick: use },

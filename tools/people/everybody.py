@@ -1,7 +1,7 @@
 """What must hold for everybody: how pages look, the reader's own colours, the keyboard, narrow screens, sessions."""
 from people.office import CLERK
 from people.person import judge, narrow
-from people.tasks import token_of, within
+from people.tasks import asks, token_of, within
 
 # Whether the button's name begins with what is seen of it, for each button and link.
 NAMES = '''return [...document.querySelectorAll('button, a')].filter(one => one.checkVisibility() && one.hasAttribute('aria-label'))
@@ -57,6 +57,7 @@ def looks(office, clerk):
     headings = clerk.script('return [...document.querySelectorAll("main h3")].map(one => one.textContent)')
     judge(sorted(headings) == ['Ask an expert', 'Decline', 'Experts'], f'the headings of a case are {headings}')
     judge(clerk.script(NAMES) == [], f'in a case names do not begin with what is seen: {clerk.script(NAMES)}')
+    without_advice(office, clerk)
     clerk.go('Registries')
     clerk.click('Open ports')
     clerk.sees('Early allocations')
@@ -64,6 +65,20 @@ def looks(office, clerk):
     clerk.go('Tokens')
     tools = clerk.script('return [...document.querySelectorAll(".tools")].map(one => one.previousElementSibling?.textContent)')
     judge(tools == ['All tokens'], f'the searches are below {tools}')
+
+
+def without_advice(office, clerk):
+    """Where an expert is needed and none is assigned, that comes first, and Approve looks off, also with colours of the reader's own."""
+    asks(office, 'zephyr', 'x-3', value=1002)
+    clerk.go('Waiting')
+    clerk.click('Open x-3 of zephyr')
+    clerk.sees('No expert is assigned.')
+    colours = clerk.script(COLOURS)
+    judge([name for name, colour in colours if colour == GREEN] == ['Assign'], f'the colours are {colours}')
+    emulated(clerk, forced_colors='active')
+    off = clerk.script('const { color, opacity } = getComputedStyle(document.querySelector("button[aria-disabled]")); return [opacity, color !== getComputedStyle(document.body).color]')
+    judge(off == ['1', True], f'a button that is off looks {off}')
+    emulated(clerk)
 
 
 def skipped(clerk):
@@ -137,7 +152,7 @@ def everybody(office, clerk, person):
     by_name_and_role(clerk)
     looks(office, clerk)
     skipped(clerk)
-    [held] = office.ask('GET', '/holdings', token_of('acme'))
+    held = next(one for one in office.ask('GET', '/holdings', token_of('acme')) if one['size'] == 'MA-S')
     with within(clerk, 1, 'who holds a block'):
         clerk.go('All requests')
         clerk.named('input', 'Search: All requests').send_keys(held['block'])
