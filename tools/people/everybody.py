@@ -108,16 +108,22 @@ def sessions(person):
     judge(not person.rows('My values') and person.script('return location.hash') == '', 'Back shows something after signing out')
 
 
+def fits(person, name):
+    """At each width the page is no wider than the window, and tables have their roles: cards below 47rem, and a column of its own width from 56rem."""
+    for width in (320, 390, 641, 753, 768, 897):
+        narrow(person, True, width)
+        wide = person.script('return document.documentElement.scrollWidth')
+        judge(wide <= width, f'{name} is {wide} pixels wide at {width}')
+        judge(person.script(ROLES) == [], f'{name} at {width}: without roles are {person.script(ROLES)[:3]}')
+    narrow(person, False)
+
+
 def by_name_and_role(clerk):
     """Each name begins with what is seen, and tables keep their roles on narrow screens."""
     for section in ('Waiting', 'All requests', 'Due to expire', 'Registries', 'Prefixes', 'Tokens'):
         clerk.go(section)
         judge(clerk.script(NAMES) == [], f'{section}: names do not begin with what is seen: {clerk.script(NAMES)}')
-        narrow(clerk, True)
-        judge(clerk.script(ROLES) == [], f'{section}: without roles are {clerk.script(ROLES)[:3]}')
-        wide = clerk.script('return document.documentElement.scrollWidth')
-        judge(wide <= 390, f'{section} is {wide} pixels wide at 390')
-        narrow(clerk, False)
+        fits(clerk, section)
 
 
 def focus_stays(clerk):
@@ -143,11 +149,13 @@ def everybody(office, clerk, person):
     for section in ('My requests', 'New request', 'My values', 'My blocks', 'Agents'):
         person.go(section)
         judge(person.script(NAMES) == [], f'{section}: names do not begin with what is seen: {person.script(NAMES)}')
+        fits(person, section)
     person.sign_out()
     sessions(person)
     person.sign_in(token_of('moduya'))
     person.sees('Requests to review')
     judge(person.script(NAMES) == [], f'names do not begin with what is seen: {person.script(NAMES)}')
+    fits(person, 'Requests to review')
     person.sign_out()
     by_name_and_role(clerk)
     looks(office, clerk)

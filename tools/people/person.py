@@ -142,9 +142,9 @@ class Person:
         self.driver.quit()
 
 
-def narrow(person, is_narrow):
+def narrow(person, is_narrow, width=390):
     if is_narrow:
-        person.driver.execute_cdp_cmd('Emulation.setDeviceMetricsOverride', {'width': 390, 'height': 844, 'deviceScaleFactor': 1, 'mobile': False})
+        person.driver.execute_cdp_cmd('Emulation.setDeviceMetricsOverride', {'width': width, 'height': 844, 'deviceScaleFactor': 1, 'mobile': False})
     else:
         person.driver.execute_cdp_cmd('Emulation.clearDeviceMetricsOverride', {})
 

@@ -105,6 +105,7 @@ def clerks_tasks(office, clerk):
         clerk.click('Approve and open the next')
         clerk.status('Approved: p-843 of acme. Value 843')
     too_early(office, clerk)
+    noted(clerk)
     clerk.go('Waiting')
     clerk.click('Open o-0 of oceanic')
     for number in range(2):
@@ -175,6 +176,10 @@ def too_early(office, clerk):
     clerk.sees('moduya has not advised yet.')
     judge(office.ask('GET', '/desk/requests/acme/x-1', CLERK)['experts'] == ['moduya'], 'a mistyped account was assigned')
     office.ask('PUT', '/queue/acme/x-1', token_of('moduya'), {'text': 'fine', 'verdict': 'for'})
+
+
+def noted(clerk):
+    """After an approval the line for notes.csv and the next request come first, and the news cover no title."""
     clerk.go('Waiting')
     clerk.click('Open x-1 of acme')
     clerk.sees('Approve gives acme value 1000 of ports.')
@@ -185,6 +190,12 @@ def too_early(office, clerk):
     judge(line == 'ports,1000,,"https://example.org/spec, 2nd edition",', f'the line for notes.csv is {line}')
     onward, told = [clerk.script(f'return document.querySelector("main {css}").getBoundingClientRect().top') for css in ('.actions button:only-child:not(.plain)', 'dl')]
     judge(onward < told, 'after a decision the next request is below the one that was decided')
+    clerk.driver.set_window_size(1280, 500)
+    clerk.script('scrollTo(0, document.body.scrollHeight)')
+    clerk.script('document.querySelector("h2").blur(); document.querySelector("h2").focus()')
+    shown = clerk.script('return ["#status", "h2"].map(one => document.querySelector(one).getBoundingClientRect()).map(({ top, bottom }) => [top, bottom])')
+    judge(shown[0][1] <= shown[1][0], f'the news and the title are at {shown} pixels')
+    clerk.driver.set_window_size(1280, 1000)
 
 
 def lost(office, clerk):
