@@ -241,8 +241,8 @@ class Draft {
 /** Who may read the caller's requests, and whose the caller may read. */
 export async function agents(app) {
   const names = await ask('GET', '/agents'), principals = await ask('GET', '/principals'), place = element('div');
-  const set = async (agent, reads) => {
-    await ask('PUT', `/agents/${agent}`, { reads });
+  const set = async (agent, reads, sent) => {
+    await ask('PUT', `/agents/${agent}`, { reads }).then(sent);
     await app.go('agents', `${agent} can ${reads ? 'now' : 'no longer'} read your requests.`);
   };
   const open = account => attempt(place, async () => {
@@ -250,7 +250,7 @@ export async function agents(app) {
     const actions = app => row => detailsButton(app, row, `Request ${row.reference} of ${account}`);
     app.open(`Requests of ${account}`, app => requestTable(rows, actions(app), `Requests of ${account}`, 'There are no requests.'));
   });
-  const add = form({ title: 'Add an agent', verb: 'Add', controls: [control('agent')], key: 'agent', send: ({ agent }) => set(agent, true) });
+  const add = form({ title: 'Add an agent', verb: 'Add', controls: [control('agent')], key: 'agent', send: ({ agent }, sent) => set(agent, true, sent) });
   const list = (caption, rows, empty, act) => table({ caption, columns: { Account: name => name }, rows, empty, act });
   const mine = list('Agents who may read my requests', names, 'Nobody else may read your requests.',
     name => button('Remove', () => attempt(place, () => set(name, false)), { 'aria-label': `Remove ${name}` }));

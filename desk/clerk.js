@@ -110,25 +110,24 @@ function assignment(listed, path, go, isNext) {
   };
   field.input.setAttribute('list', 'experts');
   field.input.addEventListener('focus', () => load().catch(() => {}), { once: true });
-  const assign = async ({ expert }) => {
+  const assign = async ({ expert }, sent) => {
     if (expert === listed.account) throw new Told('Applicants cannot be their own experts. Choose another account.');
     const isKnown = (await load()).includes(expert);
     const question = `${expert} has no expert's token. It would get to read this request, and could not be removed. Is the spelling right?`;
-    if (!isKnown && !await sure(question, `Assign ${expert}`)) return false;
-    await ask('PUT', `/desk/experts/${path}/${expert}`);
-    return go(listed, { message: `${listed.reference} of ${listed.account} is assigned to ${expert}.` });
+    if (!isKnown && !await sure(question, `Assign ${expert}`)) return;
+    await ask('PUT', `/desk/experts/${path}/${expert}`).then(sent);
+    await go(listed, { message: `${listed.reference} of ${listed.account} is assigned to ${expert}.` });
   };
-  return form({ title: 'Ask an expert', verb: 'Assign', look: isNext ? undefined : 'plain', controls: [field], parts: [field.node, names], send: assign });
+  return form({ title: 'Ask an expert', verb: 'Assign', look: isNext ? undefined : 'plain', controls: [field], parts: [field.node, names], send: assign, key: `assign ${path}` });
 }
 
 function refusal({ account, reference }, path, next, done) {
   return form({
     title: 'Decline', verb: 'Decline', look: 'stop', controls: [control('reason')], key: `decline ${path}`,
-    send: async ({ reason }) => {
+    send: async ({ reason }, sent) => {
       const question = `Decline ${reference} of ${account} for this reason? "${reason}" You cannot undo this.`;
       const answer = await sure(question, 'Decline', { stop: true, more: next && 'Decline and open the next' });
-      if (!answer) return false;
-      return done(await ask('PUT', `/desk/decline/${path}`, { reason }), answer);
+      if (answer) await done(await ask('PUT', `/desk/decline/${path}`, { reason }).then(sent), answer);
     },
   });
 }
@@ -201,11 +200,11 @@ function definition(app) {
     title: 'Define a registry', verb: 'Define this registry', controls: [name, chooser, most], key: 'define',
     parts: [name.node, chooser.node, help, preview, most.node],
     check: values => ({ name: faultOf('name', values.name), max: faultOf('max', values.max), file: fileFault(file, Number(values.max)) }),
-    send: async ({ name, max }) => {
+    send: async ({ name, max }, sent) => {
       const question = `Define ${name} with ${file.ranges.length} ranges, 0 to ${max}? You cannot change the ranges afterwards.`;
-      if (!await sure(question, 'Define')) return false;
-      await ask('PUT', `/desk/registries/${name}/${max}`, file.bytes);
-      return app.go('registries', `The registry ${name} is defined.`);
+      if (!await sure(question, 'Define')) return;
+      await ask('PUT', `/desk/registries/${name}/${max}`, file.bytes).then(sent);
+      await app.go('registries', `The registry ${name} is defined.`);
     },
   });
 }
@@ -221,10 +220,10 @@ function fileFault(file, max) {
 export async function pool(app) {
   const rows = await ask('GET', '/pool');
   const add = form({
-    title: 'Add a prefix', verb: 'Add', controls: [control('prefix')],
-    send: async ({ prefix }) => {
+    title: 'Add a prefix', verb: 'Add', controls: [control('prefix')], key: 'prefix',
+    send: async ({ prefix }, sent) => {
       if (!await sure(`Add ${prefix.toUpperCase()}? A prefix cannot be removed.`, 'Add')) return;
-      await ask('PUT', `/desk/pool/${prefix}`);
+      await ask('PUT', `/desk/pool/${prefix}`).then(sent);
       await app.go('pool', `Blocks can now be cut from ${prefix.toUpperCase()}.`);
     },
   });
@@ -245,10 +244,10 @@ function grant(app, shown, fill) {
   const node = form({
     title: 'Give somebody a token', verb: 'Make a token', key: 'grant',
     controls: [control('account'), control('kind'), control('until', { type: 'date', value: dayOf(Date.now() / 1000 + 365 * 86400) })],
-    send: async values => {
+    send: async (values, sent) => {
       made ??= hexOf(crypto.getRandomValues(new Uint8Array(16)));
       // Only where no answer came may the same token be there already.
-      await ask('PUT', '/desk/tokens', grantOf(values, made)).catch(error => { if (error instanceof Refusal) made = null; throw error; });
+      await ask('PUT', '/desk/tokens', grantOf(values, made)).then(sent).catch(error => { if (error instanceof Refusal) made = null; throw error; });
       show(app, shown, made, values);
       made = null;
       node.reset();

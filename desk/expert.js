@@ -27,8 +27,8 @@ function review(app, row) {
   const advise = form({
     title: 'My advice', verb: 'Send my advice', key: `advise ${row.account}/${row.reference}`,
     controls: [control('verdict', { value: row.advice?.verdict }), control('text', { value: row.advice?.text })],
-    send: async ({ verdict, text }) => {
-      await ask('PUT', `/queue/${row.account}/${row.reference}`, { text, verdict });
+    send: async ({ verdict, text }, sent) => {
+      await ask('PUT', `/queue/${row.account}/${row.reference}`, { text, verdict }).then(sent);
       await app.go('queue', `Your advice on ${row.reference} of ${row.account} is recorded. You can change it while the request waits.`);
     },
   });

@@ -107,7 +107,6 @@ export function faultOf(name, text, needed = true) {
 
 /** The range of a registry in which a value lies, if one does. */
 export const rangeOf = (page, value) => page.ranges.find(({ lo, hi }) => lo <= value && value <= hi);
-
 /** Whether a kind of request can be made under a policy. */
 export const isOpen = (kind, policy) => (kind === 'early' || kind === 'renew' ? EARLY.includes(policy) : Boolean(POLICIES[policy]?.items));
 
@@ -129,7 +128,6 @@ export function leastFree(page, policy) {
 
 /** The policies of a registry under which a kind of request can be made, each once. */
 export const openPolicies = (page, kind) => [...new Set(page.ranges.map(({ treatment }) => treatment))].filter(policy => isOpen(kind, policy));
-
 /** Under which policy the least values are offered first: the one that asks for least. */
 export const easiest = policies => Object.keys(POLICIES).find(policy => policies.includes(policy));
 

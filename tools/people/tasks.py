@@ -174,6 +174,7 @@ def too_early(office, clerk):
         clerk.click('Assign')
         clerk.status('x-1 of acme is assigned to moduya.')
     clerk.sees('moduya has not advised yet.')
+    judge(clerk.control('Account of the expert').get_attribute('value') == '', 'the expert who was assigned is still in the form')
     judge(office.ask('GET', '/desk/requests/acme/x-1', CLERK)['experts'] == ['moduya'], 'a mistyped account was assigned')
     office.ask('PUT', '/queue/acme/x-1', token_of('moduya'), {'text': 'fine', 'verdict': 'for'})
 
