@@ -31,10 +31,8 @@ export async function requests(app) {
 
 // The pages of the registries in which requests were approved, by name.
 async function pagesOf(rows) {
-  const pages = new Map();
-  for (const { ask: { kind, registry }, state } of rows) {
-    if (kind !== 'block' && state === 'approved' && !pages.has(registry)) pages.set(registry, await ask('GET', `/registries/${registry}`));
-  }
+  const approved = rows.filter(row => row.state === 'approved' && row.ask.kind !== 'block'), pages = new Map();
+  for (const name of new Set(approved.map(row => row.ask.registry))) pages.set(name, await ask('GET', `/registries/${name}`));
   return pages;
 }
 

@@ -22,8 +22,7 @@ export async function queue(app) {
 function review(app, row) {
   const own = row.advice ? [['My recommendation', VERDICTS[row.advice.verdict]], ['My advice', row.advice.text]] : [];
   const told = [['Applicant', row.account], ['Reference', row.reference], ['State', stateOf(row)], ...rowsOf(row.ask)];
-  const about = details(row.state === 'pending' ? told : [...told, ...own]);
-  if (row.state !== 'pending') return about;
+  if (row.state !== 'pending') return details([...told, ...own]);
   const advise = form({
     title: 'My advice', verb: 'Send my advice', key: `advise ${row.account}/${row.reference}`,
     controls: [control('verdict', { value: row.advice?.verdict }), control('text', { value: row.advice?.text })],
@@ -32,5 +31,5 @@ function review(app, row) {
       await app.go('queue', `Your advice on ${row.reference} of ${row.account} is recorded. You can change it while the request waits.`);
     },
   });
-  return element('div', {}, about, advise);
+  return element('div', {}, details(told), advise);
 }
