@@ -19,7 +19,9 @@ export async function requests(app) {
       await app.go('requests', `The request ${row.reference} is withdrawn.`);
     });
   };
-  const actions = row => element('div', { class: 'row' }, detailsButton(app, row, `Request ${row.reference}`, pages, true),
+  const again = row => app => (['declined', 'withdrawn'].includes(row.state)
+    ? button('Ask again with these data', () => askFor(app, row.ask.kind, valuesOf(row.ask))) : null);
+  const actions = row => element('div', { class: 'row' }, detailsButton(app, row, `Request ${row.reference}`, again(row), pages),
     row.state === 'pending' ? button('Withdraw', () => withdraw(row), { 'aria-label': `Withdraw ${row.reference}`, class: 'plain' }) : null);
   const add = element('p', {}, element('a', { class: 'button', href: '#new' }, 'New request'));
   const soon = dayOf(Date.now() / 1000 + 30 * 86400), { length } = endingBy(valuesHeld(rows, pages), soon);
@@ -36,10 +38,9 @@ async function pagesOf(rows) {
   return pages;
 }
 
-function detailsButton(app, row, title, pages, isOwn = false) {
-  const again = app => button('Ask again with these data', () => askFor(app, row.ask.kind, valuesOf(row.ask)));
-  const more = app => (isOwn && ['declined', 'withdrawn'].includes(row.state) ? element('p', { class: 'actions' }, again(app)) : null);
-  const open = app => element('div', {}, requestDetails(row, pages), more(app));
+// `more` gives a button to stand below the details.
+function detailsButton(app, row, title, more, pages) {
+  const open = app => element('div', {}, requestDetails(row, pages), element('p', { class: 'actions' }, more(app)));
   return button('Details', () => app.open(title, open), { 'aria-label': `Details of ${row.reference}` });
 }
 
@@ -243,17 +244,17 @@ export async function agents(app) {
     await ask('PUT', `/agents/${agent}`, { reads }).then(sent);
     await app.go('agents', `${agent} can ${reads ? 'now' : 'no longer'} read your requests.`);
   };
-  const open = account => attempt(place, async () => {
-    const rows = await ask('GET', `/principals/${account}/requests`);
-    const actions = app => row => detailsButton(app, row, `Request ${row.reference} of ${account}`);
-    app.open(`Requests of ${account}`, app => requestTable(rows, actions(app), `Requests of ${account}`, 'There are no requests.'));
+  const open = (app, account) => app.open(`Requests of ${account}`, async app => {
+    const back = app => button(`Requests of ${account}`, () => open(app, account), { class: 'plain' });
+    const act = row => detailsButton(app, row, `Request ${row.reference} of ${account}`, back);
+    return requestTable(await ask('GET', `/principals/${account}/requests`), act, `Requests of ${account}`, 'There are no requests.');
   });
   const add = form({ title: 'Add an agent', verb: 'Add', controls: [control('agent')], key: 'agent', send: ({ agent }, sent) => set(agent, true, sent) });
   const list = (caption, rows, empty, act) => table({ caption, columns: { Account: name => name }, rows, empty, act });
   const mine = list('Agents who may read my requests', names, 'Nobody else may read your requests.',
     name => button('Remove', () => attempt(place, () => set(name, false)), { 'aria-label': `Remove ${name}` }));
   const others = list('Accounts whose requests I may read', principals, 'No account has named you as its agent.',
-    name => button('Read', () => open(name), { 'aria-label': `Read the requests of ${name}` }));
+    name => button('Read', () => open(app, name), { 'aria-label': `Read the requests of ${name}` }));
   return element('div', {}, place, element('p', {}, 'An agent sees your requests as you do. It cannot change anything.'), mine, add, others);
 }
 

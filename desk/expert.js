@@ -9,7 +9,7 @@ export async function queue(app) {
   const rank = row => (row.state !== 'pending' ? 2 : row.advice ? 1 : 0), rows = await ask('GET', '/queue');
   rows.sort((one, other) => rank(one) - rank(other));
   const { length } = rows.filter(row => rank(row) === 0);
-  const told = `${length === 1 ? '1 request waits' : `${length} requests wait`} for your advice.`;
+  const told = `${['No request waits', '1 request waits'][length] ?? `${length} requests wait`} for your advice.`;
   const verb = row => (row.state !== 'pending' ? 'Details' : row.advice ? 'Change advice' : 'Give advice');
   const advised = ({ advice }) => (advice ? `${advice.verdict === 'for' ? 'For' : 'Against'}: ${advice.text}` : '');
   const open = row => app.open(`Request ${row.reference} of ${row.account}`, app => review(app, row));

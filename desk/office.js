@@ -31,19 +31,16 @@ const rest = time => new Promise(done => { setTimeout(done, time); });
 
 // One try: the answer, or null where none came.
 async function sent(method, path, body, speak) {
-  const abort = new AbortController();
-  const patience = setTimeout(() => abort.abort(), PATIENCE);
   const slow = setTimeout(() => speak('The office has not answered yet. Still waiting.'), SLOW);
   try {
     const headers = token === null ? {} : { Authorization: `Bearer ${token}` };
     const answer = await fetch(path, {
-      method, headers, body, signal: abort.signal, cache: 'no-store', credentials: 'omit', redirect: 'error', referrerPolicy: 'no-referrer',
+      method, headers, body, signal: AbortSignal.timeout(PATIENCE), cache: 'no-store', credentials: 'omit', redirect: 'error', referrerPolicy: 'no-referrer',
     });
     return { status: answer.status, text: await answer.text(), isListing: /^text\/csv/.test(answer.headers.get('Content-Type')) };
   } catch {
     return null;
   } finally {
-    clearTimeout(patience);
     clearTimeout(slow);
   }
 }

@@ -286,4 +286,8 @@ def agents(office, alice, tokens):
     alice.sees('Requests of alice')
     shown = [row[0] for row in alice.rows('Requests of alice')]
     judge(shown == [one['reference'] for one in office.ask('GET', '/principals/alice/requests', tokens['bob'])], f'the agent is shown {shown}')
+    alice.click(f'Details of {shown[-1]}')
+    alice.sees(f'Request {shown[-1]} of alice')
+    alice.click('Requests of alice')
+    alice.until(lambda: [row[0] for row in alice.rows('Requests of alice')] == shown, 'the requests again')
     alice.sign_out()
