@@ -42,7 +42,9 @@ async function view(title, make, { message = '', back, scroll } = {}) {
   focusOn(heading);
   if (scroll === undefined) return;
   scrollTo(0, scroll);
-  main.querySelector('.used button')?.focus({ preventScroll: true });
+  const used = main.querySelector('.used button');
+  used?.focus({ preventScroll: true });
+  used?.scrollIntoView({ block: 'nearest' });
 }
 
 // The address names the section alone. A case has an entry in the history with the same address, so that Back leads to its list.

@@ -69,7 +69,10 @@ class Person:
 
     def click(self, name):
         self.clicks += 1
-        self.named('button, a, summary', name).click()
+        found = self.named('button, a, summary', name)
+        # (the news stand above what is scrolled to the top)
+        self.script('arguments[0].scrollIntoView({ block: "nearest" })', found)
+        found.click()
 
     def click_twice(self, name):
         from selenium.webdriver.common.action_chains import ActionChains

@@ -106,6 +106,7 @@ def clerks_tasks(office, clerk):
         clerk.status('Approved: p-843 of acme. Value 843')
     too_early(office, clerk)
     noted(clerk)
+    followed(office, clerk)
     clerk.go('Waiting')
     clerk.click('Open o-0 of oceanic')
     for number in range(2):
@@ -177,6 +178,18 @@ def too_early(office, clerk):
     judge(clerk.control('Account of the expert').get_attribute('value') == '', 'the expert who was assigned is still in the form')
     judge(office.ask('GET', '/desk/requests/acme/x-1', CLERK)['experts'] == ['moduya'], 'a mistyped account was assigned')
     office.ask('PUT', '/queue/acme/x-1', token_of('moduya'), {'text': 'fine', 'verdict': 'for'})
+
+
+def followed(office, clerk):
+    """Where a row is gone, the focus comes to the one in its place."""
+    asks(office, 'zz', 'z-35', value=735)
+    clerk.go('Waiting')
+    clerk.click('Open z-35 of zz')
+    clerk.sees('Approve gives zz')
+    office.ask('DELETE', '/requests/z-35', token_of('zz'))
+    clerk.click('Back to the list')
+    name = clerk.until(lambda: clerk.script('return document.activeElement.getAttribute("aria-label")'), 'the focus')
+    judge(name == 'Open z-4 of zz', f'after a row is gone the focus is on {name}')
 
 
 def noted(clerk):
