@@ -72,7 +72,7 @@ function decision({ row, page, rivals, listed, next, onward, go }) {
   const note = element('div', { class: 'note', id: 'prospect' }, element('p', {}, says), others(rivals, go));
   const done = async (decided, answer) => {
     listed.state = decided.state;
-    drafts.delete(`decline ${path}`);
+    for (const form of ['assign', 'decline']) drafts.delete(`${form} ${path}`);
     const message = `${stateOf(decided)}: ${reference} of ${account}. ${outcome(decided)}`;
     await go(answer === 'more' ? next : listed, { message, before: noteCard(decided) });
   };
