@@ -24,7 +24,7 @@ export async function everything(app) {
 
 function requestTable(app, rows, { last, more = () => '', ...texts }) {
   const act = (row, seen) => button('Open', () => openCase(app, row, seen()), { 'aria-label': `Open ${row.reference} of ${row.account}` });
-  const words = row => [inWords(row.ask), more(row)].filter(Boolean).join('. ');
+  const words = row => { const told = more(row); return inWords(row.ask) + (told && `. ${told}`); };
   return table({ ...texts, columns: { Account: row => row.account, Reference: row => row.reference, Request: words, ...last }, rows, act, quiet: true });
 }
 
