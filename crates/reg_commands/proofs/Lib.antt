@@ -2,6 +2,7 @@ pub mod Approvals
 pub mod CapLists
 pub mod Counted
 pub mod Decided
+pub mod Deeds
 pub mod Digests
 pub mod Pages
 pub mod Requests

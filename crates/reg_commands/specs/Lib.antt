@@ -1,3 +1,4 @@
+pub mod Acts
 pub mod Answers
 pub mod Caller
 pub mod Decisions

@@ -2,6 +2,7 @@
 //! it needs, what is decided over them, and the change that is made.
 #![tactic(auto)]
 
+mod acts;
 pub mod admission;
 mod agents;
 pub mod applicant;
@@ -14,6 +15,8 @@ mod digest;
 pub mod expert;
 mod ground;
 mod holdings;
+mod journal;
 pub mod public;
 mod registers;
 pub mod stop;
+pub mod times;

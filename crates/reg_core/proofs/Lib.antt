@@ -1,3 +1,4 @@
+pub mod FirstDigits
 pub mod Places
 pub mod EntriesInRange
 pub mod Cases
@@ -18,3 +19,4 @@ pub mod Allowances
 pub mod Chosen
 pub mod Outcomes
 pub mod Fitting
+pub mod Journals

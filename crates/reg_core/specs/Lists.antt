@@ -12,8 +12,9 @@ use Rattle.reg_core.specs.Holding.{holder_in, holding_row, holding_rows, listed_
 use Rattle.reg_core.specs.Page.{page_entries}
 use Rattle.reg_core.specs.Queue.{queue_rows}
 use Rattle.reg_core.specs.Request.{case_of, is_pending, request_rows, word_of}
+use Rattle.reg_core.specs.Times.{times_of, times_row}
 use Rattle.reg_core.specs.View.{published, requests_of, holdings_of, queue_of}
-use Rattle.reg_core.specs.World.{World, name_cmp}
+use Rattle.reg_core.specs.World.{World, RequestName, name_cmp}
 use Rattle.reg_core.specs.declared.capability.Cap.{Cap}
 use Rattle.reg_core.specs.declared.capability.CapRow.{CapRow}
 use Rattle.reg_core.specs.declared.entry.PageEntry.{PageEntry}
@@ -26,6 +27,7 @@ use Rattle.reg_core.specs.declared.page.Page.{Page as PageOf}
 use Rattle.reg_core.specs.declared.queue.QueueRow.{QueueRow}
 use Rattle.reg_core.specs.declared.request.Case.{Case}
 use Rattle.reg_core.specs.declared.request.Request.{Request}
+use Rattle.reg_core.specs.declared.request.RequestTimes.{RequestTimes}
 
 -- ---- Registers
 
@@ -146,6 +148,24 @@ pub record OwnList (w : World) (account : List ℕ) (rows : List Request) : Type
   pub every : (reference : List ℕ) (case : Case)
       → get w.requests (account, reference) ≡ Some case
       → (row : Request) × Contains rows row × IsRow w account reference row
+  -- they ascend by reference, so no request has two
+  pub ascending : IsStrictlySortedBy name_cmp (map (λ row. (row.account, row.reference)) rows)
+
+-- the row says of a request of the account when it came and when it was decided
+abbrev pub HasTimesOf : World → List ℕ → RequestTimes → Type 0
+HasTimesOf w account row =
+    let name : RequestName = (row.account, row.reference) in
+    (row.account ≡ account) × (case : Case) × (get w.requests name ≡ Some case)
+    × (row ≡ times_row name (times_of w.journal name case))
+
+-- the rows are the times of an account's requests
+pub record TimesList (w : World) (account : List ℕ) (rows : List RequestTimes) : Type 0 where
+  -- each is of a request of the account
+  pub own : All (HasTimesOf w account) rows
+  -- each request of the account has its row among them
+  pub every : (reference : List ℕ) (case : Case)
+      → get w.requests (account, reference) ≡ Some case
+      → Contains rows (times_row (account, reference) (times_of w.journal (account, reference) case))
   -- they ascend by reference, so no request has two
   pub ascending : IsStrictlySortedBy name_cmp (map (λ row. (row.account, row.reference)) rows)
 

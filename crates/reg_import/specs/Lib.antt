@@ -1,5 +1,5 @@
 pub mod Columns
-pub mod Days
+pub mod Years
 pub mod Faults
 pub mod Lines
 pub mod Rows

@@ -11,6 +11,7 @@ use Rattle.reg_ranges.specs.declared.evidence.Evidence.{Evidence}
 use Rattle.reg_ranges.specs.declared.evidence.Item.{Item as EvidenceItem}
 use Rattle.reg_ranges.specs.declared.policy.Policy.{Policy}
 use Rattle.reg_early.specs.Calendar.{year_after}
+use Rattle.reg_early.specs.DayReading.{read_day}
 use Rattle.reg_early.specs.EarlyRequirements.{early_unmet}
 use Rattle.reg_early.specs.declared.evidence.EarlyEvidence.{EarlyEvidence}
 use Rattle.reg_early.specs.declared.term.Status.TheVariants as term
@@ -19,7 +20,7 @@ use Rattle.reg_print.specs.Listing.{status_word}
 use Rattle.reg_print.specs.declared.listing.rows.RowStatus.{RowStatus}
 use Rattle.reg_print.specs.declared.listing.rows.RowStatus.TheVariants as status
 use Rattle.reg_import.specs.Columns.{field_in}
-use Rattle.reg_import.specs.Days.{read_day, year_before}
+use Rattle.reg_import.specs.Years.{year_before}
 use Rattle.reg_import.specs.Faults.{◌>>=◌}
 use Rattle.reg_import.specs.declared.column.Column.{Column}
 use Rattle.reg_import.specs.declared.column.Column.TheVariants as column

@@ -2,15 +2,14 @@
 #![tactic(auto)]
 
 pub mod column;
-pub mod day_reading;
 pub mod entry;
 mod errands;
 mod evidence;
 pub mod fault;
 mod fields;
 pub mod import;
-pub mod laws;
 pub mod lines;
 mod marks;
 mod records;
 mod row;
+mod years;

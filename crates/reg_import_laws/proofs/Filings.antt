@@ -15,7 +15,8 @@ use Rattle.reg_core.specs.File.{was_advised}
 use Rattle.reg_core.specs.Rules.{change_to_give}
 use Rattle.reg_core.specs.Step.{acts_as_clerk, is_clerk}
 use Rattle.reg_core.specs.View.{published}
-use Rattle.reg_core.specs.World.{World, RequestName, applied, pending}
+use Rattle.reg_core.specs.Step.{carried}
+use Rattle.reg_core.specs.World.{World, RequestName, pending}
 use Rattle.reg_core.specs.declared.capability.Cap.{Cap}
 use Rattle.reg_core.specs.declared.capability.Kind.TheVariants.{Applicant, Expert}
 use Rattle.reg_core.specs.declared.change.Change.TheVariants as change
@@ -102,25 +103,31 @@ module _ (digest_of : List ℕ → List ℕ) (by : Import) (f : Filing) (allowan
 
   -- the worlds between the lines
   abbrev granted_to : World → World
-  granted_to w = applied w (change.Grant first_digest (applicant_cap f.account f.moment))
+  granted_to w = carried w (Some clerk) f.moment
+      (Some (change.Grant first_digest (applicant_cap f.account f.moment)))
 
   abbrev filed_in : World → World
-  filed_in w = applied (granted_to w) (change.Submit f.account f.reference f.ask)
+  filed_in w = carried (granted_to w) (Some first_digest) f.moment
+      (Some (change.Submit f.account f.reference f.ask))
 
   abbrev assigned_in : World → World
-  assigned_in w = applied (filed_in w) (change.Assign f.account f.reference by.expert)
+  assigned_in w = carried (filed_in w) (Some clerk) f.moment
+      (Some (change.Assign f.account f.reference by.expert))
 
   abbrev expert_in : World → World
   expert_in w =
-      applied (assigned_in w) (change.Grant second_digest (expert_cap by.expert f.moment))
+      carried (assigned_in w) (Some clerk) f.moment
+      (Some (change.Grant second_digest (expert_cap by.expert f.moment)))
 
   abbrev advised_in : World → World
   advised_in w =
-      applied (expert_in w) (change.Advise f.account f.reference by.expert imported)
+      carried (expert_in w) (Some second_digest) f.moment
+      (Some (change.Advise f.account f.reference by.expert imported))
 
   abbrev given_in : World → World
   given_in w =
-      applied w (change.GiveValue f.account f.reference (entry_on (utc_day f.moment) e))
+      carried w (Some clerk) f.moment
+      (Some (change.GiveValue f.account f.reference (entry_on (utc_day f.moment) e)))
 
   module _ (w : World) (can : CanFile w) where
     clock : is_in_clock f.moment ≡ true

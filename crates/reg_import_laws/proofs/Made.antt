@@ -31,11 +31,13 @@ use Rattle.reg_core.specs.declared.ask.Want.TheVariants.{Value}
 use Rattle.reg_core.specs.declared.decide.Decision.TheVariants.{Make}
 use Rattle.reg_core.specs.Step.{acts_as_clerk}
 use Rattle.reg_core.specs.WellKept.{WellKept}
-use Rattle.reg_core.specs.World.{World, Place, RequestName, applied}
+use Rattle.reg_core.specs.Step.{carried}
+use Rattle.reg_core.specs.World.{World, Place, RequestName}
 use Rattle.reg_core.specs.declared.change.Change.TheVariants as change
 use Rattle.reg_core.specs.declared.entry.Registration.{Registration}
 use Rattle.reg_core.proofs.KeyOrders.{place_keys}
-use Rattle.reg_import.specs.Days.{midnight, or_else, year_before, year_before_by}
+use Rattle.reg_early.specs.DayReading.{midnight}
+use Rattle.reg_import.specs.Years.{or_else, year_before, year_before_by}
 use Rattle.reg_import.specs.Lines.{Filing, applicant_token, entry_filing, entry_lines, filing_lines, hold_line, hold_lines, renewal_filing, renewal_lines}
 use Rattle.reg_import.specs.Rows.{may_renew, renewal_for, renewal_on}
 use Rattle.reg_import.specs.declared.entry.EarlyStanding.{EarlyStanding}
@@ -386,7 +388,8 @@ module _ (digest_of : List ℕ → List ℕ) (w : World) (by : Import) where
       requests : after.requests ≡ first_world.requests
 
     abbrev held_world : World
-    held_world = applied first_world (change.SetHold by.registry entry.value true)
+    held_world = carried first_world (Some (digest_of by.clerk)) (midnight entry.first)
+        (Some (change.SetHold by.registry entry.value true))
 
     holds : IsHeld true held_world
     holds =

@@ -17,9 +17,9 @@ use Rattle.reg_core.specs.Queue.{with_advice}
 use Rattle.reg_core.specs.Request.{request_row}
 use Rattle.reg_core.specs.Rules.{change_to_give, hold_rule}
 use Rattle.reg_core.specs.Run.{run, step_of, world_after}
-use Rattle.reg_core.specs.Step.{acts_as_clerk, answer_to, desk_by}
+use Rattle.reg_core.specs.Step.{acts_as_clerk, answer_to, carried, desk_by}
 use Rattle.reg_core.specs.View.{as_queued, published, queue_of, requests_of}
-use Rattle.reg_core.specs.World.{World, applied, applied_if, pending}
+use Rattle.reg_core.specs.World.{World, pending}
 use Rattle.reg_core.specs.Answer.{item}
 use Rattle.reg_core.specs.declared.ask.Ask.{Ask}
 use Rattle.reg_core.specs.declared.capability.Cap.{Cap}
@@ -143,6 +143,10 @@ module _ (digest_of : List ℕ → List ℕ) where
           is = rw (acts, defined, there, may) refl;
         }
 
+  -- the world after a line makes a change
+  abbrev pub after_line : World → Line → Change → World
+  after_line w l made = carried w (Some (digest_of l.token)) l.moment (Some made)
+
   -- ---- Lines
 
   -- lines are accepted, each of them, and lead to a world
@@ -155,17 +159,19 @@ module _ (digest_of : List ℕ → List ℕ) where
   runs_nil w = record { accepted = All-nil (λ (reply : Reply). is_refused reply ≡ false); ends = refl }
 
   pub runs_cons : (w after : World) (l : Line) (lines : List Line) (made : Change)
-      → LineDoes w l made → Runs (applied w made) lines after → Runs w (l ∷ lines) after
+      → LineDoes w l made → Runs (after_line w l made) lines after → Runs w (l ∷ lines) after
   runs_cons w after l lines made does more =
       let P : Reply → Type 0 = λ reply. is_refused reply ≡ false in
       let replies : Answer → List Reply = λ a.
-      reply_of a ∷ run digest_of (applied_if w (change_of a)) (events_of digest_of lines) in
+      reply_of a ∷ run digest_of (carried w (Some (digest_of l.token)) l.moment (change_of a))
+      (events_of digest_of lines) in
       record {
         accepted = subst (λ (a : Answer). All P (replies a)) (sym does.is)
-            (All-cons P (Accepted does.told) (run digest_of (applied w made) (events_of digest_of lines))
+            (All-cons P (Accepted does.told) (run digest_of (after_line w l made) (events_of digest_of lines))
             refl more.accepted);
         ends = subst (λ (a : Answer).
-            world_after digest_of (applied_if w (change_of a)) (events_of digest_of lines) ≡ after)
+            world_after digest_of (carried w (Some (digest_of l.token)) l.moment (change_of a))
+            (events_of digest_of lines) ≡ after)
             (sym does.is) more.ends;
       }
 

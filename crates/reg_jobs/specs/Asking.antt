@@ -11,7 +11,7 @@ use Rattle.clap.specs.declared.error.kind.ErrorKind.TheVariants.{DisplayHelp, Di
 use Rattle.reg_jobs.specs.CommandLine.{office_app}
 use Rattle.reg_jobs.specs.declared.jobs.Job.{Job}
 use Rattle.reg_jobs.specs.declared.jobs.Job.TheVariants.{Script, Import, Init, Serve, Request, Define}
-use Rattle.reg_jobs.specs.declared.jobs.Job.TheVariants.{Listing, Due, Publish, Verify, Check, Copy, Tokens, Revoke}
+use Rattle.reg_jobs.specs.declared.jobs.Job.TheVariants.{Listing, Due, Publish, Verify, Check, Copy, Journal, Tokens, Revoke}
 use Rattle.reg_jobs.specs.declared.jobs.Job.TheVariants.{Version, Help}
 use Rattle.reg_jobs.specs.declared.jobs.Which.{Which}
 use Rattle.reg_jobs.specs.declared.jobs.Which.TheVariants.{Digest, Account}
@@ -112,6 +112,9 @@ IsJobOf name rows (Check file) =
 IsJobOf name rows (Copy file folder) =
     (name ≡ codes "copy") × IsArgumentOf (codes "FILE") rows (string_bytes file)
     × IsArgumentOf (codes "FOLDER") rows (string_bytes folder)
+IsJobOf name rows (Journal file digest) =
+    (name ≡ codes "journal") × IsArgumentOf (codes "FILE") rows (string_bytes file)
+    × (first_of (codes "digest") rows ≡ option_map string_bytes digest)
 IsJobOf name rows (Tokens source token) =
     (name ≡ codes "tokens") × IsArgumentOf (codes "SOURCE") rows (string_bytes source)
     × (first_of (codes "token") rows ≡ option_map string_bytes token)
@@ -169,8 +172,9 @@ HasKeepingJob name rows =
     Where (bytes_eq name (codes "check")) (HasText (codes "FILE") rows)
     (Where (bytes_eq name (codes "copy"))
     (HasText (codes "FILE") rows × HasText (codes "FOLDER") rows)
+    (Where (bytes_eq name (codes "journal")) (HasText (codes "FILE") rows)
     (Where (bytes_eq name (codes "tokens")) (HasText (codes "SOURCE") rows)
-    (Where (bytes_eq name (codes "revoke")) (HasText (codes "SOURCE") rows) ⊥)))
+    (Where (bytes_eq name (codes "revoke")) (HasText (codes "SOURCE") rows) ⊥))))
 
 -- there is a job of this name among those that tell others what is published or look after an
 -- office, and the values that it needs are there

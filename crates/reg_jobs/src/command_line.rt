@@ -71,6 +71,7 @@ fn job_of(alloc: Global, matches: &ArgMatches) -> Result<Job, JobFault>
         "verify" => verify_of(alloc, inner),
         "check" => check_of(alloc, inner),
         "copy" => copy_of(alloc, inner),
+        "journal" => journal_of(alloc, inner),
         "tokens" => tokens_of(alloc, inner),
         "revoke" => revoke_of(alloc, inner),
         _ => Err(JobFault::Line),
@@ -259,6 +260,17 @@ fn copy_of(alloc: Global, matches: &ArgMatches) -> Result<Job, JobFault>
     Ok(Job::Copy {
         file: text(alloc, matches, "FILE")?,
         folder: text(alloc, matches, "FOLDER")?,
+    })
+}
+
+fn journal_of(alloc: Global, matches: &ArgMatches) -> Result<Job, JobFault>
+    ensures said { IfOk result (IsJobOf (codes "journal") (rows_of (found_of matches.now))) }
+    ensures given { HasText (codes "FILE") (rows_of (found_of matches.now))
+        → MatchResult result IsInRange (λ fault. fault ≡ Memory) }
+{
+    Ok(Job::Journal {
+        file: text(alloc, matches, "FILE")?,
+        digest: optional_text(alloc, matches, "digest")?,
     })
 }
 

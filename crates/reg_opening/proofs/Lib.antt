@@ -9,4 +9,5 @@ pub mod RowidStatements
 pub mod RowidLemmas
 pub mod Causes
 pub mod Unfed
+pub mod ActsRead
 pub mod OpenLemmas

@@ -1,6 +1,8 @@
 //! What a store is to an office that opens it: the columns of each row are read once, and fed to an audit.
 #![tactic(auto)]
 
+mod acts;
+pub mod beside;
 mod fed;
 mod feed;
 mod feeder;

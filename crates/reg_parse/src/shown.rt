@@ -100,6 +100,7 @@ impl Operation {
             Operation::RegistryCsv => LISTING_PATH,
             Operation::BlocksCsv => "/listings/blocks",
             Operation::PoolList => "/pool",
+            Operation::Token => "/token",
             Operation::Own => "/requests",
             Operation::OwnOne | Operation::Submit | Operation::Withdraw => REQUEST_PATH,
             Operation::Holdings => "/holdings",
@@ -108,6 +109,8 @@ impl Operation {
             Operation::Agents => "/agents",
             Operation::Principals => "/principals",
             Operation::PrincipalRows => PRINCIPAL_PATH,
+            Operation::Times => "/times",
+            Operation::PrincipalTimes => PRINCIPAL_TIMES_PATH,
             Operation::Queue => "/queue",
             Operation::Advise => REVIEW_PATH,
             Operation::AllRequests => "/desk/requests",
@@ -124,6 +127,9 @@ impl Operation {
             Operation::RevokeDigits => TOKEN_PATH,
             Operation::RevokeAccount => ACCOUNT_PATH,
             Operation::CountRows => "/desk/counts",
+            Operation::ActsOn => DAY_PATH,
+            Operation::ActsBy => ACTOR_PATH,
+            Operation::ActsAbout => HISTORY_PATH,
         }
     }
 }

@@ -144,6 +144,11 @@ returns-in-copy c =
     let both = job_but (goal.at.returns-in-copy c).In-Some (codes "copy") c.copy_of.result c.in-copy.is c.copy_of.ensures.said (λ h. c.copy_of.ensures.given h.0 h.1) in
     record { said = both.0; given = both.1 }
 
+pub returns-in-journal : goal.returns-in-journal
+returns-in-journal c =
+    let both = job_but (goal.at.returns-in-journal c).In-Some (codes "journal") c.journal_of.result c.in-journal.is c.journal_of.ensures.said c.journal_of.ensures.given in
+    record { said = both.0; given = both.1 }
+
 pub returns-in-tokens : goal.returns-in-tokens
 returns-in-tokens c =
     let both = job_at (goal.at.returns-in-tokens c).In-Some (codes "tokens") c.tokens_of.result c.in-tokens.is c.tokens_of.ensures.said

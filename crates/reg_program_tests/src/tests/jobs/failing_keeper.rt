@@ -9,11 +9,13 @@ use reg_core::case_file::CaseFile;
 use reg_core::change::Change;
 use reg_core::entry::Entry;
 use reg_core::holding::{Holding, Listed};
+use reg_core::journal::Act;
 use reg_core::link::LinkRow;
 use reg_core::queue::QueueRow;
 use reg_core::request::Request;
 use reg_core::rows::Rows;
 use reg_core::text::{Account, Digest, Name, Ref};
+use reg_early::day::Day;
 use reg_keeper::keeper::{Fault, Keeper};
 use reg_ranges::policy::Policy;
 use reg_ranges::table::RangeTable;
@@ -162,8 +164,27 @@ impl<K: Keeper> Keeper for FailingKeeper<K> {
         Err(Fault::Store)
     }
 
+    fn acts_on(&mut self, _day: Day) -> Result<Rows<Act>, Fault> {
+        Err(Fault::Store)
+    }
+
+    fn acts_by(&mut self, _account: &Account) -> Result<Rows<Act>, Fault> {
+        Err(Fault::Store)
+    }
+
+    fn acts_about(&mut self, _account: &Account, _reference: &Ref) -> Result<Rows<Act>, Fault> {
+        Err(Fault::Store)
+    }
+
     fn apply(&mut self, change: Change) -> Result<(), Fault> {
         match self.keeper.apply(change) {
+            Ok(()) => Ok(()),
+            Err(_) => Err(Fault::Store),
+        }
+    }
+
+    fn record(&mut self, change: Change, acts: &[Act]) -> Result<(), Fault> {
+        match self.keeper.record(change, acts) {
             Ok(()) => Ok(()),
             Err(_) => Err(Fault::Store),
         }

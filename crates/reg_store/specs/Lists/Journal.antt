@@ -1,0 +1,9 @@
+-- The acts that are kept, the latest last.
+use Rattle.std.specs.Global.{Vec}
+use Rattle.std.specs.Prelude.{List, []}
+use Rattle.reg_core.specs.Journal.{with_acts}
+use Rattle.reg_core.specs.declared.journal.Act.{Act}
+
+-- as a journal, the latest first
+abbrev pub journal_held : Vec Act → List Act
+journal_held acts = with_acts acts.items []
