@@ -1,4 +1,5 @@
 pub mod Approvals
+pub mod Arrivals
 pub mod CapLists
 pub mod Counted
 pub mod Decided

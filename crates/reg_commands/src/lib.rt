@@ -6,6 +6,7 @@ mod acts;
 pub mod admission;
 mod agents;
 pub mod applicant;
+mod arrivals;
 pub mod capabilities;
 pub mod carrying;
 pub mod clerk;
