@@ -1,5 +1,5 @@
 pub mod Approvals
-pub mod Arrivals
+pub mod ArrivalsInOrder
 pub mod CapLists
 pub mod Counted
 pub mod Decided

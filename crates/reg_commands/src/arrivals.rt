@@ -1,9 +1,10 @@
 //! The requests that wait, in the order in which they came.
-ghost use Rattle.std.specs.Prelude.{◌≡◌, ◌++◌, ◌∷◌, [], IfOk, map};
+ghost use Rattle.std.specs.Prelude.{◌≡◌, IfOk, map};
 ghost use Rattle.reg_core.specs.Arrivals.{waiting_list};
 ghost use Rattle.reg_keeper.specs.Keeper.{Selects};
 ghost use Rattle.reg_commands.specs.Arrivals.{arrived_in};
 
+use crate::gathering::with_row;
 use reg_core::case_file::{CaseFile, WaitingFile};
 use reg_core::rows::Rows;
 use reg_keeper::keeper::{Fault, Keeper};
@@ -43,7 +44,7 @@ fn arrived_each<K: Keeper>(
     let mut arrived = Vec::new(alloc);
     for file in files {
         let one = arrived_one(keeper, file)?;
-        arrived = with_one(arrived, one)?;
+        arrived = with_row(arrived, one)?;
     }
     Ok(arrived)
 }
@@ -66,14 +67,6 @@ fn arrived_one<K: Keeper>(keeper: &mut K, file: CaseFile) -> Result<Arrived, Fau
             Err(fault)
         }
     }
-}
-
-// These, with one more.
-fn with_one(mut arrived: Vec<Arrived>, one: Arrived) -> Result<Vec<Arrived>, AllocError>
-    ensures { IfOk result (λ more. more.items ≡ arrived.items ++ one ∷ []) }
-{
-    arrived.push(one)?;
-    Ok(arrived)
 }
 
 // The files of these, in their order.

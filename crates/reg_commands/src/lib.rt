@@ -14,6 +14,7 @@ pub mod counting;
 mod desk;
 mod digest;
 pub mod expert;
+mod gathering;
 mod ground;
 mod holdings;
 mod journal;

@@ -7,6 +7,7 @@ ghost use Rattle.reg_keeper.specs.Keeper.{Selects};
 ghost use Rattle.reg_commands.specs.Answers.{answer_about_times, row_of_times};
 ghost use Rattle.reg_commands.specs.Performs.{Performs};
 
+use crate::gathering::with_row;
 use crate::stop::Stop;
 use reg_core::command::TimesCommand;
 use reg_core::journal::{Act, Deed};
@@ -52,8 +53,9 @@ fn times_of<K: Keeper>(
         (λ w rows. rows ≡ map (row_of_times w) requests.now) }
 {
     let mut rows = Vec::with_capacity(alloc, requests.len())?;
-    'requests: for request in requests {
-        rows.push(times_of_one(keeper, request)?)?;
+    for request in requests {
+        let row = times_of_one(keeper, request)?;
+        rows = with_row(rows, row)?;
     }
     Ok(Rows::from_vec(rows))
 }

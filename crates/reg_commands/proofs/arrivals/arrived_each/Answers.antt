@@ -1,10 +1,7 @@
-use Rattle.std.proofs.Common.{◌≡◌, ◌++◌, ◌∷◌, [], map, sym, ap, subst, ◌∙◌, rules}
-use Rattle.std.specs.Prelude.{IsErrAnd}
+use Rattle.std.proofs.Common.{◌≡◌, ◌++◌, ◌∷◌, [], map, sym, ap, ◌∙◌, rules}
 use Rattle.std.proofs.lemmas.List.{map-append, map-id}
 use Rattle.std.proofs.lemmas.Iterator.Adapters.{YieldsList-from_vec}
 use Rattle.std.proofs.lemmas.Iterator.Consumers.{YieldsList-end}
-use Rattle.reg_keeper.specs.declared.keeper.Fault.{Fault}
-use Rattle.reg_keeper.specs.declared.keeper.Fault.TheVariants.{Memory}
 use Rattle.reg_keeper.proofs.Premises.{goes_on_there}
 use Rattle.reg_commands.specs.Arrivals.{arrived_in}
 use Rattle.reg_commands.proofs.Selected.{selects_failed, selects_made, selects_stopped, selects_then}
@@ -37,11 +34,8 @@ returns-in_err-one g c =
 
 pub returns-in_err-arrived : goal.returns-in_err-arrived
 returns-in_err-arrived g c =
-    let memory : c.in_err-arrived.field-0.0 ≡ Memory = search rules in
     selects_stopped (selects_unmade c.loop-file.invariant c.in_ok-one.ensures)
-    c.from_residual-in_err-arrived.result
-    (subst (λ (f : Fault). IsErrAnd c.from_residual-in_err-arrived.result (λ e. e ≡ f)) memory
-    c.from_residual-in_err-arrived.ensures.1)
+    c.from_residual-in_err-arrived.result c.from_residual-in_err-arrived.ensures.1
 
 pub returns : goal.returns
 returns g c =

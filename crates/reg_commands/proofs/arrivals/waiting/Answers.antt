@@ -1,6 +1,6 @@
 use Rattle.std.proofs.Common.{List, IsPermutation, map, subst, ap, ◌∙◌, rules}
 use Rattle.reg_core.specs.File.{waiting_files}
-use Rattle.reg_commands.proofs.Arrivals.{waiting_list-sorted}
+use Rattle.reg_commands.proofs.ArrivalsInOrder.{waiting_list-sorted}
 use Rattle.reg_commands.specs.Arrivals.{arrived_in}
 use Rattle.reg_commands.specs.declared.arrivals.Arrived.{Arrived}
 use Rattle.reg_commands.proofs.Selected.{selects_made, selects_then}

@@ -74,6 +74,10 @@ module _ (w : World) where
   all_made (one ∷ all) h =
       λ i. All-head IsMade one all h i ∷ all_made all (All-tail IsMade one all h) i
 
+  -- the place of a name
+  abbrev placed : RequestName → ArrivalPlace
+  placed name = (arrival_number w.journal name, name)
+
   -- entries that differ and are sorted by their places ascend
   ascending : (es : List (RequestName × Case)) → AreApart (arrival_cmp w.journal) es
       → IsSortedByKey arrival_place arrival_place_cmp (map arrived es)
@@ -102,10 +106,6 @@ module _ (w : World) where
       (omega arith) inside)
       no_less)
     where
-      -- the place of a name
-      abbrev placed : RequestName → ArrivalPlace
-      placed name = (arrival_number w.journal name, name)
-
       at : (k : ℕ) → k < length (e ∷ es)
           → arrival_place (get_or (map arrived (e ∷ es)) k (arrived e))
           ≡ placed (get_or (keys_of (e ∷ es)) k e.0)
