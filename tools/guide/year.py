@@ -30,8 +30,8 @@ OFTEN = '[Unit]\nStartLimitIntervalSec=0\n'
 SETUP = {'As a service': range(9), 'A proxy with TLS': [0, 1], 'Publishing': range(3), 'The desk in the browser': range(9), 'Monitoring': range(9)}
 # When the jobs of timers are run that are due then: the second on the first day of a month, and people send their requests before the last.
 MORNING, EVENING = ['04:30', '06:00'], '20:20'
-# The office's own file as the version before left it. It had no agents.
-OLDER = f'runuser -u registry -- sqlite3 {DATABASE} "DROP TABLE agents; UPDATE office SET version = 2"'
+# The office's own file as the version before left it. It had no journal.
+OLDER = f'runuser -u registry -- sqlite3 {DATABASE} "DROP TABLE journal; UPDATE office SET version = 3"'
 LOGS = 'journalctl -q --rotate; logrotate --force /etc/logrotate.d/nginx'
 HOOK = re.search(r'--deploy-hook "([^"]*)"', PAGE.read_text())[1]
 REACHED = re.search(r"`(curl [^`]*cannot be reached[^`]*)`", PAGE.read_text())[1]

@@ -99,10 +99,7 @@ fn valid_at(existing: Option<Cap>, moment: u64) -> Result<Cap, Refusal>
 fn serving(existing: Option<Cap>, moment: u64, kind: Kind) -> Result<Cap, Refusal>
     ensures { result ≡ admitted existing moment kind }
 {
-    let cap = existing.ok_or(Refusal::Token)?;
-    if cap.until.seconds() <= moment {
-        return Err(Refusal::Token);
-    }
+    let cap = valid_at(existing, moment)?;
     if cap.kind == kind {
         Ok(cap)
     } else {

@@ -5,8 +5,9 @@ ghost use Rattle.reg_commands.specs.Caller.{stamp_by};
 ghost use Rattle.reg_commands.specs.Performs.{Performs};
 
 use crate::admission::Caller;
+use crate::journal::{list_actor, list_day, list_request};
 use crate::stop::Stop;
-use crate::{capabilities, counting, desk, journal, registers};
+use crate::{capabilities, counting, desk, registers};
 use reg_core::command::ClerkCommand;
 use reg_core::told::Told;
 use reg_keeper::keeper::Keeper;
@@ -48,10 +49,8 @@ pub fn perform<K: Keeper>(
             capabilities::revoke_account(alloc, keeper, caller, account)
         }
         ClerkCommand::CountRows => counting::tell_counts(keeper, caller),
-        ClerkCommand::ActsOn(day) => journal::list_day(keeper, *day),
-        ClerkCommand::ActsBy(account) => journal::list_actor(keeper, account),
-        ClerkCommand::ActsAbout(account, reference) => {
-            journal::list_request(keeper, account, reference)
-        }
+        ClerkCommand::ActsOn(day) => list_day(keeper, *day),
+        ClerkCommand::ActsBy(account) => list_actor(keeper, account),
+        ClerkCommand::ActsAbout(account, reference) => list_request(keeper, account, reference),
     }
 }

@@ -38,7 +38,7 @@ use Rattle.reg_tables.proofs.GivenRows.{AddsGiven}
 use Rattle.reg_tables.proofs.InsertStatements as inserts
 use Rattle.reg_tables.proofs.Library.Casts.{cast_int, cast_null}
 use Rattle.reg_tables.proofs.PutStatements as puts
-use Rattle.reg_tables.proofs.Statements.{acts_of_actor, acts_of_day, acts_of_request}
+use Rattle.reg_tables.proofs.Statements.{acts_of_actor, acts_of_day, acts_of_request, all_acts}
 use Rattle.reg_tables.proofs.Statements.{advice_by_key}
 use Rattle.reg_tables.proofs.Statements.{agent_by_key, agents_of_principal, principals_of_agent}
 use Rattle.reg_tables.proofs.Statements.{hold_by_key, holds_of_registry}
@@ -319,6 +319,9 @@ takes_link = record {
 }
 
 -- ---- Acts
+
+pub lists_acts : Chooses office.journal texts.SELECT_JOURNAL.now [] (λ number act. true)
+lists_acts = by_all office.journal laws.journal _ _ all_acts
 
 pub lists_acts_on : (day : ℕ)
     → Chooses office.journal texts.SELECT_ACTS_ON.now (whole_value day ∷ [])

@@ -3,6 +3,7 @@ ghost use Rattle.std.specs.Prelude.{◌≡◌, IfOk, map};
 ghost use Rattle.sqlite.specs.Held.{state};
 ghost use Rattle.reg_core.specs.Journal.{acts_where, is_about, is_by, is_on};
 ghost use Rattle.reg_content.specs.Calls.{IsKeeping, Looks};
+ghost use Rattle.reg_keeper.specs.Keeper.{all_acts};
 
 use crate::kept::list;
 use reg_core::journal::Act;
@@ -14,9 +15,23 @@ use reg_records::acts::NumberedAct;
 use reg_records::column::{name_value, whole_value};
 use reg_statements::loads::Loads;
 use reg_tables::reports::Reports;
-use reg_tables::texts::{SELECT_ACTS_ABOUT, SELECT_ACTS_BY, SELECT_ACTS_ON};
+use reg_tables::texts::{SELECT_ACTS_ABOUT, SELECT_ACTS_BY, SELECT_ACTS_ON, SELECT_JOURNAL};
 use sqlite::Connection;
 use std::alloc::{AllocError, Global};
+
+/// All acts, oldest first.
+#[tactic(auto, using(reg_tables::proofs::Statements::all_acts))]
+pub fn acts<S: Reports + Loads>(
+    alloc: Global,
+    conn: &mut Connection<S>,
+) -> Result<Rows<Act>, Fault>
+    requires { IsKeeping (state S.Store conn.old) }
+    ensures { Looks (state S.Store conn.old) (state S.Store conn.new) result
+        (λ w acts. acts ≡ all_acts w) }
+{
+    let rows = list::<S, NumberedAct>(alloc, conn, SELECT_JOURNAL, &[])?;
+    Ok(Rows::from_vec(acts_in(alloc, rows.as_slice())?))
+}
 
 /// The acts of a day, oldest first.
 #[tactic(auto, using(reg_tables::proofs::Statements::acts_of_day))]

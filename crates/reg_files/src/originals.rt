@@ -1,9 +1,9 @@
 //! Where the originals of copies are.
-ghost use Rattle.std.specs.Prelude.{IfOk, MatchResult};
+ghost use Rattle.std.specs.Prelude.{◌≢◌, IfErr, IfOk, MatchResult};
 ghost use Rattle.reg_files.specs.Copies.{IsSeenAlone};
 
 use crate::explained;
-use reg_program::faults::Undone;
+use reg_program::faults::{JobFailure, Undone};
 use reg_sql::snapshot::{Snapshot, snapshot_at};
 
 /// What has the offices in files, of which copies are taken.
@@ -23,7 +23,8 @@ pub trait Originals {
     /// not well kept; with `Busy` where it was changed each time that it was read.
     fn take(&self, path: &str) -> Result<Snapshot, Undone>
         ensures taken { MatchResult result (Taken self.now path.now) (Untaken self.now path.now) }
-        ensures seen { IfOk result IsSeenAlone };
+        ensures seen { IfOk result IsSeenAlone }
+        ensures untold { IfErr result (λ why. why ≢ Undone.Fault JobFailure.Journal) };
 }
 
 /// The files of the system. Which of them is read no contract can say.

@@ -1,5 +1,5 @@
 -- The acts of an office as a text, each of which is tied to all before it.
-use Rattle.std.specs.Prelude.{ℕ, ◌+◌, List, [], ◌∷◌, ◌++◌, length, codes, Option, Some, None, option_map, unwrap_or}
+use Rattle.std.specs.Prelude.{◌≡◌, ℕ, ◌+◌, List, [], ◌∷◌, ◌++◌, length, codes, Option, Some, None, option_map, unwrap_or}
 use Rattle.std.specs.Fmt.{decimal}
 use Rattle.reg_blocks.specs.Digits.{block_text, prefix_text}
 use Rattle.reg_core.specs.ActKind.{act_kind_of, act_kind_word}
@@ -72,3 +72,12 @@ acts_header =
 -- all acts of an office, the oldest first
 abbrev pub acts_text : List Act → List ℕ
 acts_text acts = acts_header ++ text_of_acts [] acts
+
+-- and the digest of each
+abbrev pub acts_digests : List Act → List (List ℕ)
+acts_digests acts = digests_of_acts [] acts
+
+-- this is the text of these acts, and these are the digests
+pub record IsTextOfActs (acts : List Act) (text : List ℕ) (digests : List (List ℕ)) : Type 0 where
+  pub text_is : text ≡ acts_text acts
+  pub digests_are : digests ≡ acts_digests acts

@@ -2,7 +2,7 @@
 ghost use Rattle.std.specs.Prelude.{◌≡◌, ◌++◌, ◌∷◌, [], ℕ, codes, option_map, string_bytes, IfOk, OnOk};
 ghost use Rattle.std.specs.Fmt.{decimal};
 ghost use Rattle.reg_blocks.specs.Digits.{block_text};
-ghost use Rattle.reg_history.specs.Acts.{act_fields, acts_header, next_act_digest, next_act_line, text_or_none};
+ghost use Rattle.reg_history.specs.Acts.{IsTextOfActs, act_fields, acts_header, next_act_digest, next_act_line, text_or_none};
 ghost use Rattle.reg_history.specs.Acts.{other_text as text_of_other};
 ghost use Rattle.reg_history.specs.Chain.{digest_of, line_of};
 ghost use Rattle.reg_history.specs.Moment.{moment_text as text_of_moment};
@@ -37,6 +37,18 @@ impl ActsText {
             text,
             chain: Chain::new(alloc),
         })
+    }
+
+    /// The text of these acts, of which the oldest is the first. An error comes only where there is no
+    /// memory, or more acts than can be counted.
+    pub fn of(alloc: Global, acts: &[Act]) -> Result<Self, AllocError>
+        ensures { IfOk result (λ whole. IsTextOfActs acts.now whole.text.items whole.chain.digests.items) }
+    {
+        let mut whole = ActsText::new(alloc)?;
+        for act in acts {
+            whole.add(alloc, act)?;
+        }
+        Ok(whole)
     }
 
     /// Adds the act that comes next. An error comes only where there is no memory, or more acts than can

@@ -18,7 +18,7 @@ ghost use Rattle.reg_core.specs.Request.{request_row, request_rows};
 ghost use Rattle.reg_core.specs.View.{agents_of, entries_of, holdings_of, principals_of, queue_of, requests_of};
 ghost use Rattle.reg_core.specs.WellKept.{WellKept, CanApply};
 ghost use Rattle.reg_core.specs.World.{World, applied};
-ghost use Rattle.reg_keeper.specs.Keeper.{Selects, Makes, applied_with};
+ghost use Rattle.reg_keeper.specs.Keeper.{Selects, Makes, all_acts, applied_with};
 
 use reg_blocks::block::Block;
 use reg_blocks::pool::Pool;
@@ -226,6 +226,11 @@ pub trait Keeper {
     fn links(&mut self) -> Result<Rows<LinkRow>, Fault>
         ensures { Selects world Holds Sound FAILS self.old self.new result
             (λ w rows. rows ≡ link_rows w.agents) };
+
+    /// All acts, oldest first.
+    fn acts(&mut self) -> Result<Rows<Act>, Fault>
+        ensures { Selects world Holds Sound FAILS self.old self.new result
+            (λ w acts. acts ≡ all_acts w) };
 
     /// The acts of a day, oldest first.
     fn acts_on(&mut self, day: Day) -> Result<Rows<Act>, Fault>

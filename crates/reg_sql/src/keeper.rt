@@ -17,7 +17,7 @@ use crate::vacancies::vacancies_of;
 use reg_blocks::block::Block;
 use reg_blocks::pool::Pool;
 use reg_blocks::size::Size;
-use reg_content::acts::{acts_about, acts_by, acts_on};
+use reg_content::acts::{acts, acts_about, acts_by, acts_on};
 use reg_content::arrivals::arrival;
 use reg_content::blocks::{blocks, holding, holdings};
 use reg_content::caps::cap;
@@ -310,6 +310,10 @@ impl<S: Reports + Loads> Keeper for SqlKeeper<S> {
 
     fn links(&mut self) -> Result<Rows<LinkRow>, Fault> {
         links(self.tables.alloc, &mut self.tables.conn)
+    }
+
+    fn acts(&mut self) -> Result<Rows<Act>, Fault> {
+        acts(self.tables.alloc, &mut self.tables.conn)
     }
 
     fn acts_on(&mut self, day: Day) -> Result<Rows<Act>, Fault> {

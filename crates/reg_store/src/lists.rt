@@ -27,7 +27,7 @@ mod requests;
 mod reviews;
 
 use crate::maps::{row_at, set_row, unset_row};
-use acts::{Choice, chosen};
+use acts::{ActChoice, chosen};
 use arrivals::Arrivals;
 use blocks::Blocks;
 use caps::{Caps, cap_in, caps_in, take_caps};
@@ -304,16 +304,21 @@ impl Keeper for ListKeeper {
         Ok(self.links.all(self.alloc)?)
     }
 
+    fn acts(&mut self) -> Result<Rows<Act>, Fault> {
+        Ok(chosen(self.alloc, self.journal.as_slice(), ActChoice::Every)?)
+    }
+
     fn acts_on(&mut self, day: Day) -> Result<Rows<Act>, Fault> {
-        Ok(chosen(self.alloc, self.journal.as_slice(), Choice::On(day))?)
+        Ok(chosen(self.alloc, self.journal.as_slice(), ActChoice::On(day))?)
     }
 
     fn acts_by(&mut self, account: &Account) -> Result<Rows<Act>, Fault> {
-        Ok(chosen(self.alloc, self.journal.as_slice(), Choice::By(account))?)
+        let choice = ActChoice::By(account);
+        Ok(chosen(self.alloc, self.journal.as_slice(), choice)?)
     }
 
     fn acts_about(&mut self, account: &Account, reference: &Ref) -> Result<Rows<Act>, Fault> {
-        let choice = Choice::About(account, reference);
+        let choice = ActChoice::About(account, reference);
         Ok(chosen(self.alloc, self.journal.as_slice(), choice)?)
     }
 

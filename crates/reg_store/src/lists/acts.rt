@@ -11,7 +11,9 @@ use std::alloc::{AllocError, Global};
 
 /// Which acts are chosen.
 #[derive(Clone, Copy)]
-pub enum Choice<'a> {
+pub enum ActChoice<'a> {
+    /// All.
+    Every,
     /// Those of a day.
     On(Day),
     /// Those that an account made.
@@ -20,21 +22,22 @@ pub enum Choice<'a> {
     About(&'a Account, &'a Ref),
 }
 
-impl Choice<'_> {
+impl ActChoice<'_> {
     // Whether an act is among them.
     fn has(&self, act: &Act) -> bool
         ensures { result ≡ chosen_by self.now act.now }
     {
         match self {
-            Choice::On(day) => is_on(act, *day),
-            Choice::By(account) => is_by(act, account),
-            Choice::About(account, reference) => is_about(act, account, reference),
+            ActChoice::Every => true,
+            ActChoice::On(day) => is_on(act, *day),
+            ActChoice::By(account) => is_by(act, account),
+            ActChoice::About(account, reference) => is_about(act, account, reference),
         }
     }
 }
 
 /// Those of these acts, in order.
-pub fn chosen(alloc: Global, acts: &[Act], choice: Choice<'_>) -> Result<Rows<Act>, AllocError>
+pub fn chosen(alloc: Global, acts: &[Act], choice: ActChoice<'_>) -> Result<Rows<Act>, AllocError>
     ensures { IfOk result (λ rows. rows ≡ filter (chosen_by choice) acts.now) }
 {
     Ok(Rows::from_vec(

@@ -164,6 +164,10 @@ impl<K: Keeper> Keeper for FailingKeeper<K> {
         Err(Fault::Store)
     }
 
+    fn acts(&mut self) -> Result<Rows<Act>, Fault> {
+        Err(Fault::Store)
+    }
+
     fn acts_on(&mut self, _day: Day) -> Result<Rows<Act>, Fault> {
         Err(Fault::Store)
     }
