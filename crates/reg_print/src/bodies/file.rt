@@ -1,13 +1,11 @@
 //! Prints requests with all that the desk has of them.
-ghost use Rattle.std.specs.Prelude.{OnOk};
-ghost use Rattle.reg_print.specs.Printed.{PrintedMembers};
+ghost use Rattle.reg_print.specs.Printed.{IfWhole, PrintedMembers};
 ghost use Rattle.reg_print.specs.Trees.File.{file_members, file_tree, waiting_tree};
 
 use crate::bodies::act::put_number_if;
 use crate::bodies::request::put_standing;
 use crate::printing::{Itself, Print, Printer};
 use reg_core::case_file::{CaseFile, WaitingFile};
-use std::alloc::AllocError;
 
 /// A request as the desk sees it, also with its experts, and their advice.
 impl Print<Itself> for CaseFile {
@@ -15,11 +13,10 @@ impl Print<Itself> for CaseFile {
 
     ghost levels = { 3 };
 
-    fn print(&self, out: &mut Printer) -> Result<(), AllocError> {
-        out.open_object()?;
-        put_file(out, self)?;
-        out.close_object()?;
-        Ok(())
+    fn print(&self, out: &mut Printer) {
+        out.open_object();
+        put_file(out, self);
+        out.close_object();
     }
 }
 
@@ -29,23 +26,21 @@ impl Print<Itself> for WaitingFile {
 
     ghost levels = { 3 };
 
-    fn print(&self, out: &mut Printer) -> Result<(), AllocError> {
-        out.open_object()?;
-        put_file(out, &self.file)?;
-        put_number_if(out, "submitted", self.submitted)?;
-        out.close_object()?;
-        Ok(())
+    fn print(&self, out: &mut Printer) {
+        out.open_object();
+        put_file(out, &self.file);
+        put_number_if(out, "submitted", self.submitted);
+        out.close_object();
     }
 }
 
 // The members of a request with its experts and their advice.
-fn put_file(out: &mut Printer, file: &CaseFile) -> Result<(), AllocError>
-    ensures { OnOk result (PrintedMembers out.old.json out.new.json 2 (file_members file.now)) }
+fn put_file(out: &mut Printer, file: &CaseFile)
+    ensures { IfWhole out.old out.new (PrintedMembers out.old.json out.new.json 2 (file_members file.now)) }
 {
-    out.put("account", &file.request.account)?;
-    out.put("advice", &file.advice)?;
-    out.put("ask", &file.request.ask)?;
-    out.put("experts", &file.experts)?;
-    put_standing(out, &file.request)?;
-    Ok(())
+    out.put("account", &file.request.account);
+    out.put("advice", &file.advice);
+    out.put("ask", &file.request.ask);
+    out.put("experts", &file.experts);
+    put_standing(out, &file.request);
 }
