@@ -5,6 +5,7 @@ pub mod Counted
 pub mod Decided
 pub mod Deeds
 pub mod Digests
+pub mod LastMoments
 pub mod Pages
 pub mod Requests
 pub mod Rows

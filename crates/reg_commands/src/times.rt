@@ -84,20 +84,26 @@ fn times_of_one<K: Keeper>(keeper: &mut K, request: &Request) -> Result<RequestT
 fn last_submission(acts: &[Act], account: &Account, reference: &Ref) -> Option<u64>
     ensures { result ≡ last_moment (submits_it (account.now, reference.now)) (reverse acts.now) }
 {
-    acts.iter()
-        .rev()
-        .find(|act| submits(&act.deed, account, reference))
-        .and_then(|act| act.stamp.moment)
+    let mut moment = None;
+    for act in acts {
+        if submits(&act.deed, account, reference) {
+            moment = act.stamp.moment;
+        }
+    }
+    moment
 }
 
 // The moment of the last of these acts by which it was decided, if it has one.
 fn last_decision(acts: &[Act], account: &Account, reference: &Ref) -> Option<u64>
     ensures { result ≡ last_moment (decides_it (account.now, reference.now)) (reverse acts.now) }
 {
-    acts.iter()
-        .rev()
-        .find(|act| decides(&act.deed, account, reference))
-        .and_then(|act| act.stamp.moment)
+    let mut moment = None;
+    for act in acts {
+        if decides(&act.deed, account, reference) {
+            moment = act.stamp.moment;
+        }
+    }
+    moment
 }
 
 // By this the request came.
