@@ -1,5 +1,6 @@
 //! Offices in files of SQLite.
 #![tactic(auto)]
+
 ghost use Rattle.std.specs.Prelude.{◌≢◌, IfOk};
 
 mod access;
