@@ -24,7 +24,6 @@ pub mod Pairs
 pub mod Links
 pub mod Blocks
 pub mod Journal
-pub mod Acts
 pub mod Content
 
 -- the one that the keeper in memory holds
