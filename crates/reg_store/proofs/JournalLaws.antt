@@ -1,5 +1,5 @@
 -- Acts that are kept one after the other.
-use Rattle.std.proofs.Common.{◌≡◌, ◌∙◌, Bool, true, List, [], ◌∷◌, ◌++◌, ap, filter, refl, sym}
+use Rattle.std.proofs.Common.{◌≡◌, ◌∙◌, Bool, true, List, [], ◌∷◌, ◌++◌, ap, filter, refl}
 use Rattle.reg_core.specs.Journal.{acts_in_order, with_acts}
 use Rattle.reg_core.specs.declared.journal.Act.{Act}
 use Rattle.reg_core.proofs.Journals.{in_order-with}
