@@ -21,10 +21,7 @@ use std::alloc::{AllocError, Global};
 
 /// All acts, oldest first.
 #[tactic(auto, using(reg_tables::proofs::Statements::all_acts))]
-pub fn acts<S: Reports + Loads>(
-    alloc: Global,
-    conn: &mut Connection<S>,
-) -> Result<Rows<Act>, Fault>
+pub fn acts<S: Reports + Loads>(alloc: Global, conn: &mut Connection<S>) -> Result<Rows<Act>, Fault>
     requires { IsKeeping (state S.Store conn.old) }
     ensures { Looks (state S.Store conn.old) (state S.Store conn.new) result
         (λ w acts. acts ≡ all_acts w) }

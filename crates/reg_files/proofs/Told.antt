@@ -1,23 +1,22 @@
 -- Acts of which less is told.
-use Rattle.std.proofs.Common.{◌≡◌, ℕ, true, false, List, Option, Result, Ok, Err, refl}
+use Rattle.std.proofs.Common.{◌≡◌, ℕ, List, Option, Result, Ok, Err, refl}
 use Rattle.std.specs.Prelude.{⊤}
 use Rattle.reg_core.specs.declared.journal.Act.{Act}
-use Rattle.reg_history.specs.Acts.{acts_digests}
-use Rattle.reg_program.specs.Journal.{IsUnprintedBy, TellsActs, has_noted}
+use Rattle.reg_program.specs.Journal.{AreUnnotedBy, IsUnprintedBy, TellsActs}
 use Rattle.reg_program.specs.declared.faults.JobFailure.TheVariants.{Journal}
 use Rattle.reg_program.specs.declared.faults.Undone.{Undone}
 use Rattle.reg_program.specs.declared.faults.Undone.TheVariants.{Fault}
 
 module _ (P Q : List Act → Type 0) (noted had has : Option (List ℕ))
     (less : (acts : List Act) → P acts → Q acts) where
-  lacks_less : (acts : List Act) × P acts × (has_noted (acts_digests acts) noted ≡ false)
-      → (acts : List Act) × Q acts × (has_noted (acts_digests acts) noted ≡ false)
+  lacks_less : (acts : List Act) × P acts × AreUnnotedBy noted acts
+      → (acts : List Act) × Q acts × AreUnnotedBy noted acts
   lacks_less (acts, is, lacks) = (acts, less acts is, lacks)
 
   -- the acts of which more was known
   pub tells_less : (done : Result ⊤ Undone) → TellsActs P noted had has done
       → TellsActs Q noted had has done
-  tells_less (Ok u) (acts, is, noted, wrote) = (acts, less acts is, noted, wrote)
+  tells_less (Ok u) (acts, is, found, wrote) = (acts, less acts is, found, wrote)
   tells_less (Err why) h = record {
     silent = h.silent;
     unnoted = λ is. lacks_less (h.unnoted is);

@@ -1,9 +1,11 @@
 //! Where the originals of copies are.
 ghost use Rattle.std.specs.Prelude.{◌≢◌, IfErr, IfOk, MatchResult};
+ghost use Rattle.reg_program.specs.declared.faults.JobFailure.TheVariants.{Journal};
+ghost use Rattle.reg_program.specs.declared.faults.Undone.TheVariants.{Fault};
 ghost use Rattle.reg_files.specs.Copies.{IsSeenAlone};
 
 use crate::explained;
-use reg_program::faults::{JobFailure, Undone};
+use reg_program::faults::Undone;
 use reg_sql::snapshot::{Snapshot, snapshot_at};
 
 /// What has the offices in files, of which copies are taken.
@@ -24,7 +26,7 @@ pub trait Originals {
     fn take(&self, path: &str) -> Result<Snapshot, Undone>
         ensures taken { MatchResult result (Taken self.now path.now) (Untaken self.now path.now) }
         ensures seen { IfOk result IsSeenAlone }
-        ensures untold { IfErr result (λ why. why ≢ Undone.Fault JobFailure.Journal) };
+        ensures untold { IfErr result (λ why. why ≢ Fault Journal) };
 }
 
 /// The files of the system. Which of them is read no contract can say.

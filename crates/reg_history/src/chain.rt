@@ -47,11 +47,7 @@ impl RecordLine {
 
     /// The record of these fields, of which there are two at least, by the digits of the digest before it.
     /// Only want of memory is an error.
-    pub fn of_fields(
-        alloc: Global,
-        before: &[u8],
-        fields: &[&[u8]],
-    ) -> Result<Self, AllocError>
+    pub fn of_fields(alloc: Global, before: &[u8], fields: &[&[u8]]) -> Result<Self, AllocError>
         requires { 1 < length fields.now }
         ensures bytes { IfOk result (λ l. l.bytes.items
             ≡ line_of before.now (map (λ f. f.now) fields.now)) }

@@ -1,5 +1,6 @@
 //! The command line.
 ghost use Rattle.std.specs.Prelude.{◌≡◌, ◌≤◌, ◌⊎◌, IfErr, IfOk, List, MatchBool, MatchResult, Some, codes, map, option_map};
+ghost use Rattle.std.specs.List.{list_all};
 ghost use Rattle.std.specs.String.{string_bytes};
 ghost use Rattle.clap.specs.Words.{Row, Text, first_of, found_of, kind_of, rows_of, subcommand_rows_of};
 ghost use Rattle.clap.specs.declared.error.kind.ErrorKind.TheVariants.{OutOfMemory};
@@ -378,9 +379,13 @@ fn may_be_noted(digits: &Option<String>) -> bool
 fn are_noted(digits: &[u8]) -> bool
     ensures { result ≡ are_noted digits.now }
 {
-    LEAST_DIGITS <= digits.len()
-        && digits.len() <= DIGEST_DIGITS
-        && digits.iter().all(|digit| is_of_digest(*digit))
+    LEAST_DIGITS <= digits.len() && digits.len() <= DIGEST_DIGITS && all_of_digest(digits)
+}
+
+fn all_of_digest(bytes: &[u8]) -> bool
+    ensures { result ≡ list_all is_of_digest bytes.now }
+{
+    bytes.iter().all(|byte| is_of_digest(*byte))
 }
 
 // Whether a byte is a lower-case hexadecimal digit.

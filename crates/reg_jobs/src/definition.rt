@@ -304,13 +304,7 @@ fn journal<'a>(alloc: Global) -> Result<Command<'a>, AllocError>
     ensures shape { IfOk result (λ c. app_of c ≡ journal_app) }
     ensures local { IfOk result (λ c. (out-Command c).has_globals ≡ false) }
 {
-    file_command(
-        alloc,
-        "journal",
-        help::JOURNAL_ABOUT,
-        help::JOURNAL_EXAMPLE,
-    )?
-    .arg(option(
+    file_command(alloc, "journal", help::JOURNAL_ABOUT, help::JOURNAL_EXAMPLE)?.arg(option(
         alloc,
         "digest",
         "DIGEST",

@@ -41,7 +41,10 @@ module _ (Has : List Act → Type 0) (noted had : Option (List ℕ)) where
   unnoted acts text digests is of lacks = record {
     silent = λ not. refl;
     unnoted = λ same. (
-      acts, is, ap (λ (d : List (List ℕ)). has_noted d noted) (sym of.digests_are) ∙ lacks);
+      acts,
+      is,
+      ap (λ (d : List (List ℕ)). has_noted d noted) (sym of.digests_are) ∙ lacks,
+    );
   }
 
   -- they are printed, or not
@@ -50,9 +53,12 @@ module _ (Has : List Act → Type 0) (noted had : Option (List ℕ)) where
       → has_noted digests noted ≡ true → OnOk done (Appends had has text)
       → IfErr done (λ why. why ≡ Fault Write) → TellsActs Has noted had has done
   printed has (Ok u) acts text digests is of has_one wrote failed =
-      let P : List ℕ → Type 0 = λ bytes. Appends had has bytes in
-      (acts, is, ap (λ (d : List (List ℕ)). has_noted d noted) (sym of.digests_are) ∙ has_one,
-      subst P of.text_is wrote)
+      let P : List ℕ → Type 0 = λ bytes. Appends had has bytes in (
+        acts,
+        is,
+        ap (λ (d : List (List ℕ)). has_noted d noted) (sym of.digests_are) ∙ has_one,
+        subst P of.text_is wrote,
+      )
   printed has (Err why) acts text digests is of has_one wrote failed = record {
     silent = λ not. absurd (not failed);
     unnoted = λ same. absurd (cc);

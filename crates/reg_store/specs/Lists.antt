@@ -25,7 +25,6 @@ pub mod Links
 pub mod Blocks
 pub mod Journal
 pub mod Arrivals
-pub mod Acts
 pub mod Content
 
 -- the one that the keeper in memory holds

@@ -27,7 +27,7 @@ mod requests;
 mod reviews;
 
 use crate::maps::{row_at, set_row, unset_row};
-use acts::{ActChoice, chosen};
+use acts::{acts_about, acts_by, acts_on, all_acts};
 use arrivals::Arrivals;
 use blocks::Blocks;
 use caps::{Caps, cap_in, caps_in, take_caps};
@@ -304,22 +304,25 @@ impl Keeper for ListKeeper {
         Ok(self.links.all(self.alloc)?)
     }
 
+    #[tactic(auto, using(crate::proofs::JournalLaws::all_in_order))]
     fn acts(&mut self) -> Result<Rows<Act>, Fault> {
-        Ok(chosen(self.alloc, self.journal.as_slice(), ActChoice::Every)?)
+        Ok(all_acts(self.alloc, self.journal.as_slice())?)
     }
 
+    #[tactic(auto, using(crate::proofs::JournalLaws::chosen_in_order))]
     fn acts_on(&mut self, day: Day) -> Result<Rows<Act>, Fault> {
-        Ok(chosen(self.alloc, self.journal.as_slice(), ActChoice::On(day))?)
+        Ok(acts_on(self.alloc, self.journal.as_slice(), day)?)
     }
 
+    #[tactic(auto, using(crate::proofs::JournalLaws::chosen_in_order))]
     fn acts_by(&mut self, account: &Account) -> Result<Rows<Act>, Fault> {
-        let choice = ActChoice::By(account);
-        Ok(chosen(self.alloc, self.journal.as_slice(), choice)?)
+        Ok(acts_by(self.alloc, self.journal.as_slice(), account)?)
     }
 
+    #[tactic(auto, using(crate::proofs::JournalLaws::chosen_in_order))]
     fn acts_about(&mut self, account: &Account, reference: &Ref) -> Result<Rows<Act>, Fault> {
-        let choice = ActChoice::About(account, reference);
-        Ok(chosen(self.alloc, self.journal.as_slice(), choice)?)
+        let acts = self.journal.as_slice();
+        Ok(acts_about(self.alloc, acts, account, reference)?)
     }
 
     fn arrival(&mut self, account: &Account, reference: &Ref) -> Result<Arrival, Fault> {

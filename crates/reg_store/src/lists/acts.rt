@@ -1,7 +1,6 @@
-//! The acts of a journal that are chosen, in order.
+//! The acts of a journal that are listed, in order.
 ghost use Rattle.std.specs.Prelude.{◌≡◌, filter, IfOk};
 ghost use Rattle.reg_core.specs.Journal.{is_about as about, is_by as by, is_on as on};
-ghost use Rattle.reg_store.specs.Lists.Acts.{chosen_by};
 
 use reg_core::journal::Act;
 use reg_core::rows::Rows;
@@ -9,41 +8,50 @@ use reg_core::text::{Account, Ref};
 use reg_early::day::Day;
 use std::alloc::{AllocError, Global};
 
-/// Which acts are chosen.
-#[derive(Clone, Copy)]
-pub enum ActChoice<'a> {
-    /// All.
-    Every,
-    /// Those of a day.
-    On(Day),
-    /// Those that an account made.
-    By(&'a Account),
-    /// Those about the request of an account under a reference.
-    About(&'a Account, &'a Ref),
+/// All of them.
+pub fn all_acts(alloc: Global, acts: &[Act]) -> Result<Rows<Act>, AllocError>
+    ensures { IfOk result (λ rows. rows ≡ acts.now) }
+{
+    Ok(Rows::from_vec(Vec::from_slice(alloc, acts)?))
 }
 
-impl ActChoice<'_> {
-    // Whether an act is among them.
-    fn has(&self, act: &Act) -> bool
-        ensures { result ≡ chosen_by self.now act.now }
-    {
-        match self {
-            ActChoice::Every => true,
-            ActChoice::On(day) => is_on(act, *day),
-            ActChoice::By(account) => is_by(act, account),
-            ActChoice::About(account, reference) => is_about(act, account, reference),
-        }
-    }
-}
-
-/// Those of these acts, in order.
-pub fn chosen(alloc: Global, acts: &[Act], choice: ActChoice<'_>) -> Result<Rows<Act>, AllocError>
-    ensures { IfOk result (λ rows. rows ≡ filter (chosen_by choice) acts.now) }
+/// Those of a day.
+pub fn acts_on(alloc: Global, acts: &[Act], day: Day) -> Result<Rows<Act>, AllocError>
+    ensures { IfOk result (λ rows. rows ≡ filter (on day) acts.now) }
 {
     Ok(Rows::from_vec(
         acts.iter()
             .copied()
-            .filter(|act| choice.has(act))
+            .filter(|act| is_on(act, day))
+            .collect(alloc)?,
+    ))
+}
+
+/// Those that an account made.
+pub fn acts_by(alloc: Global, acts: &[Act], account: &Account) -> Result<Rows<Act>, AllocError>
+    ensures { IfOk result (λ rows. rows ≡ filter (by account.now) acts.now) }
+{
+    Ok(Rows::from_vec(
+        acts.iter()
+            .copied()
+            .filter(|act| is_by(act, account))
+            .collect(alloc)?,
+    ))
+}
+
+/// Those about the request of an account under a reference.
+pub fn acts_about(
+    alloc: Global,
+    acts: &[Act],
+    account: &Account,
+    reference: &Ref,
+) -> Result<Rows<Act>, AllocError>
+    ensures { IfOk result (λ rows. rows ≡ filter (about (account.now, reference.now)) acts.now) }
+{
+    Ok(Rows::from_vec(
+        acts.iter()
+            .copied()
+            .filter(|act| is_about(act, account, reference))
             .collect(alloc)?,
     ))
 }

@@ -70,6 +70,12 @@ w %/r.csv
 0 copy %/o.db %/copies
 < copied version 4, 0 requests
 
++ journal %/copies/o.db
+< Number,Moment,By,Token,Kind,Account,Reference,Registry,Value,Block,Other,Digest
+
+1 journal %/copies/o.db --digest 0000000000000000
+< fault: journal
+
 0 tokens %/copies/o.db
 < Account,Kind,Until,Digest
 < alice,applicant,2096-10-02T07:06:40Z,3edb5d9d72eb
