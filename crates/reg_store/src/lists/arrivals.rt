@@ -53,28 +53,29 @@ impl Arrivals {
         ensures in_step { AreArrivals self.new acts.now }
         ensures all { OnOk result (self.new.noted ≡ length acts.now) }
     {
-        for _ in self.noted..acts.len() {
-            self.note_next(alloc, acts)?;
+        for place in self.noted..acts.len() {
+            self.note(alloc, acts, place)?;
         }
         Ok(())
     }
 
-    // Notes the first act that is not noted yet.
-    fn note_next(&mut self, alloc: Global, acts: &[Act]) -> Result<(), AllocError>
+    // Notes the act at this place, the first that is not noted yet.
+    fn note(&mut self, alloc: Global, acts: &[Act], place: usize) -> Result<(), AllocError>
         requires in_step { AreArrivals self.old acts.now }
-        requires more { self.old.noted < length acts.now }
+        requires next { place ≡ self.old.noted }
+        requires more { place < length acts.now }
         ensures in_step { AreArrivals self.new acts.now }
-        ensures noted { OnOk result (self.new.noted ≡ self.old.noted + 1) }
+        ensures noted { OnOk result (self.new.noted ≡ place + 1) }
     {
-        let act = &acts[self.noted];
+        let act = &acts[place];
         if let Deed::Submit(account, reference) = act.deed {
             let arrival = Arrival {
-                number: self.noted as u64 + 1,
+                number: place as u64 + 1,
                 moment: act.stamp.moment,
             };
             put_row(alloc, &mut self.rows, account, reference, arrival)?;
         }
-        self.noted += 1;
+        self.noted = place + 1;
         Ok(())
     }
 
