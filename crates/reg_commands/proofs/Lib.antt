@@ -11,3 +11,4 @@ pub mod Requests
 pub mod Rows
 pub mod Selected
 pub mod Submissions
+pub mod TimesOfActs

@@ -67,10 +67,9 @@ fn times_of_one<K: Keeper>(keeper: &mut K, request: &Request) -> Result<RequestT
 {
     let acts = keeper.acts_about(&request.account, &request.reference)?;
     let acts = acts.as_slice();
-    let decided = if request.state == State::Pending {
-        None
-    } else {
-        last_decision(acts, &request.account, &request.reference)
+    let decided = match request.state {
+        State::Pending => None,
+        _ => last_decision(acts, &request.account, &request.reference),
     };
     Ok(RequestTimes {
         account: request.account,
