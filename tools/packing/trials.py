@@ -71,7 +71,7 @@ def refusing(package, folder):
     (inside / 'usr/lib/reg-cli/program').write_text(NO_CHECK)
     for name in ('control', 'postinst'):
         path = inside / 'DEBIAN' / name
-        path.write_text(re.sub(r'\b3\.0\.0-2\b', '4.0.0-3', path.read_text()))
+        path.write_text(re.sub(r'\b4\.0\.0-2\b', '4.0.0-3', path.read_text()))
     subprocess.run(['dpkg-deb', '--root-owner-group', '--build', inside, file], stdout=subprocess.DEVNULL, check=True)
     return file
 

@@ -25,7 +25,7 @@ pub fn perform<K: Keeper>(
 {
     match command {
         ClerkCommand::AllRequests => desk::list_all(keeper),
-        ClerkCommand::PendingRequests => desk::list_pending(keeper),
+        ClerkCommand::PendingRequests => desk::list_pending(alloc, keeper),
         ClerkCommand::OneRequest(account, reference) => desk::show_one(keeper, account, reference),
         ClerkCommand::AssignExpert(account, reference, expert) => {
             desk::assign(keeper, caller, account, reference, expert)

@@ -9,6 +9,7 @@ ghost use Rattle.reg_commands.specs.Decisions.{approval_of};
 ghost use Rattle.reg_commands.specs.Performs.{LooksUp, Performs};
 
 use crate::admission::Caller;
+use crate::arrivals::waiting;
 use crate::carrying::conclude_on;
 use crate::ground::ground_if;
 use crate::stop::Stop;
@@ -22,6 +23,7 @@ use reg_decisions::{decide_approve, decide_assign, decide_decline};
 use reg_early::day::Day;
 use reg_keeper::keeper::Keeper;
 use reg_ranges::formed::Formed;
+use std::alloc::Global;
 
 /// All requests.
 pub fn list_all<K: Keeper>(keeper: &mut K) -> Result<Told, Stop>
@@ -31,12 +33,13 @@ pub fn list_all<K: Keeper>(keeper: &mut K) -> Result<Told, Stop>
     Ok(Told::Desks(keeper.all()?))
 }
 
-/// The requests that wait, with their experts and all advice on them.
-pub fn list_pending<K: Keeper>(keeper: &mut K) -> Result<Told, Stop>
+/// The requests that wait, with their experts and all advice on them, and with the moments at which
+/// they came, in the order in which they came.
+pub fn list_pending<K: Keeper>(alloc: Global, keeper: &mut K) -> Result<Told, Stop>
     ensures { (clerk : Caller) → Performs K.world K.Holds K.Sound K.FAILS (stamp_by clerk)
         keeper.old keeper.new result (answer_to_clerk clerk command.PendingRequests) }
 {
-    Ok(Told::Cases(keeper.pending()?))
+    Ok(Told::Waiting(waiting(alloc, keeper)?))
 }
 
 /// A request, with its experts and all advice on it.

@@ -7,6 +7,7 @@ ghost use Rattle.reg_keeper.specs.Keeper.{Selects};
 ghost use Rattle.reg_commands.specs.Answers.{answer_about_times, row_of_times};
 ghost use Rattle.reg_commands.specs.Performs.{Performs};
 
+use crate::gathering::with_row;
 use crate::stop::Stop;
 use reg_core::command::TimesCommand;
 use reg_core::journal::{Act, Deed};
@@ -52,8 +53,9 @@ fn times_of<K: Keeper>(
         (λ w rows. rows ≡ map (row_of_times w) requests.now) }
 {
     let mut rows = Vec::with_capacity(alloc, requests.len())?;
-    'requests: for request in requests {
-        rows.push(times_of_one(keeper, request)?)?;
+    for request in requests {
+        let row = times_of_one(keeper, request)?;
+        rows = with_row(rows, row)?;
     }
     Ok(Rows::from_vec(rows))
 }
@@ -82,20 +84,26 @@ fn times_of_one<K: Keeper>(keeper: &mut K, request: &Request) -> Result<RequestT
 fn last_submission(acts: &[Act], account: &Account, reference: &Ref) -> Option<u64>
     ensures { result ≡ last_moment (submits_it (account.now, reference.now)) (reverse acts.now) }
 {
-    acts.iter()
-        .rev()
-        .find(|act| submits(&act.deed, account, reference))
-        .and_then(|act| act.stamp.moment)
+    let mut moment = None;
+    for act in acts {
+        if submits(&act.deed, account, reference) {
+            moment = act.stamp.moment;
+        }
+    }
+    moment
 }
 
 // The moment of the last of these acts by which it was decided, if it has one.
 fn last_decision(acts: &[Act], account: &Account, reference: &Ref) -> Option<u64>
     ensures { result ≡ last_moment (decides_it (account.now, reference.now)) (reverse acts.now) }
 {
-    acts.iter()
-        .rev()
-        .find(|act| decides(&act.deed, account, reference))
-        .and_then(|act| act.stamp.moment)
+    let mut moment = None;
+    for act in acts {
+        if decides(&act.deed, account, reference) {
+            moment = act.stamp.moment;
+        }
+    }
+    moment
 }
 
 // By this the request came.

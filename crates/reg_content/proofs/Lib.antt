@@ -9,6 +9,7 @@ pub mod MinutedRows
 pub mod AskedRows
 pub mod AskedActs
 pub mod ActsListed
+pub mod ArrivalRows
 pub mod BlockRows
 pub mod BlockRowsListed
 pub mod BlockRowsFound

@@ -3,6 +3,7 @@
 
 pub mod acts;
 pub mod advice;
+pub mod arrivals;
 pub mod blocks;
 pub mod caps;
 pub mod change;

@@ -41,6 +41,7 @@ pub use Rattle.reg_early.specs.Terms.{early_term, held_term, is_spent, may_be_he
 pub use Rattle.reg_early.specs.declared.evidence.EarlyEvidence.{EarlyEvidence}
 pub use Rattle.reg_early.specs.declared.term.Term.{Term}
 pub use Rattle.reg_core.proofs.KeyOrders.{block_keys, link_keys, name_keys, place_keys, seat_keys}
+pub use Rattle.reg_core.proofs.Arrivals.{arrival_keys, find-arrived, get-by_arrival}
 pub use Rattle.reg_core.specs.Advice.{has_advice_form, is_advised, is_among, is_given, verdict_word}
 pub use Rattle.reg_core.specs.Allowance.{Ground, allowance_on, allowed, allowed_on, entry_asked, entry_asked_early, entry_kept, ground_of, holding_asked, is_met, is_met_early, may_renew, may_settle, needs_advice, open_policy, or_refusal, own_entry, policy_for, value_for, value_ground}
 pub use Rattle.reg_core.specs.Answer.{Answer, Outcome, admitted, answer, answer_at, as_kind, by_rule, case_by, change_by, change_of, desk_row, expert_answer, item, made_row, own_answer, own_row, public_answer, reply_of, times_answer, token_answer, unchanged}
@@ -49,6 +50,7 @@ pub use Rattle.reg_core.specs.Award.{Allowance, Award, AwardedEntry, awarded_ent
 pub use Rattle.reg_core.specs.BlocksGiven.{IsDueIn}
 pub use Rattle.reg_core.specs.CapRows.{CapPlace, begins_with, by_account, cap_list, cap_place, cap_place_cmp, cap_row, cap_rows, caps_that, is_of}
 pub use Rattle.reg_core.specs.Capability.{has_cap_form, last_until, same_cap, same_kind}
+pub use Rattle.reg_core.specs.Arrivals.{arrival, arrival_cmp, arrival_number, by_arrival, waiting_file, waiting_list}
 pub use Rattle.reg_core.specs.Command.{about, asks_for_times, has_command_form, needs_capability}
 pub use Rattle.reg_core.specs.Counting.{counts, entries_in, entry_counts, plus}
 pub use Rattle.reg_core.specs.EarlyAllocations.{MovesTerm}

@@ -3,6 +3,7 @@ pub mod Places
 pub mod EntriesInRange
 pub mod Cases
 pub mod KeyOrders
+pub mod Arrivals
 pub mod WordsReadBack
 pub mod SamenessIsDecided
 pub mod Links

@@ -15,7 +15,7 @@ use Rattle.reg_core.specs.CapRows.{begins_with, is_of, cap_row, caps_that}
 use Rattle.reg_core.specs.Capability.{last_until}
 use Rattle.reg_core.specs.Counting.{counts}
 use Rattle.reg_core.specs.Command.{asks_for_times, needs_capability, has_command_form}
-use Rattle.reg_core.specs.Lists.{CapList, HaveGone, PendingList, TimesList, Shows, BlockList, IsRow, IsOwnRow, IsFile, IsItem, OwnList, HasHoldingOf, HoldingList, QueueList, AccountList, ShowsMark, SaidOfAgent}
+use Rattle.reg_core.specs.Lists.{CapList, HaveGone, WaitingList, TimesList, Shows, BlockList, IsRow, IsOwnRow, IsFile, IsItem, OwnList, HasHoldingOf, HoldingList, QueueList, AccountList, ShowsMark, SaidOfAgent}
 use Rattle.reg_core.specs.Journal.{acts_where, is_about, is_by, is_on, recorded, stamp_of_job}
 use Rattle.reg_core.specs.Names.{is_token, is_digest}
 use Rattle.reg_core.specs.Request.{is_pending, request_rows}
@@ -43,7 +43,7 @@ use Rattle.reg_core.specs.declared.command.ExpertCommand.TheVariants.{Queue, Adv
 use Rattle.reg_core.specs.declared.command.ClerkCommand.TheVariants.{AllRequests, OneRequest, AssignExpert, Approve, Decline, SetHold, Define, AddPool, Grant, Revoke, PendingRequests, AllCapabilities, RevokeDigits, RevokeAccount, CountRows, ActsOn, ActsBy, ActsAbout}
 use Rattle.reg_core.specs.declared.command.PublicCommand.TheVariants.{Registries, Registry, RegistryCsv, PoolList, BlocksCsv}
 use Rattle.reg_core.specs.declared.told.Told.{Told}
-use Rattle.reg_core.specs.declared.told.Told.TheVariants.{Names, Page, Sheet, Pool, Blocks, Made, Row, Rows, Times as TimesOf, Held, Holdings, Agent, Accounts, Item, Items, Desk, Desks, Filed, Marked, Defined, Pooled, Granted, InUse, Revoked, Cases, Capabilities, Counts, Acts, ActsAbout as ActsOf}
+use Rattle.reg_core.specs.declared.told.Told.TheVariants.{Names, Page, Sheet, Pool, Blocks, Made, Row, Rows, Times as TimesOf, Held, Holdings, Agent, Accounts, Item, Items, Desk, Desks, Filed, Marked, Defined, Pooled, Granted, InUse, Revoked, Waiting, Capabilities, Counts, Acts, ActsAbout as ActsOf}
 use Rattle.reg_core.specs.declared.holding.Holder.{Holder}
 use Rattle.reg_core.specs.declared.refusal.Refusal.{Refusal}
 use Rattle.reg_core.specs.declared.reply.Reply.{Reply}
@@ -185,7 +185,7 @@ IsDone digest_of w by moment (Clerk (AddPool prefix)) (Pooled given) =
 IsDone digest_of w by moment (Clerk (Grant token cap)) (Granted given) =
     (given ≡ cap) × (get w.caps (digest_of token) ≡ Some cap)
 IsDone digest_of w by moment (Clerk (Revoke token)) Revoked = get w.caps (digest_of token) ≡ None
-IsDone digest_of w by moment (Clerk PendingRequests) (Cases files) = PendingList w files
+IsDone digest_of w by moment (Clerk PendingRequests) (Waiting files) = WaitingList w files
 IsDone digest_of w by moment (Clerk AllCapabilities) (Capabilities rows) = CapList w rows
 IsDone digest_of w by moment (Clerk (RevokeDigits digits)) (Capabilities rows) =
     HaveGone w (begins_with digits) rows

@@ -14,6 +14,7 @@ pub mod Link
 pub mod File
 pub mod Journal
 pub mod Times
+pub mod Arrivals
 pub mod View
 pub mod Queue
 pub mod CapRows

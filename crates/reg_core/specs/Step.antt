@@ -8,10 +8,11 @@ use Rattle.reg_core.specs.Capability.{same_kind}
 use Rattle.reg_core.specs.Counting.{counts}
 use Rattle.reg_core.specs.Entry.{page_entry, with_hold}
 use Rattle.reg_core.specs.Rules.{assign_rule, approve_rule, decline_rule, hold_rule, define_rule, pool_rule, grant_rule, revoke_rule, revoke_digits_rule, revoke_account_rule}
+use Rattle.reg_core.specs.Arrivals.{waiting_list}
 use Rattle.reg_core.specs.Journal.{acts_where, is_about, is_by, is_on, stamp_of, recorded_if}
 use Rattle.reg_core.specs.View.{published, view_of, cap_at}
 use Rattle.reg_early.specs.Moment.{is_in_clock, utc_day}
-use Rattle.reg_core.specs.File.{file, waiting_files, was_advised}
+use Rattle.reg_core.specs.File.{file, was_advised}
 use Rattle.reg_core.specs.Request.{request_rows}
 use Rattle.reg_core.specs.World.{World, RequestName}
 use Rattle.reg_core.specs.declared.capability.Cap.{Cap}
@@ -96,7 +97,7 @@ module _ (digest_of : List ℕ → List ℕ) where
   clerk_answer w in_use moment today (Revoke token) =
       by_rule (revoke_rule in_use (get w.caps (digest_of token)) (digest_of token))
       (λ decision. tells.Revoked)
-  clerk_answer w in_use moment today PendingRequests = unchanged (tells.Cases (waiting_files w))
+  clerk_answer w in_use moment today PendingRequests = unchanged (tells.Waiting (waiting_list w))
   clerk_answer w in_use moment today AllCapabilities =
       unchanged (tells.Capabilities (cap_list w.caps))
   clerk_answer w in_use moment today (RevokeDigits digits) =

@@ -10,7 +10,7 @@ use Rattle.reg_core.specs.Unseen.{Stage, stages, is_hidden, is_unseen, kept_stag
 use Rattle.reg_core.specs.View.{published, cap_at, view_of}
 use Rattle.reg_core.specs.World.{World, RequestName}
 use Rattle.reg_core.specs.declared.capability.Cap.{Cap}
-use Rattle.reg_core.specs.declared.case_file.CaseFile.{CaseFile}
+use Rattle.reg_core.specs.declared.case_file.WaitingFile.{WaitingFile}
 use Rattle.reg_core.specs.declared.journal.Act.{Act}
 use Rattle.reg_core.specs.declared.told.Told.{Told}
 use Rattle.reg_core.specs.declared.told.Told.TheVariants as tells
@@ -69,7 +69,7 @@ lists_others account cap (tells.Pooled prefix) = false
 lists_others account cap (tells.Granted given) = false
 lists_others account cap (tells.InUse given) = false
 lists_others account cap tells.Revoked = false
-lists_others account cap (tells.Cases files) = true
+lists_others account cap (tells.Waiting files) = true
 lists_others account cap (tells.Capabilities rows) = false
 lists_others account cap (tells.Counts counts) = false
 lists_others account cap (tells.Acts acts) = true
@@ -90,8 +90,8 @@ queue_without unseen rows = filter (λ row. not (unseen (row.account, row.refere
 abbrev pub times_without : (RequestName → Bool) → List RequestTimes → List RequestTimes
 times_without unseen rows = filter (λ row. not (unseen (row.account, row.reference))) rows
 
-abbrev pub files_without : (RequestName → Bool) → List CaseFile → List CaseFile
-files_without unseen files = filter (λ file. not (unseen (name_of file))) files
+abbrev pub files_without : (RequestName → Bool) → List WaitingFile → List WaitingFile
+files_without unseen files = filter (λ waiting. not (unseen (name_of waiting.file))) files
 
 -- the act was about no such request; and the acts without those that were
 abbrev pub is_seen : (RequestName → Bool) → Act → Bool
@@ -126,7 +126,7 @@ told_without unseen (tells.Pooled prefix) = tells.Pooled prefix
 told_without unseen (tells.Granted cap) = tells.Granted cap
 told_without unseen (tells.InUse cap) = tells.InUse cap
 told_without unseen tells.Revoked = tells.Revoked
-told_without unseen (tells.Cases files) = tells.Cases (files_without unseen files)
+told_without unseen (tells.Waiting files) = tells.Waiting (files_without unseen files)
 told_without unseen (tells.Capabilities rows) = tells.Capabilities rows
 told_without unseen (tells.Counts counts) = tells.Counts counts
 told_without unseen (tells.Acts acts) = tells.Acts (acts_without unseen acts)

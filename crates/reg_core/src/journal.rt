@@ -86,6 +86,15 @@ pub struct Act {
     pub deed: Deed,
 }
 
+/// When a request came, as the journal has it.
+#[derive(Clone, Copy)]
+pub struct Arrival {
+    /// Of the last act by which it came; 0 where there is none.
+    pub number: u64,
+    /// Of that act, in seconds since 1970-01-01T00:00:00Z; none where it has none.
+    pub moment: Option<u64>,
+}
+
 /// What kind of act it is.
 #[derive(Clone, Copy)]
 pub enum ActKind {

@@ -1,6 +1,6 @@
 //! What the caller of an accepted command is told.
 use crate::capability::{Cap, CapRow};
-use crate::case_file::CaseFile;
+use crate::case_file::{CaseFile, WaitingFile};
 use crate::counts::Counts;
 use crate::entry::PageEntry;
 use crate::holding::{Holding, Listed};
@@ -63,8 +63,8 @@ pub enum Told {
     InUse(Cap),
     /// The token has no capability now.
     Revoked,
-    /// The requests that wait, with all that the desk has of them, by account and reference.
-    Cases(Rows<CaseFile>),
+    /// The requests that wait, with all that the desk has of them, in the order in which they came.
+    Waiting(Rows<WaitingFile>),
     /// Capabilities, by account and digest: all, or those that a clerk took away just now.
     Capabilities(Rows<CapRow>),
     /// How many rows of each kind there are, requests apart.
@@ -87,7 +87,7 @@ impl Drop for Told {
             Told::Desk(_) | Told::Desks(_) | Told::Filed(_) => {}
             Told::Marked(_) | Told::Defined(_) | Told::Pooled(_) => {}
             Told::Granted(_) | Told::InUse(_) | Told::Revoked => {}
-            Told::Cases(_) | Told::Capabilities(_) | Told::Counts(_) => {}
+            Told::Waiting(_) | Told::Capabilities(_) | Told::Counts(_) => {}
             Told::Acts(_) | Told::ActsAbout(_) => {}
         }
     }

@@ -3,6 +3,7 @@ ghost use Rattle.std.specs.Prelude.{◌≡◌, Bool, IfOk, map, option_map};
 ghost use Rattle.std.specs.FinMap.{contains_key, get, keys};
 ghost use Rattle.std.specs.List.Sorted.{IsStrictlyIncreasing};
 ghost use Rattle.reg_maps.specs.Maps.{only_if};
+ghost use Rattle.reg_core.specs.Arrivals.{arrival};
 ghost use Rattle.reg_core.specs.BlockDue.{due_in};
 ghost use Rattle.reg_core.specs.CapRows.{cap_rows};
 ghost use Rattle.reg_core.specs.Entry.{entry_row};
@@ -27,7 +28,7 @@ use reg_core::case_file::CaseFile;
 use reg_core::change::Change;
 use reg_core::entry::Entry;
 use reg_core::holding::{Holding, Listed};
-use reg_core::journal::Act;
+use reg_core::journal::{Act, Arrival};
 use reg_core::link::LinkRow;
 use reg_core::queue::QueueRow;
 use reg_core::request::Request;
@@ -245,6 +246,12 @@ pub trait Keeper {
     fn acts_about(&mut self, account: &Account, reference: &Ref) -> Result<Rows<Act>, Fault>
         ensures { Selects world Holds Sound FAILS self.old self.new result
             (λ w acts. acts ≡ acts_where (is_about (account.now, reference.now)) w) };
+
+    /// The number and the moment of the last act by which the request of an account under a
+    /// reference came.
+    fn arrival(&mut self, account: &Account, reference: &Ref) -> Result<Arrival, Fault>
+        ensures { Selects world Holds Sound FAILS self.old self.new result
+            (λ w found. found ≡ arrival w.journal (account.now, reference.now)) };
 
     /// Makes a change whole, or not at all. It leaves no act in the journal.
     fn apply(&mut self, change: Change) -> Result<(), Fault>

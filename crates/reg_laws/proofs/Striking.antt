@@ -18,6 +18,7 @@ use Rattle.reg_laws.proofs.Striking.Worlds.{agree_itself, agree_if, agree_hidden
 pub mod Worlds
 pub mod Views
 pub mod Acts
+pub mod Arrivals
 pub mod Answers
 pub mod Untouched
 pub mod Lists

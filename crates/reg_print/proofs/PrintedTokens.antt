@@ -1,13 +1,14 @@
 -- What is printed one behind another, and between brackets, spells objects and arrays.
-use Rattle.std.proofs.Common.{rules, max, option_and_then, suc, ◌+◌, length, take, get_or, append-nil, ◌≡◌, ℕ, ◌^◌, ◌<◌, ◌≤◌, List, [], ◌∷◌, ◌++◌, Bool, true, false, Option, Some, None, map, refl, sym, ap, ap₂, ◌∙◌, append_assoc, arith}
+use Rattle.std.proofs.Common.{rules, max, option_and_then, suc, ◌+◌, length, take, get_or, append-nil, ◌≡◌, ℕ, ◌^◌, ◌<◌, ◌≤◌, List, [], ◌∷◌, ◌++◌, Bool, true, false, Option, Some, None, Result, Ok, Err, map, refl, sym, ap, ap₂, ◌∙◌, append_assoc, arith}
 use Rattle.std.specs.List.{All, flat_map, AllByRecursion}
+use Rattle.std.specs.Result.{IfErr, IfOk}
 use Rattle.std.proofs.lemmas.Grind.{flat_map-append}
 use Rattle.std.proofs.lemmas.List.{take_more, take_all}
 use Rattle.std.proofs.lemmas.List.Elements.{All-append, All-cons, All-nil}
 use Rattle.json.specs.Json as json
 use Rattle.json.specs.Lex.{tokens}
 use Rattle.json.specs.Print.{print}
-use Rattle.json.specs.Token.{Token, begin_object, end_object, begin_array, end_array}
+use Rattle.json.specs.Token.{Token, begin_object, end_object, begin_array, end_array, key}
 use Rattle.json.specs.Tree.{members_tokens, items_tokens}
 use Rattle.json.specs.Tree as tree
 use Rattle.json.specs.Written.{Written}
@@ -19,7 +20,8 @@ use Rattle.serde_json.specs.Written.{outline, members_outline, items_outline, co
 use Rattle.serde_json.proofs.Numbers.{number_of-decimal}
 use Rattle.serde_json.proofs.Texts.{print-outline}
 use Rattle.reg_print.specs.Trees.Members.{Listed, object_with, with_members}
-use Rattle.reg_print.specs.Printed.{data_tokens, member_tokens, listed_tokens, IsExact, IfExact, AllExact, Added, Printed, PrintedMembers}
+use Rattle.reg_print.specs.declared.printing.Printer.{Printer}
+use Rattle.reg_print.specs.Printed.{data_tokens, member_tokens, listed_tokens, IsExact, IfExact, AllExact, Added, IfWhole, Printed, PrintedMembers}
 use Rattle.reg_print.proofs.ListedMembers.{as_listed, ascends, some_member, with_members-as_listed}
 use Rattle.reg_print.proofs.ReadObjects.{IfReads, AllRead, object_with-reads}
 
@@ -37,6 +39,16 @@ behind {a} {b} {c} {ts} {us} one more = record {
 -- the same tokens, said otherwise
 same_added : {a b : Written} {ts us : List Token} → ts ≡ us → Added a b ts → Added a b us
 same_added {a} {b} {ts} {us} e one = rw (← e) one
+
+-- ---- what is printed while memory lasts
+
+-- one step behind another
+both : {a b c : Printer} {P Q R : Type 0} → (P → Q → R) → IfWhole a b P → IfWhole b c Q
+    → IfWhole a c R
+both {a} {b} {c} {P} {Q} {R} f one more = record {
+  told = λ h. let later = more.told h in
+      let earlier = one.told later.0 in (earlier.0, f earlier.1 later.1);
+}
 
 -- ---- single values
 
@@ -68,14 +80,43 @@ listed_tokens-append (x ∷ xs) ys =
     ∙ ap (λ ts. member_tokens x.0 x.1 ++ ts) (listed_tokens-append xs ys)
 
 -- members behind members
-infixr 5 ◌▸◌
-pub ◌▸◌ : {a b c : Written} {n m : ℕ} {xs ys : Listed} → PrintedMembers a b n xs
+members_behind : {a b c : Written} {n m : ℕ} {xs ys : Listed} → PrintedMembers a b n xs
     → PrintedMembers b c m ys → PrintedMembers a c (max n m) (xs ++ ys)
-◌▸◌ {a} {b} {c} {n} {m} {xs} {ys} one more = record {
+members_behind {a} {b} {c} {n} {m} {xs} {ys} one more = record {
   added = same_added (listed_tokens-append xs ys) (behind one.added more.added);
   exact =
       both_exact (max n m) xs ys (none_deeper n (max n m) xs (omega arith) one.exact)
       (none_deeper m (max n m) ys (omega arith) more.exact);
+}
+
+infixr 5 ◌▸◌
+pub ◌▸◌ : {a b c : Printer} {n m : ℕ} {xs ys : Listed}
+    → IfWhole a b (PrintedMembers a.json b.json n xs)
+    → IfWhole b c (PrintedMembers b.json c.json m ys)
+    → IfWhole a c (PrintedMembers a.json c.json (max n m) (xs ++ ys))
+◌▸◌ one more = both (λ p q. members_behind p q) one more
+
+-- a name and its value are a member
+pub is_member : {a b c : Printer} {n : ℕ} {k : List ℕ} {d : Data}
+    → IfWhole a b (Added a.json b.json (key k ∷ [])) → IfWhole b c (Printed b.json c.json n d)
+    → IfWhole a c (PrintedMembers a.json c.json n ((k, Some d) ∷ []))
+is_member {a} {b} {c} {n} {k} {d} named valued =
+    both
+    (λ p q. record {
+      added = same_added (sym (append-nil (key k ∷ data_tokens d))) (behind p q.added);
+      exact = (q.exact, tt);
+    })
+    named valued
+
+-- a text that was made, if there was memory for it
+pub printed_made : {a b : Printer} {S E : Type 0} {k text : List ℕ} (bytes : S → List ℕ)
+    (r : Result S E) → IfOk r (λ t. bytes t ≡ text)
+    → IfOk r (λ t. IfWhole a b (PrintedMembers a.json b.json 0 ((k, Some (string (bytes t))) ∷ [])))
+    → IfErr r (λ _. b.is_whole ≡ false)
+    → IfWhole a b (PrintedMembers a.json b.json 0 ((k, Some (string text)) ∷ []))
+printed_made bytes (Ok t) is made wanting = rw is at made
+printed_made bytes (Err e) is made wanting = record {
+  told = λ h. let e : false ≡ true = sym wanting ∙ h in cc;
 }
 
 -- ---- objects
@@ -137,22 +178,32 @@ is_so : (b : Bool) → IsSo b → b ≡ true
 is_so true h = refl
 is_so false h = absurd h
 
--- members that ascend, between brackets, are an object
-pub prints_object : {a b c d : Written} {n : ℕ} {ms : Listed} → Added a b (begin_object ∷ [])
-    → PrintedMembers b c n ms → Added c d (end_object ∷ []) → IsSo (ascends ms)
+an_object : {a b c d : Written} {n : ℕ} {ms : Listed} → Added a b (begin_object ∷ [])
+    → PrintedMembers b c n ms → Added c d (end_object ∷ []) → ascends ms ≡ true
     → Printed a d (suc n) (object_with ms)
+an_object {a} {b} {c} {d} {n} {ms} begun members ended up = record {
+  added = same_added (object_tokens ms up) (behind begun (behind members.added ended));
+  exact = object-exact n ms up members.exact;
+}
+
+-- members that ascend, between brackets, are an object
+pub prints_object : {a b c d : Printer} {n : ℕ} {ms : Listed}
+    → IfWhole a b (Added a.json b.json (begin_object ∷ []))
+    → IfWhole b c (PrintedMembers b.json c.json n ms)
+    → IfWhole c d (Added c.json d.json (end_object ∷ [])) → IsSo (ascends ms)
+    → IfWhole a d (Printed a.json d.json (suc n) (object_with ms))
 prints_object {a} {b} {c} {d} {n} {ms} begun members ended up =
     let h = is_so (ascends ms) up in
-    record {
-      added = same_added (object_tokens ms h) (behind begun (behind members.added ended));
-      exact = object-exact n ms h members.exact;
-    }
+    both {Q = PrintedMembers b.json c.json n ms × Added c.json d.json (end_object ∷ [])}
+    (λ p q. an_object p q.0 q.1 h) begun (both (λ p q. (p, q)) members ended)
 
 -- what was printed nests no deeper than any greater number of levels
-pub printed_within : {a b : Written} {n m : ℕ} {d : Data} → n ≤ m → Printed a b n d
-    → Printed a b m d
-printed_within {a} {b} {n} {m} {d} h p =
-    record { added = p.added; exact = no_deeper n m d h p.exact }
+pub printed_within : {a b : Printer} {n m : ℕ} {d : Data} → n ≤ m
+    → IfWhole a b (Printed a.json b.json n d) → IfWhole a b (Printed a.json b.json m d)
+printed_within {a} {b} {n} {m} {d} h printed = record {
+  told = λ w. let p = printed.told w in
+      (p.0, record { added = p.1.added; exact = no_deeper n m d h p.1.exact });
+}
 
 -- ---- arrays
 
@@ -192,10 +243,10 @@ pub record Front {X : Type 0} (n : ℕ) (f : X → Data) (xs : List X) (i : ℕ)
     pub added : Added a b (flat_map (λ x. data_tokens (f x)) (take i xs))
     pub exact : All (λ x. IsExact n (f x)) (take i xs)
 
-pub front_more : {X : Type 0} {a b c : Written} (n : ℕ) (f : X → Data) (xs : List X) (i : ℕ) (x : X)
+one_behind : {X : Type 0} {a b c : Written} (n : ℕ) (f : X → Data) (xs : List X) (i : ℕ) (x : X)
     → i < length xs → x ≡ get_or xs i x → Front n f xs i a b → Printed b c n (f x)
     → Front n f xs (i + 1) a c
-front_more {X} {a} {b} {c} n f xs i x h is front one =
+one_behind {X} {a} {b} {c} n f xs i x h is front one =
     let g : X → List Token = λ y. data_tokens (f y) in
     let P : X → Type 0 = λ y. IsExact n (f y) in
     let tokens : flat_map g (take i xs) ++ g x ≡ flat_map g (take (i + 1) xs) =
@@ -209,11 +260,10 @@ front_more {X} {a} {b} {c} n f xs i x h is front one =
           (All-append P (take i xs) (x ∷ []) front.exact (All-cons P x [] one.exact (All-nil P)));
     }
 
--- trees, between brackets, are an array
-pub prints_array : {X : Type 0} {a b c d : Written} (n : ℕ) (f : X → Data) (xs : List X) (i : ℕ)
+an_array : {X : Type 0} {a b c d : Written} (n : ℕ) (f : X → Data) (xs : List X) (i : ℕ)
     → length xs ≤ i → Added a b (begin_array ∷ []) → Front n f xs i b c
     → Added c d (end_array ∷ []) → Printed a d (suc n) (array (items_of (map f xs)))
-prints_array {X} {a} {b} {c} {d} n f xs i h begun front ended =
+an_array {X} {a} {b} {c} {d} n f xs i h begun front ended =
     let g : X → List Token = λ y. data_tokens (f y) in
     let all : take i xs ≡ xs = take_all i xs h in
     let tokens : begin_array ∷ (flat_map g (take i xs) ++ end_array ∷ [])
@@ -228,6 +278,25 @@ prints_array {X} {a} {b} {c} {d} n f xs i h begun front ended =
         shallow = let within = items-shallow n f xs each in omega (arith, within);
       };
     }
+
+-- the first i of these trees were printed, while memory lasts
+abbrev pub IfFront : {X : Type 0} → ℕ → (X → Data) → List X → ℕ → Printer → Printer → Type 0
+IfFront n f xs i a b = IfWhole a b (Front n f xs i a.json b.json)
+
+pub front_more : {X : Type 0} {a b c : Printer} (n : ℕ) (f : X → Data) (xs : List X) (i : ℕ) (x : X)
+    → i < length xs → x ≡ get_or xs i x → IfFront n f xs i a b
+    → IfWhole b c (Printed b.json c.json n (f x)) → IfFront n f xs (i + 1) a c
+front_more n f xs i x h is front one = both (λ p q. one_behind n f xs i x h is p q) front one
+
+-- trees, between brackets, are an array
+pub prints_array : {X : Type 0} {a b c d : Printer} (n : ℕ) (f : X → Data) (xs : List X) (i : ℕ)
+    → length xs ≤ i → IfWhole a b (Added a.json b.json (begin_array ∷ [])) → IfFront n f xs i b c
+    → IfWhole c d (Added c.json d.json (end_array ∷ []))
+    → IfWhole a d (Printed a.json d.json (suc n) (array (items_of (map f xs))))
+prints_array {X} {a} {b} {c} {d} n f xs i h begun front ended =
+    both {Q = Front n f xs i b.json c.json × Added c.json d.json (end_array ∷ [])}
+    (λ p q. an_array n f xs i h p q.0 q.1) begun
+    (both (λ p q. (p, q)) front ended)
 
 -- ---- the text of a tree that was printed
 

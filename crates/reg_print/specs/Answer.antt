@@ -1,7 +1,7 @@
 -- The status and the body of an answer.
 use Rattle.std.specs.Prelude.{ℕ, List}
 use Rattle.reg_core.specs.declared.told.Told.{Told}
-use Rattle.reg_core.specs.declared.told.Told.TheVariants.{Names, Page, Sheet, Pool, Blocks, Made, Row, Rows, Times, Held, Holdings, Agent, Accounts, Item, Items, Desk, Desks, Filed, Marked, Defined, Pooled, Granted, InUse, Revoked, Cases, Capabilities, Counts, Acts, ActsAbout}
+use Rattle.reg_core.specs.declared.told.Told.TheVariants.{Names, Page, Sheet, Pool, Blocks, Made, Row, Rows, Times, Held, Holdings, Agent, Accounts, Item, Items, Desk, Desks, Filed, Marked, Defined, Pooled, Granted, InUse, Revoked, Waiting, Capabilities, Counts, Acts, ActsAbout}
 use Rattle.reg_core.specs.declared.reply.Reply.{Reply}
 use Rattle.reg_core.specs.declared.reply.Reply.TheVariants as reply
 use Rattle.reg_print.specs.declared.answer.Answer.{Answer}
@@ -9,7 +9,7 @@ use Rattle.reg_print.specs.declared.answer.Answer.TheVariants as answer
 use Rattle.reg_print.specs.Body.{Body, json, listing, block_listing, text_of}
 use Rattle.reg_print.specs.Trees.Act.{acts_tree}
 use Rattle.reg_print.specs.Trees.Agent.{agent_tree}
-use Rattle.reg_print.specs.Trees.File.{file_tree, files_tree}
+use Rattle.reg_print.specs.Trees.File.{file_tree, waiting_list_tree}
 use Rattle.reg_print.specs.Trees.Holding.{holding_tree, holdings_tree}
 use Rattle.reg_print.specs.Trees.Members.{names_tree}
 use Rattle.reg_print.specs.Trees.Page.{page_tree, defined_tree, entry_tree}
@@ -50,7 +50,7 @@ told_status (Pooled prefix) = 200
 told_status (Granted cap) = 200
 told_status (InUse cap) = 200
 told_status Revoked = 200
-told_status (Cases files) = 200
+told_status (Waiting files) = 200
 told_status (Capabilities rows) = 200
 told_status (Counts counts) = 200
 told_status (Acts acts) = 200
@@ -94,7 +94,7 @@ told_body (Pooled prefix) = json (pooled_tree prefix)
 told_body (Granted cap) = json (cap_tree cap)
 told_body (InUse cap) = json (cap_tree cap)
 told_body Revoked = json revoked_tree
-told_body (Cases files) = json (files_tree files)
+told_body (Waiting files) = json (waiting_list_tree files)
 told_body (Capabilities rows) = json (cap_rows_tree rows)
 told_body (Counts counts) = json (counts_tree counts)
 told_body (Acts acts) = json (acts_tree acts)

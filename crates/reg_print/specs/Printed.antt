@@ -1,11 +1,12 @@
 -- What is printed of a tree: the tokens of its text, which read as that tree again.
-use Rattle.std.specs.Prelude.{◌≡◌, ◌≤◌, ℕ, List, [], ◌∷◌, ◌++◌, Option, Some, None}
+use Rattle.std.specs.Prelude.{◌≡◌, ◌≤◌, ℕ, List, [], ◌∷◌, ◌++◌, Option, Some, None, IsTrue}
 use Rattle.json.specs.Token.{Token, key}
 use Rattle.json.specs.Tree.{json_tokens}
 use Rattle.json.specs.Written.{Written}
 use Rattle.serde_json.specs.Data.{Data, depth}
 use Rattle.serde_json.specs.Read.{of_json}
 use Rattle.serde_json.specs.Written.{outline}
+use Rattle.reg_print.specs.declared.printing.Printer.{Printer}
 use Rattle.reg_print.specs.Trees.Members.{Listed}
 
 abbrev pub data_tokens : Data → List Token
@@ -48,3 +49,7 @@ pub record Printed (old new : Written) (levels : ℕ) (tree : Data) : Type 0 whe
 pub record PrintedMembers (old new : Written) (levels : ℕ) (members : Listed) : Type 0 where
   pub added : Added old new (listed_tokens members)
   pub exact : AllExact levels members
+
+-- if memory was there for all that was printed so far, it was there before, and this was done
+pub record IfWhole (old new : Printer) (done : Type 0) : Type 0 where
+  pub told : IsTrue new.is_whole → IsTrue old.is_whole × done

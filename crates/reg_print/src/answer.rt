@@ -111,7 +111,7 @@ fn told_status(told: &Told) -> StatusCode
         | Told::Granted(_)
         | Told::InUse(_)
         | Told::Revoked
-        | Told::Cases(_)
+        | Told::Waiting(_)
         | Told::Capabilities(_)
         | Told::Counts(_)
         | Told::Acts(_)
@@ -181,7 +181,7 @@ fn told_bytes(alloc: Global, told: &Told) -> Result<Vec<u8>, AllocError>
         Told::Pooled(prefix) => printed::<Pooled, _>(alloc, prefix),
         Told::Granted(cap) | Told::InUse(cap) => printed(alloc, cap),
         Told::Revoked => printed(alloc, &Revoked),
-        Told::Cases(files) => printed::<Itself, _>(alloc, files),
+        Told::Waiting(files) => printed::<Itself, _>(alloc, files),
         Told::Capabilities(rows) => printed::<Itself, _>(alloc, rows),
         Told::Counts(counts) => printed(alloc, counts),
         Told::Acts(acts) | Told::ActsAbout(acts) => printed::<Itself, _>(alloc, acts),

@@ -18,6 +18,7 @@ use reg_blocks::block::Block;
 use reg_blocks::pool::Pool;
 use reg_blocks::size::Size;
 use reg_content::acts::{acts, acts_about, acts_by, acts_on};
+use reg_content::arrivals::arrival;
 use reg_content::blocks::{blocks, holding, holdings};
 use reg_content::caps::cap;
 use reg_content::change;
@@ -34,7 +35,7 @@ use reg_core::case_file::CaseFile;
 use reg_core::change::Change;
 use reg_core::entry::Entry;
 use reg_core::holding::{Holding, Listed};
-use reg_core::journal::Act;
+use reg_core::journal::{Act, Arrival};
 use reg_core::link::LinkRow;
 use reg_core::queue::QueueRow;
 use reg_core::request::Request;
@@ -325,6 +326,10 @@ impl<S: Reports + Loads> Keeper for SqlKeeper<S> {
 
     fn acts_about(&mut self, account: &Account, reference: &Ref) -> Result<Rows<Act>, Fault> {
         acts_about(self.tables.alloc, &mut self.tables.conn, account, reference)
+    }
+
+    fn arrival(&mut self, account: &Account, reference: &Ref) -> Result<Arrival, Fault> {
+        arrival(self.tables.alloc, &mut self.tables.conn, account, reference)
     }
 
     fn apply(&mut self, change: Change) -> Result<(), Fault> {

@@ -16,7 +16,7 @@ use Rattle.reg_core.proofs.Common.{ExpertCommand, ClerkCommand, PublicCommand, T
 use Rattle.reg_core.proofs.Common.{SizedPrefix, Holder, Case, by_test, queued_found, own_agent}
 use Rattle.reg_core.proofs.Common.{own_principal, own_principal_rows, own_principal_times}
 use Rattle.reg_core.proofs.Common.{acts_where, is_about, is_by, is_on, own_times, times_answer, times_by}
-use Rattle.reg_core.proofs.Common.{same_text, times_rows, token_answer, unchanged, waiting_files, TimesCommand}
+use Rattle.reg_core.proofs.Common.{same_text, times_rows, token_answer, unchanged, waiting_list, TimesCommand}
 use Rattle.std.proofs.lemmas.Result.{IfOk-at_ok, IfOk-weaker}
 use Rattle.std.specs.Prelude.{Option, Some, None, Result, Ok, Err, IfOk, is_some, option_map, nat_le, nat_lt, if◌then◌else◌}
 use Rattle.reg_core.specs.Allowance.{◌>>=◌, or_refusal, allowed, ground_of}
@@ -160,7 +160,7 @@ ClerkSo digest_of w in_use moment today (Revoke token) o =
     Comes (Revokes in_use (get w.caps (digest_of token)) (digest_of token))
     (λ decision. tells.Revoked) o
 ClerkSo digest_of w in_use moment today PendingRequests o =
-    Tells (tells.Cases (waiting_files w)) o
+    Tells (tells.Waiting (waiting_list w)) o
 ClerkSo digest_of w in_use moment today AllCapabilities o =
     Tells (tells.Capabilities (cap_list w.caps)) o
 ClerkSo digest_of w in_use moment today (RevokeDigits digits) o =

@@ -30,7 +30,7 @@ use Rattle.reg_core.specs.declared.change.Change.TheVariants as change
 use Rattle.reg_core.proofs.Outcomes.Accepted.{Comes, CommandSo, accepted}
 use Rattle.reg_laws.proofs.Capabilities.{takes_just, have_gone}
 use Rattle.reg_laws.proofs.Lines.Turns.{other_text}
-use Rattle.reg_laws.proofs.Outcomes.ClerkLists.{pending_list, cap_list_whole}
+use Rattle.reg_laws.proofs.Outcomes.ClerkLists.{cap_list_whole, waiting_list_whole}
 use Rattle.reg_laws.proofs.Outcomes.WholeLists.{entry_list, block_list, own_list, holding_list, queue_list, times_list}
 
 -- ---- The forms of an outcome
@@ -342,7 +342,7 @@ module _ (digest_of : List ℕ → List ℕ) (w : World) (caller : Option (List 
       decided (Done (Clerk (Revoke token))) so.1 (λ there. there.1)
       (λ facts. get-removed text_keys w.caps (digest_of token))
   done (Clerk PendingRequests) o so =
-      subst (Done (Clerk PendingRequests)) (sym so.1) (pending_list w)
+      subst (Done (Clerk PendingRequests)) (sym so.1) (waiting_list_whole w)
   done (Clerk AllCapabilities) o so =
       subst (Done (Clerk AllCapabilities)) (sym so.1) (cap_list_whole w)
   done (Clerk (RevokeDigits digits)) o so =

@@ -317,7 +317,7 @@ module _ (digest_of : List ℕ → List ℕ) (v : World) (moment : ℕ) (now : i
         (tells.Granted cap, serving (Grant token cap) ∙ rw (so.1, same_cap-itself cap) refl)
     clerk_again (Revoke token) tells.Revoked so =
         (tells.Revoked, serving (Revoke token) ∙ rw (other_token (digest_of token) so, so) refl)
-    clerk_again PendingRequests (tells.Cases files) so = (_, serving PendingRequests)
+    clerk_again PendingRequests (tells.Waiting files) so = (_, serving PendingRequests)
     clerk_again AllCapabilities (tells.Capabilities rows) so = (_, serving AllCapabilities)
     clerk_again (RevokeDigits digits) (tells.Capabilities rows) so =
         let none = none_are (begins_with digits) v.caps so.none in

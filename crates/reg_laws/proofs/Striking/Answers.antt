@@ -7,9 +7,9 @@ use Rattle.reg_core.proofs.Common.{admitted, as_kind, own_answer, expert_answer,
 use Rattle.reg_core.proofs.Common.{Event, is_clerk, acts_as_clerk, clerk_answer, answer_to, about}
 use Rattle.reg_core.proofs.Common.{is_outside, speaks_for, is_hidden, Personal, published, personal}
 use Rattle.reg_core.proofs.Common.{cap_at, with_personal, requests_of, queue_of, principals_of, World}
-use Rattle.reg_core.proofs.Common.{RequestName, acts_in_order, is_about, is_by, is_on, own_times, times_answer, token_answer}
+use Rattle.reg_core.proofs.Common.{RequestName, acts_in_order, is_about, is_by, is_on, file, own_times, times_answer, token_answer, waiting_file}
 use Rattle.reg_core.specs.declared.command.TimesCommand.{TimesCommand}
-use Rattle.reg_laws.proofs.Types.{Cap, Kind, Command, ApplicantCommand, ExpertCommand}
+use Rattle.reg_laws.proofs.Types.{Cap, Case, Kind, Command, ApplicantCommand, ExpertCommand}
 use Rattle.reg_core.proofs.Common.{same_kind-is}
 use Rattle.reg_laws.proofs.Types.{ClerkCommand, Refusal, Accepted}
 use Rattle.reg_maps.proofs.HiddenKeys.{AgreeBut}
@@ -23,9 +23,10 @@ use Rattle.reg_core.specs.declared.command.ClerkCommand.TheVariants.{AllRequests
 use Rattle.reg_core.specs.declared.command.TimesCommand.TheVariants as times
 use Rattle.reg_core.specs.declared.told.Told.TheVariants as tells
 use Rattle.reg_core.specs.declared.refusal.Refusal.TheVariants as no
-use Rattle.reg_laws.proofs.Striking.Lists.{same_requests, same_queue, same_files, same_times}
+use Rattle.reg_laws.proofs.Striking.Lists.{same_requests, same_queue, same_times}
 use Rattle.reg_laws.proofs.Striking.Acts.{same_about, same_acts}
-use Rattle.reg_laws.proofs.Striking.Views.{own_agree, queue_agree, rows_agree, seats_same, personal_same, principal_times_agree, same_times_of, times_of_agree}
+use Rattle.reg_laws.proofs.Striking.Arrivals.{same_waiting}
+use Rattle.reg_laws.proofs.Striking.Views.{own_agree, queue_agree, rows_agree, seats_same, personal_same, principal_times_agree, same_times_of, times_agree, times_of_agree}
 use Rattle.reg_laws.proofs.Striking.Worlds.{with_requests_of, agree_rest, Unaware}
 
 -- ---- Two answers
@@ -123,6 +124,15 @@ module _
       → seats_of name r.advice ≡ seats_of name v.advice
   advice_seats = seats_same hidden _ _ un.agree.advice
 
+  -- the file of a request that is not hidden, with the moment at which it came
+  waiting_same : (name : RequestName) → hidden name ≡ false → (case : Case)
+      → waiting_file u name case ≡ waiting_file v name case
+  waiting_same name h case =
+      let times = times_agree un.agree name h case in
+      let its : file u name case ≡ file v name case =
+      rw (queue_seats name h, advice_seats name h) refl in
+      λ i. record { submitted = (times i).submitted; file = its i }
+
   -- a line for each command: what it reads is the same
   own_same : (cap : Cap) → IsOther cap → (given : ApplicantCommand)
       → IsOpen (about (Some cap) (command.Applicant given))
@@ -205,8 +215,8 @@ module _
     clerk_same existing in_use moment today PendingRequests h = record {
       whole = λ mine. absurd (cc);
       change = refl;
-      rows = ap (λ files. Accepted (tells.Cases files)) (same_files hidden u v requests
-          (λ name case h. rw (queue_seats name h, advice_seats name h) refl));
+      rows = ap (λ files. Accepted (tells.Waiting files))
+          (same_waiting hidden u v requests un.agree.acts (λ name case h. waiting_same name h case));
     }
     clerk_same existing in_use moment today (ActsOn day) h = record {
       whole = λ mine. absurd (cc);

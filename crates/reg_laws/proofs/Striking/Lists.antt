@@ -2,17 +2,18 @@
 use Rattle.std.proofs.Common.{◌≡◌, ℕ, Bool, true, false, cond, not, List, [], ◌∷◌, map, refl, sym, ap, subst, ◌∙◌}
 use Rattle.std.specs.Prelude.{Option, Some, None, Ok, Err, option_and_then}
 use Rattle.reg_core.proofs.Common.{FinMap, get, entries, get-select, utc_day, Answer, Outcome, reply_of}
-use Rattle.reg_core.proofs.Common.{made_row, file, name_of, waiting, waiting_files, queue_row}
+use Rattle.reg_core.proofs.Common.{made_row, queue_row}
 use Rattle.reg_core.proofs.Common.{queue_rows, request_row, request_rows, Event, answer_to, Queued}
 use Rattle.reg_core.proofs.Common.{queued_to, requests_of, queue_of, World, RequestName, name_cmp}
 use Rattle.reg_laws.proofs.Types.{Ask}
 use Rattle.reg_laws.proofs.Types.{Command, ApplicantCommand, ExpertCommand, ClerkCommand, PublicCommand}
 use Rattle.reg_core.proofs.Common.{name_keys}
 use Rattle.reg_laws.proofs.Types.{Case, Request, Accepted}
-use Rattle.reg_maps.proofs.HiddenKeys.{AgreeBut, IsBare, both_select, plain_rows, same_rows}
-use Rattle.reg_core.specs.Striking.{HasNoneUnseen, HasNoneUnseenActs, lists_acts, requests_without, times_without, queue_without, files_without, told_without, reply_without}
+use Rattle.reg_maps.proofs.HiddenKeys.{AgreeBut, IsBare, plain_rows, same_rows}
+use Rattle.reg_core.specs.Striking.{HasNoneUnseen, HasNoneUnseenActs, lists_acts, requests_without, times_without, queue_without, told_without, reply_without}
 use Rattle.reg_core.proofs.Common.{is_by, is_on, same_text, times_by, times_of, times_row, times_rows, only_if, Times as TimesOf}
 use Rattle.reg_laws.proofs.Striking.Acts.{acts_plain}
+use Rattle.reg_laws.proofs.Striking.Arrivals.{waiting_plain}
 use Rattle.reg_core.specs.declared.command.Command.TheVariants.{Public, Token, Applicant, Times, Expert, Clerk}
 use Rattle.reg_core.specs.declared.command.TimesCommand.{TimesCommand}
 use Rattle.reg_core.specs.declared.command.TimesCommand.TheVariants as times
@@ -22,7 +23,6 @@ use Rattle.reg_core.specs.declared.command.ExpertCommand.TheVariants.{Queue, Adv
 use Rattle.reg_core.specs.declared.command.ClerkCommand.TheVariants.{AllRequests, OneRequest, AssignExpert, Approve, Decline, SetHold, PendingRequests, AllCapabilities, CountRows, ActsOn, ActsBy, ActsAbout}
 use Rattle.reg_core.specs.declared.command.PublicCommand.TheVariants.{Registry, RegistryCsv}
 use Rattle.reg_core.specs.declared.told.Told.TheVariants as tells
-use Rattle.reg_core.specs.declared.case_file.CaseFile.{CaseFile}
 use Rattle.reg_core.specs.declared.queue.QueueRow.{QueueRow}
 use Rattle.reg_core.proofs.Outcomes.Accepted.{PublicSo, OwnSo, TimesSo, ExpertSo, ClerkSo, CommandSo, accepted}
 
@@ -36,9 +36,6 @@ module _ (hidden : RequestName → Bool) where
 
   abbrev seen_queued : QueueRow → Bool
   seen_queued row = not (hidden (row.account, row.reference))
-
-  abbrev seen_file : CaseFile → Bool
-  seen_file file = not (hidden (name_of file))
 
   -- ---- Two maps
 
@@ -54,36 +51,6 @@ module _ (hidden : RequestName → Bool) where
   pub same_queue : (m n : FinMap name_cmp Queued) → AgreeBut hidden m n
       → queue_without hidden (queue_rows m) ≡ queue_without hidden (queue_rows n)
   same_queue m n = same_rows name_keys hidden seen_queued queue_row m n (λ name h queued. ap not h)
-
-  -- ---- Two worlds
-
-  module _ (w v : World) (requests : AgreeBut hidden w.requests v.requests)
-      (files : (name : RequestName) (case : Case) → hidden name ≡ false
-      → file w name case ≡ file v name case) where
-    -- the files of the same requests
-    same_files_of : (es : List (RequestName × Case))
-        → files_without hidden (map (λ e. file w e.0 e.1) es)
-        ≡ files_without hidden (map (λ e. file v e.0 e.1) es)
-    same_files_of [] = refl
-    same_files_of (e ∷ es) = by (same_files_of es) (hidden e.0) refl
-      where
-        in_w : List CaseFile
-        in_w = files_without hidden (map (λ e. file w e.0 e.1) es)
-
-        in_v : List CaseFile
-        in_v = files_without hidden (map (λ e. file v e.0 e.1) es)
-
-        by : in_w ≡ in_v → (b : Bool) → hidden e.0 ≡ b
-            → cond (not b) (file w e.0 e.1 ∷ in_w) in_w ≡ cond (not b) (file v e.0 e.1 ∷ in_v) in_v
-        by rest true h = rest
-        by rest false h = λ i. files e.0 e.1 h i ∷ rest i
-
-    pub same_files : files_without hidden (waiting_files w) ≡ files_without hidden (waiting_files v)
-    same_files =
-        same_rows name_keys hidden seen_file (file w) (waiting w) (waiting v)
-        (λ name h case. ap not h)
-        (both_select name_keys hidden _ _ w.requests v.requests (λ name h case. refl) requests)
-        ∙ same_files_of (entries (waiting v))
 
 -- ---- No hidden request
 
@@ -102,10 +69,6 @@ module _ (hidden : RequestName → Bool) (v : World) (none : HasNoneUnseen hidde
   queue_bare account name h =
       get-select name_keys (queued_to account v) v.requests name
       ∙ ap (option_and_then (queued_to account v name)) (none name h)
-
-  waiting_bare : IsBare hidden (waiting v)
-  waiting_bare name h =
-      get-select name_keys _ v.requests name ∙ ap (option_and_then _) (none name h)
 
   plain_requests : (m : FinMap name_cmp Case) → IsBare hidden m
       → requests_without hidden (request_rows m) ≡ request_rows m
@@ -188,8 +151,7 @@ module _ (hidden : RequestName → Bool) (v : World) (none : HasNoneUnseen hidde
       plain so.so.is refl
   clerk_plain digest_of in_use moment today (SetHold name value held) o so acts = plain so.so.so.is refl
   clerk_plain digest_of in_use moment today PendingRequests o so acts =
-      plain so (ap tells.Cases (plain_rows name_keys hidden (seen_file hidden) (file v)
-      (λ name case. refl) (waiting v) waiting_bare))
+      plain so (ap tells.Waiting (waiting_plain hidden v none))
   clerk_plain digest_of in_use moment today AllCapabilities o so acts = plain so refl
   clerk_plain digest_of in_use moment today CountRows o so acts = plain so refl
   clerk_plain digest_of in_use moment today given o so acts = plain so.is refl

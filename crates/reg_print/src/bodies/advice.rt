@@ -1,11 +1,9 @@
 //! Prints advice.
-ghost use Rattle.std.specs.Prelude.{OnOk};
-ghost use Rattle.reg_print.specs.Printed.{PrintedMembers};
+ghost use Rattle.reg_print.specs.Printed.{IfWhole, PrintedMembers};
 ghost use Rattle.reg_print.specs.Trees.Advice.{advice_members, advice_tree, opinion_tree};
 
 use crate::printing::{Itself, Print, Printer};
 use reg_core::advice::{Advice, Opinion};
-use std::alloc::AllocError;
 
 /// An advice: its verdict and its text.
 impl Print<Itself> for Advice {
@@ -13,11 +11,10 @@ impl Print<Itself> for Advice {
 
     ghost levels = { 1 };
 
-    fn print(&self, out: &mut Printer) -> Result<(), AllocError> {
-        out.open_object()?;
-        put_advice(out, self)?;
-        out.close_object()?;
-        Ok(())
+    fn print(&self, out: &mut Printer) {
+        out.open_object();
+        put_advice(out, self);
+        out.close_object();
     }
 }
 
@@ -27,21 +24,19 @@ impl Print<Itself> for Opinion {
 
     ghost levels = { 1 };
 
-    fn print(&self, out: &mut Printer) -> Result<(), AllocError> {
-        out.open_object()?;
-        out.put("expert", &self.expert)?;
-        put_advice(out, &self.advice)?;
-        out.close_object()?;
-        Ok(())
+    fn print(&self, out: &mut Printer) {
+        out.open_object();
+        out.put("expert", &self.expert);
+        put_advice(out, &self.advice);
+        out.close_object();
     }
 }
 
 // The members of an advice.
-fn put_advice(out: &mut Printer, advice: &Advice) -> Result<(), AllocError>
-    ensures { OnOk result
+fn put_advice(out: &mut Printer, advice: &Advice)
+    ensures { IfWhole out.old out.new
         (PrintedMembers out.old.json out.new.json 0 (advice_members advice.now)) }
 {
-    out.put("text", &advice.text)?;
-    out.put_text("verdict", advice.verdict.word())?;
-    Ok(())
+    out.put("text", &advice.text);
+    out.put_text("verdict", advice.verdict.word());
 }

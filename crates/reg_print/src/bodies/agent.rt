@@ -3,7 +3,6 @@ ghost use Rattle.reg_print.specs.Trees.Agent.{agent_tree};
 
 use crate::printing::{Itself, Print, Printer};
 use reg_core::text::Account;
-use std::alloc::AllocError;
 
 /// Whether an account reads the requests of the caller, whose agent it then is.
 #[derive(Clone, Copy)]
@@ -17,11 +16,10 @@ impl Print<Itself> for Agent {
 
     ghost levels = { 1 };
 
-    fn print(&self, out: &mut Printer) -> Result<(), AllocError> {
-        out.open_object()?;
-        out.put("agent", &self.agent)?;
-        out.put_flag("reads", self.reads)?;
-        out.close_object()?;
-        Ok(())
+    fn print(&self, out: &mut Printer) {
+        out.open_object();
+        out.put("agent", &self.agent);
+        out.put_flag("reads", self.reads);
+        out.close_object();
     }
 }

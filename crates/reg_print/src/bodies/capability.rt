@@ -1,12 +1,11 @@
 //! Prints capabilities.
-ghost use Rattle.std.specs.Prelude.{◌≡◌, take, OnOk};
-ghost use Rattle.reg_print.specs.Printed.{PrintedMembers};
+ghost use Rattle.std.specs.Prelude.{◌≡◌, take};
+ghost use Rattle.reg_print.specs.Printed.{IfWhole, PrintedMembers};
 ghost use Rattle.reg_print.specs.Trees.Capability.{cap_row_tree, cap_tree, right_members, revoked_tree};
 
 use crate::printing::{Itself, Print, Printer};
 use reg_core::capability::{Cap, CapRow};
 use reg_core::text::Digest;
-use std::alloc::AllocError;
 
 /// How many digits of a digest are shown, which tell tokens apart.
 const SHOWN_DIGITS: usize = 12;
@@ -20,12 +19,11 @@ impl Print<Itself> for Cap {
 
     ghost levels = { 1 };
 
-    fn print(&self, out: &mut Printer) -> Result<(), AllocError> {
-        out.open_object()?;
-        out.put("account", &self.account)?;
-        put_right(out, self)?;
-        out.close_object()?;
-        Ok(())
+    fn print(&self, out: &mut Printer) {
+        out.open_object();
+        out.put("account", &self.account);
+        put_right(out, self);
+        out.close_object();
     }
 }
 
@@ -35,24 +33,22 @@ impl Print<Itself> for CapRow {
 
     ghost levels = { 1 };
 
-    fn print(&self, out: &mut Printer) -> Result<(), AllocError> {
-        out.open_object()?;
-        out.put("account", &self.cap.account)?;
-        out.put_text("digest", shown_digits(&self.digest))?;
-        put_right(out, &self.cap)?;
-        out.close_object()?;
-        Ok(())
+    fn print(&self, out: &mut Printer) {
+        out.open_object();
+        out.put("account", &self.cap.account);
+        out.put_text("digest", shown_digits(&self.digest));
+        put_right(out, &self.cap);
+        out.close_object();
     }
 }
 
 // The members that tell of what kind a capability is, and until when it is valid.
-fn put_right(out: &mut Printer, cap: &Cap) -> Result<(), AllocError>
-    ensures { OnOk result
+fn put_right(out: &mut Printer, cap: &Cap)
+    ensures { IfWhole out.old out.new
         (PrintedMembers out.old.json out.new.json 0 (right_members cap.now)) }
 {
-    out.put_text("kind", cap.kind.word())?;
-    out.put_number("until", cap.until.seconds())?;
-    Ok(())
+    out.put_text("kind", cap.kind.word());
+    out.put_number("until", cap.until.seconds());
 }
 
 // The first digits of a digest.
@@ -67,10 +63,9 @@ impl Print<Itself> for Revoked {
 
     ghost levels = { 1 };
 
-    fn print(&self, out: &mut Printer) -> Result<(), AllocError> {
-        out.open_object()?;
-        out.put_flag("revoked", true)?;
-        out.close_object()?;
-        Ok(())
+    fn print(&self, out: &mut Printer) {
+        out.open_object();
+        out.put_flag("revoked", true);
+        out.close_object();
     }
 }

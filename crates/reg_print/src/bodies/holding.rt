@@ -1,14 +1,13 @@
 //! Prints the blocks that an applicant holds.
-ghost use Rattle.std.specs.Prelude.{[], ◌∷◌, codes, OnOk};
+ghost use Rattle.std.specs.Prelude.{[], ◌∷◌, codes};
 ghost use Rattle.reg_blocks.specs.Digits.{block_text};
-ghost use Rattle.reg_print.specs.Printed.{PrintedMembers};
+ghost use Rattle.reg_print.specs.Printed.{IfWhole, PrintedMembers};
 ghost use Rattle.reg_print.specs.Trees.Holding.{holding_tree};
 ghost use Rattle.reg_print.specs.Trees.Members.{text};
 
 use crate::printing::{Itself, Print, Printer};
 use reg_blocks::block::Block;
 use reg_core::holding::Holding;
-use std::alloc::AllocError;
 
 /// A block as its holder sees it, listed or not.
 impl Print<Itself> for Holding {
@@ -16,23 +15,21 @@ impl Print<Itself> for Holding {
 
     ghost levels = { 1 };
 
-    fn print(&self, out: &mut Printer) -> Result<(), AllocError> {
-        out.open_object()?;
-        out.put("address", &self.address)?;
-        put_block(out, &self.block)?;
-        out.put("organization", &self.organization)?;
-        out.put_flag("private", self.private)?;
-        out.put_text("size", self.block.size().word())?;
-        out.close_object()?;
-        Ok(())
+    fn print(&self, out: &mut Printer) {
+        out.open_object();
+        out.put("address", &self.address);
+        put_block(out, &self.block);
+        out.put("organization", &self.organization);
+        out.put_flag("private", self.private);
+        out.put_text("size", self.block.size().word());
+        out.close_object();
     }
 }
 
-fn put_block(out: &mut Printer, block: &Block) -> Result<(), AllocError>
-    ensures { OnOk result
+fn put_block(out: &mut Printer, block: &Block)
+    ensures { IfWhole out.old out.new
         (PrintedMembers out.old.json out.new.json 0
         ((codes "block", text (block_text block.now)) ∷ [])) }
 {
-    let digits = block.text(out.alloc)?;
-    out.put_text("block", digits.as_str())
+    out.put_made("block", block.text(out.alloc));
 }

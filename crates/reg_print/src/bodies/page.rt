@@ -1,6 +1,6 @@
 //! Prints registries.
-ghost use Rattle.std.specs.Prelude.{[], ◌∷◌, codes, Some, OnOk};
-ghost use Rattle.reg_print.specs.Printed.{PrintedMembers};
+ghost use Rattle.std.specs.Prelude.{[], ◌∷◌, codes, Some};
+ghost use Rattle.reg_print.specs.Printed.{IfWhole, PrintedMembers};
 ghost use Rattle.reg_print.specs.Trees.Page.{day_data, defined_tree, entries_tree, entry_tree, expires_if, frame_members, frame_tree, page_tree, range_tree, ranges_tree, renewed_if};
 
 use crate::note::note_text;
@@ -12,7 +12,6 @@ use reg_early::day::{Day, day_text};
 use reg_early::term::Term;
 use reg_ranges::range::Range;
 use reg_ranges::table::RangeTable;
-use std::alloc::AllocError;
 
 /// That the registry of a name is there.
 pub(crate) struct Defined;
@@ -26,12 +25,11 @@ impl Print<Itself> for Page {
 
     ghost levels = { 3 };
 
-    fn print(&self, out: &mut Printer) -> Result<(), AllocError> {
-        out.open_object()?;
-        out.put("entries", &self.entries)?;
-        put_frame(out, self)?;
-        out.close_object()?;
-        Ok(())
+    fn print(&self, out: &mut Printer) {
+        out.open_object();
+        out.put("entries", &self.entries);
+        put_frame(out, self);
+        out.close_object();
     }
 }
 
@@ -40,21 +38,19 @@ impl Print<Frame> for Page {
 
     ghost levels = { 3 };
 
-    fn print(&self, out: &mut Printer) -> Result<(), AllocError> {
-        out.open_object()?;
-        put_frame(out, self)?;
-        out.close_object()?;
-        Ok(())
+    fn print(&self, out: &mut Printer) {
+        out.open_object();
+        put_frame(out, self);
+        out.close_object();
     }
 }
 
-fn put_frame(out: &mut Printer, page: &Page) -> Result<(), AllocError>
-    ensures { OnOk result (PrintedMembers out.old.json out.new.json 2 (frame_members page.now)) }
+fn put_frame(out: &mut Printer, page: &Page)
+    ensures { IfWhole out.old out.new (PrintedMembers out.old.json out.new.json 2 (frame_members page.now)) }
 {
-    out.put_number("max", u64::from(page.table.max()))?;
-    out.put("name", &page.name)?;
-    out.put("ranges", &page.table)?;
-    Ok(())
+    out.put_number("max", u64::from(page.table.max()));
+    out.put("name", &page.name);
+    out.put("ranges", &page.table);
 }
 
 impl Print<Defined> for Name {
@@ -62,11 +58,10 @@ impl Print<Defined> for Name {
 
     ghost levels = { 1 };
 
-    fn print(&self, out: &mut Printer) -> Result<(), AllocError> {
-        out.open_object()?;
-        out.put("defined", self)?;
-        out.close_object()?;
-        Ok(())
+    fn print(&self, out: &mut Printer) {
+        out.open_object();
+        out.put("defined", self);
+        out.close_object();
     }
 }
 
@@ -76,8 +71,8 @@ impl Print<Itself> for PageEntries {
 
     ghost levels = { 2 };
 
-    fn print(&self, out: &mut Printer) -> Result<(), AllocError> {
-        out.list(self.as_slice())
+    fn print(&self, out: &mut Printer) {
+        out.list(self.as_slice());
     }
 }
 
@@ -86,50 +81,48 @@ impl Print<Itself> for PageEntry {
 
     ghost levels = { 1 };
 
-    fn print(&self, out: &mut Printer) -> Result<(), AllocError> {
-        out.open_object()?;
-        out.put("assignee", &self.assignee)?;
-        put_expires_if(out, self.term)?;
-        put_day(out, "first", self.term.first)?;
-        out.put_true_if("held", self.term.held)?;
-        out.put("label", &self.label)?;
-        put_renewed_if(out, self.term)?;
-        out.put_text("status", self.status.word())?;
-        out.put_number("value", u64::from(self.value))?;
-        out.close_object()?;
-        Ok(())
+    fn print(&self, out: &mut Printer) {
+        out.open_object();
+        out.put("assignee", &self.assignee);
+        put_expires_if(out, self.term);
+        put_day(out, "first", self.term.first);
+        out.put_true_if("held", self.term.held);
+        out.put("label", &self.label);
+        put_renewed_if(out, self.term);
+        out.put_text("status", self.status.word());
+        out.put_number("value", u64::from(self.value));
+        out.close_object();
     }
 }
 
 // Whether the term was renewed, where it has an expiry.
-fn put_renewed_if(out: &mut Printer, term: Term) -> Result<(), AllocError>
-    ensures { OnOk result
+fn put_renewed_if(out: &mut Printer, term: Term)
+    ensures { IfWhole out.old out.new
         (PrintedMembers out.old.json out.new.json 0 ((codes "renewed", renewed_if term) ∷ [])) }
 {
     match term.expires {
         Some(_) => out.put_flag("renewed", term.renewed),
-        None => Ok(()),
+        None => {},
     }
 }
 
 // The day from which the entry no longer stands, where there is one.
-fn put_expires_if(out: &mut Printer, term: Term) -> Result<(), AllocError>
-    ensures { OnOk result
+fn put_expires_if(out: &mut Printer, term: Term)
+    ensures { IfWhole out.old out.new
         (PrintedMembers out.old.json out.new.json 0 ((codes "expires", expires_if term) ∷ [])) }
 {
     match term.expires {
         Some(day) => put_day(out, "expires", day),
-        None => Ok(()),
+        None => {},
     }
 }
 
 // This day under this name.
-fn put_day(out: &mut Printer, name: &str, day: Day) -> Result<(), AllocError>
-    ensures { OnOk result
+fn put_day(out: &mut Printer, name: &str, day: Day)
+    ensures { IfWhole out.old out.new
         (PrintedMembers out.old.json out.new.json 0 ((name.now, Some (day_data day)) ∷ [])) }
 {
-    let text = day_text(out.alloc, day)?;
-    out.put_text(name, text.as_str())
+    out.put_made(name, day_text(out.alloc, day));
 }
 
 /// The ranges of a table, in order.
@@ -138,8 +131,8 @@ impl Print<Itself> for RangeTable {
 
     ghost levels = { 2 };
 
-    fn print(&self, out: &mut Printer) -> Result<(), AllocError> {
-        out.list(self.ranges())
+    fn print(&self, out: &mut Printer) {
+        out.list(self.ranges());
     }
 }
 
@@ -148,13 +141,12 @@ impl Print<Itself> for Range {
 
     ghost levels = { 1 };
 
-    fn print(&self, out: &mut Printer) -> Result<(), AllocError> {
-        out.open_object()?;
-        out.put_number("hi", u64::from(self.hi))?;
-        out.put_number("lo", u64::from(self.lo))?;
-        out.put_text("note", note_text(&self.note))?;
-        out.put_text("treatment", self.treatment.word())?;
-        out.close_object()?;
-        Ok(())
+    fn print(&self, out: &mut Printer) {
+        out.open_object();
+        out.put_number("hi", u64::from(self.hi));
+        out.put_number("lo", u64::from(self.lo));
+        out.put_text("note", note_text(&self.note));
+        out.put_text("treatment", self.treatment.word());
+        out.close_object();
     }
 }

@@ -4,7 +4,6 @@ ghost use Rattle.reg_print.specs.Trees.Pool.{pool_tree, pooled_tree, prefix_tree
 use crate::printing::{Itself, Print, Printer};
 use reg_blocks::pool::Pool;
 use reg_blocks::prefix;
-use std::alloc::AllocError;
 
 /// A number as the text of a prefix.
 pub(crate) struct PrefixText;
@@ -18,8 +17,8 @@ impl Print<Itself> for Pool {
 
     ghost levels = { 1 };
 
-    fn print(&self, out: &mut Printer) -> Result<(), AllocError> {
-        out.list::<PrefixText, u32>(self.prefixes())
+    fn print(&self, out: &mut Printer) {
+        out.list::<PrefixText, u32>(self.prefixes());
     }
 }
 
@@ -28,9 +27,11 @@ impl Print<PrefixText> for u32 {
 
     ghost levels = { 0 };
 
-    fn print(&self, out: &mut Printer) -> Result<(), AllocError> {
-        let text = prefix::text(out.alloc, *self)?;
-        out.text(text.as_str())
+    fn print(&self, out: &mut Printer) {
+        match prefix::text(out.alloc, *self) {
+            Ok(text) => out.text(text.as_str()),
+            Err(_) => out.is_whole = false,
+        }
     }
 }
 
@@ -39,11 +40,9 @@ impl Print<Pooled> for u32 {
 
     ghost levels = { 1 };
 
-    fn print(&self, out: &mut Printer) -> Result<(), AllocError> {
-        let text = prefix::text(out.alloc, *self)?;
-        out.open_object()?;
-        out.put_text("pool", text.as_str())?;
-        out.close_object()?;
-        Ok(())
+    fn print(&self, out: &mut Printer) {
+        out.open_object();
+        out.put_made("pool", prefix::text(out.alloc, *self));
+        out.close_object();
     }
 }

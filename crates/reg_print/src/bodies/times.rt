@@ -4,7 +4,6 @@ ghost use Rattle.reg_print.specs.Trees.Times.{times_tree};
 use crate::bodies::act::put_number_if;
 use crate::printing::{Itself, Print, Printer};
 use reg_core::request::RequestTimes;
-use std::alloc::AllocError;
 
 /// When a request came, and when it was decided, under which reference.
 impl Print<Itself> for RequestTimes {
@@ -12,12 +11,11 @@ impl Print<Itself> for RequestTimes {
 
     ghost levels = { 1 };
 
-    fn print(&self, out: &mut Printer) -> Result<(), AllocError> {
-        out.open_object()?;
-        put_number_if(out, "decided", self.decided)?;
-        out.put("reference", &self.reference)?;
-        put_number_if(out, "submitted", self.submitted)?;
-        out.close_object()?;
-        Ok(())
+    fn print(&self, out: &mut Printer) {
+        out.open_object();
+        put_number_if(out, "decided", self.decided);
+        out.put("reference", &self.reference);
+        put_number_if(out, "submitted", self.submitted);
+        out.close_object();
     }
 }

@@ -53,10 +53,17 @@ fn judged(
     Ok((outcome.kind?, left.written))
 }
 
+// An older program records no acts.
+const WITHOUT_ACTS: &str = "DELETE FROM journal\n";
+
 // The files of an office in the newest version, and of the same office in an older one.
 fn both(alloc: Global, older: Older) -> Result<(Image, Image), Fail> {
     let (version, statements, lines) = older;
-    let newest = prepared_by(alloc, lines)?;
+    let (kind, newest) = judged(alloc, &prepared_by(alloc, lines)?, WITHOUT_ACTS)?;
+    ensure(
+        kind == Some(StoreKind::Ours(NEWEST)),
+        "an office without acts",
+    )?;
     let (kind, image) = judged(alloc, &newest, statements)?;
     ensure(kind == Some(StoreKind::Ours(version)), "an older office")?;
     Ok((newest, image))

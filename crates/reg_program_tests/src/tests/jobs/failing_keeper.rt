@@ -9,7 +9,7 @@ use reg_core::case_file::CaseFile;
 use reg_core::change::Change;
 use reg_core::entry::Entry;
 use reg_core::holding::{Holding, Listed};
-use reg_core::journal::Act;
+use reg_core::journal::{Act, Arrival};
 use reg_core::link::LinkRow;
 use reg_core::queue::QueueRow;
 use reg_core::request::Request;
@@ -177,6 +177,10 @@ impl<K: Keeper> Keeper for FailingKeeper<K> {
     }
 
     fn acts_about(&mut self, _account: &Account, _reference: &Ref) -> Result<Rows<Act>, Fault> {
+        Err(Fault::Store)
+    }
+
+    fn arrival(&mut self, _account: &Account, _reference: &Ref) -> Result<Arrival, Fault> {
         Err(Fault::Store)
     }
 

@@ -3,5 +3,5 @@ use Rattle.reg_print.proofs.bodies.advice.put_advice.Goals as goal
 
 pub returns : goal.returns
 returns c =
-    let verdict = rw c.word.ensures at c.in_ok-put_text.ensures in
-    c.in_ok-put.ensures ▸ verdict
+    let verdict = rw c.word.ensures at c.put_text.ensures in
+    c.put.ensures ▸ verdict

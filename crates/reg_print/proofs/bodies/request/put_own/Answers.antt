@@ -3,4 +3,4 @@ use Rattle.reg_print.proofs.bodies.request.put_own.Goals as goal
 
 pub returns : goal.returns
 returns c =
-    c.in_ok-put.ensures ▸ c.in_ok-put_standing.ensures
+    c.put.ensures ▸ c.put_standing.ensures

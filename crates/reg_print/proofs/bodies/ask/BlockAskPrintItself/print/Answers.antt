@@ -4,9 +4,9 @@ use Rattle.reg_print.proofs.bodies.ask.BlockAskPrintItself.print.Goals as goal
 
 pub returns : goal.returns
 returns c =
-    let kind = rw c.word.ensures at c.in_ok-put_text.ensures in
-    let size = rw c.word-2.ensures at c.in_ok-put_text-2.ensures in
+    let kind = rw c.word.ensures at c.put_text.ensures in
+    let size = rw c.word-2.ensures at c.put_text-2.ensures in
     printed_within (lit≤ tt)
-    (prints_object c.in_ok-open_object.ensures
-    (c.in_ok-put.ensures ▸ kind ▸ c.in_ok-put-2.ensures ▸ size)
-    c.in_ok-close_object.ensures tt)
+    (prints_object c.open_object.ensures
+    (c.put.ensures ▸ kind ▸ c.put-2.ensures ▸ size)
+    c.close_object.ensures tt)

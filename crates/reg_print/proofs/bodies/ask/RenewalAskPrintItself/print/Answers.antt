@@ -4,10 +4,10 @@ use Rattle.reg_print.proofs.bodies.ask.RenewalAskPrintItself.print.Goals as goal
 
 pub returns : goal.returns
 returns c =
-    let kind = rw c.word.ensures at c.in_ok-put_text.ensures in
-    let value = rw c.from.ensures at c.in_ok-put_number.ensures in
+    let kind = rw c.word.ensures at c.put_text.ensures in
+    let value = rw c.from.ensures at c.put_number.ensures in
     printed_within (lit≤ tt)
-    (prints_object c.in_ok-open_object.ensures
-    (c.in_ok-put_early_texts.ensures ▸ c.in_ok-put_if.ensures ▸ c.in_ok-put_true_if.ensures ▸ kind
-    ▸ c.in_ok-put.ensures ▸ c.in_ok-put_true_if-2.ensures ▸ value ▸ c.in_ok-put_true_if-3.ensures)
-    c.in_ok-close_object.ensures tt)
+    (prints_object c.open_object.ensures
+    (c.put_early_texts.ensures ▸ c.put_if.ensures ▸ c.put_true_if.ensures ▸ kind
+    ▸ c.put.ensures ▸ c.put_true_if-2.ensures ▸ value ▸ c.put_true_if-3.ensures)
+    c.close_object.ensures tt)

@@ -3,6 +3,6 @@ use Rattle.reg_print.proofs.bodies.capability.CapPrintItself.print.Goals as goal
 
 pub returns : goal.returns
 returns c =
-    prints_object c.in_ok-open_object.ensures
-    (c.in_ok-put.ensures ▸ c.in_ok-put_right.ensures)
-    c.in_ok-close_object.ensures tt
+    prints_object c.open_object.ensures
+    (c.put.ensures ▸ c.put_right.ensures)
+    c.close_object.ensures tt

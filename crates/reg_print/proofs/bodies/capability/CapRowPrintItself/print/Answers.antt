@@ -3,7 +3,7 @@ use Rattle.reg_print.proofs.bodies.capability.CapRowPrintItself.print.Goals as g
 
 pub returns : goal.returns
 returns c =
-    let digits = rw c.shown_digits.ensures at c.in_ok-put_text.ensures in
-    prints_object c.in_ok-open_object.ensures
-    (c.in_ok-put.ensures ▸ digits ▸ c.in_ok-put_right.ensures)
-    c.in_ok-close_object.ensures tt
+    let digits = rw c.shown_digits.ensures at c.put_text.ensures in
+    prints_object c.open_object.ensures
+    (c.put.ensures ▸ digits ▸ c.put_right.ensures)
+    c.close_object.ensures tt

@@ -3,8 +3,8 @@ use Rattle.reg_print.proofs.bodies.holding.HoldingPrintItself.print.Goals as goa
 
 pub returns : goal.returns
 returns c =
-    let size = rw (c.word.ensures, c.size.ensures) at c.in_ok-put_text.ensures in
-    prints_object c.in_ok-open_object.ensures
-    (c.in_ok-put.ensures ▸ c.in_ok-put_block.ensures ▸ c.in_ok-put-2.ensures
-    ▸ c.in_ok-put_flag.ensures ▸ size)
-    c.in_ok-close_object.ensures tt
+    let size = rw (c.word.ensures, c.size.ensures) at c.put_text.ensures in
+    prints_object c.open_object.ensures
+    (c.put.ensures ▸ c.put_block.ensures ▸ c.put-2.ensures
+    ▸ c.put_flag.ensures ▸ size)
+    c.close_object.ensures tt

@@ -3,5 +3,5 @@ use Rattle.reg_print.proofs.bodies.page.NamePrintDefined.print.Goals as goal
 
 pub returns : goal.returns
 returns c =
-    prints_object c.in_ok-open_object.ensures
-    c.in_ok-put.ensures c.in_ok-close_object.ensures tt
+    prints_object c.open_object.ensures
+    c.put.ensures c.close_object.ensures tt

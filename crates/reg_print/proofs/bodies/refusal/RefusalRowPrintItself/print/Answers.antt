@@ -3,6 +3,6 @@ use Rattle.reg_print.proofs.bodies.refusal.RefusalRowPrintItself.print.Goals as 
 
 pub returns : goal.returns
 returns c =
-    prints_object c.in_ok-open_object.ensures
-    (c.in_ok-put_text.ensures ▸ c.in_ok-put_detail_if.ensures)
-    c.in_ok-close_object.ensures tt
+    prints_object c.open_object.ensures
+    (c.put_text.ensures ▸ c.put_detail_if.ensures)
+    c.close_object.ensures tt

@@ -3,6 +3,6 @@ use Rattle.reg_print.proofs.bodies.request.RequestPrintItself.print.Goals as goa
 
 pub returns : goal.returns
 returns c =
-    prints_object c.in_ok-open_object.ensures
-    (c.in_ok-put_own.ensures)
-    c.in_ok-close_object.ensures tt
+    prints_object c.open_object.ensures
+    (c.put_own.ensures)
+    c.close_object.ensures tt

@@ -3,6 +3,6 @@ use Rattle.reg_print.proofs.bodies.times.RequestTimesPrintItself.print.Goals as 
 
 pub returns : goal.returns
 returns c =
-    prints_object c.in_ok-open_object.ensures
-    (c.in_ok-put_number_if.ensures ▸ c.in_ok-put.ensures ▸ c.in_ok-put_number_if-2.ensures)
-    c.in_ok-close_object.ensures tt
+    prints_object c.open_object.ensures
+    (c.put_number_if.ensures ▸ c.put.ensures ▸ c.put_number_if-2.ensures)
+    c.close_object.ensures tt

@@ -1,0 +1,5 @@
+use Rattle.reg_print.proofs.PrintedTokens.{is_member}
+use Rattle.reg_print.proofs.printing.Printer.put_number.Goals as goal
+
+pub returns : goal.returns
+returns c = is_member c.name.ensures c.number.ensures
