@@ -17,6 +17,47 @@ operation_for method at =
     else (if bytes_eq method (codes "PUT") then at.put
     else (if bytes_eq method (codes "DELETE") then at.delete else None))
 
+-- it is at the desk, for clerks alone
+abbrev pub is_of_desk : Operation → Bool
+is_of_desk Registries = false
+is_of_desk Registry = false
+is_of_desk RegistryCsv = false
+is_of_desk BlocksCsv = false
+is_of_desk PoolList = false
+is_of_desk Token = false
+is_of_desk Own = false
+is_of_desk OwnOne = false
+is_of_desk Submit = false
+is_of_desk Withdraw = false
+is_of_desk Holdings = false
+is_of_desk SetListing = false
+is_of_desk SetAgent = false
+is_of_desk Agents = false
+is_of_desk Principals = false
+is_of_desk PrincipalRows = false
+is_of_desk Times = false
+is_of_desk PrincipalTimes = false
+is_of_desk Queue = false
+is_of_desk Advise = false
+is_of_desk AllRequests = true
+is_of_desk OneRequest = true
+is_of_desk AssignExpert = true
+is_of_desk Approve = true
+is_of_desk Decline = true
+is_of_desk SetHold = true
+is_of_desk Define = true
+is_of_desk AddPool = true
+is_of_desk Grant = true
+is_of_desk Revoke = true
+is_of_desk PendingRequests = true
+is_of_desk AllCapabilities = true
+is_of_desk RevokeDigits = true
+is_of_desk RevokeAccount = true
+is_of_desk CountRows = true
+is_of_desk ActsOn = true
+is_of_desk ActsBy = true
+is_of_desk ActsAbout = true
+
 -- ---- the patterns that name parts
 
 -- of one registry, as a page and as a listing

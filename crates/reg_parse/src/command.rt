@@ -3,7 +3,7 @@ ghost use Rattle.std.specs.Prelude.{◌≡◌, true, IfOk, IfSome, option_map};
 ghost use Rattle.reg_blocks.specs.Digits.{read_block, read_prefix};
 ghost use Rattle.reg_core.specs.Command.{has_command_form};
 ghost use Rattle.reg_early.specs.DayReading.{read_clock_day};
-ghost use Rattle.reg_parse.specs.Route.{operation_for};
+ghost use Rattle.reg_parse.specs.Route.{is_of_desk, operation_for};
 ghost use Rattle.reg_parse.specs.Bodies.Members.{Gives};
 ghost use Rattle.reg_ranges.specs.Numbers.{read_number};
 ghost use Rattle.reg_ranges.specs.Texts.{read_text};
@@ -99,6 +99,21 @@ fn command_of(alloc: Global, call: Operation, path: &str, body: &[u8]) -> Result
         Operation::PrincipalTimes => read_principal_times(path, body),
         Operation::Queue => bodiless(Command::Expert(ExpertCommand::Queue), body),
         Operation::Advise => read_advise(alloc, path, body),
+        _ => desk_command_of(alloc, call, path, body),
+    }
+}
+
+// The same of what is at the desk, for clerks alone.
+fn desk_command_of(
+    alloc: Global,
+    call: Operation,
+    path: &str,
+    body: &[u8],
+) -> Result<Command, ReadFault>
+    requires { is_of_desk call ≡ true }
+    ensures { Gives result (command_of call path.now body.now) }
+{
+    match call {
         Operation::AllRequests => bodiless(Command::Clerk(ClerkCommand::AllRequests), body),
         Operation::OneRequest => read_one_request(path, body),
         Operation::AssignExpert => read_assign_expert(path, body),
@@ -117,6 +132,7 @@ fn command_of(alloc: Global, call: Operation, path: &str, body: &[u8]) -> Result
         Operation::ActsOn => read_acts_on(path, body),
         Operation::ActsBy => read_acts_by(path, body),
         Operation::ActsAbout => read_acts_about(path, body),
+        _ => Err(ReadFault::Refused(WireRefusal::Method)),
     }
 }
 
