@@ -1,10 +1,11 @@
 -- The last of the rows about a request by which it came tells when it did.
-use Rattle.std.proofs.Common.{◌≡◌, ℕ, ◌+◌, Bool, true, false, cond, List, [], ◌∷◌, ◌++◌, length, map, reverse, Option, Some, None, refl, sym, ap, ◌∙◌, arith}
+use Rattle.std.proofs.Common.{◌≡◌, ℕ, ◌+◌, Bool, true, false, cond, List, [], ◌∷◌, ◌++◌, length, map, reverse, Option, Some, None, refl, sym, ap, ◌∙◌, arith, ◌<◌, add-one, get_or, take}
 use Rattle.std.specs.Prelude.{filter_map, find, option_and_then, option_or, if◌then◌else◌}
 use Rattle.std.specs.FinMap.{FinMap, entries}
 use Rattle.std.specs.List.{range_with_len}
-use Rattle.std.proofs.lemmas.List.{length-append, length-map, map-reverse}
+use Rattle.std.proofs.lemmas.List.{length-append, length-map, map-append, reverse-append}
 use Rattle.std.proofs.lemmas.List.Folds.{find-append}
+use Rattle.std.proofs.Math.Seq.{take-suc}
 use Rattle.reg_maps.specs.Maps.{keyed, only_if}
 use Rattle.reg_maps.proofs.MapLaws.{entries-select, number_keys}
 use Rattle.reg_core.specs.Arrivals.{arrival, arrival_number}
@@ -21,6 +22,11 @@ use Rattle.reg_statements.specs.Content.{AreTied, assembled}
 use Rattle.reg_statements.specs.Defined.{rows_where}
 use Rattle.reg_statements.specs.Office as office
 use Rattle.reg_statements.specs.Parts.{Parts}
+
+map-reverse : {A B : Type 0} (f : A → B) (xs : List A) → reverse (map f xs) ≡ map f (reverse xs)
+map-reverse f [] = refl
+map-reverse f (x ∷ xs) =
+    ap (λ ys. ys ++ f x ∷ []) (map-reverse f xs) ∙ sym (map-append f (reverse xs) (x ∷ []))
 
 -- ---- Numbers from behind
 
@@ -127,3 +133,30 @@ module _ (name : RequestName) where
       ∙ ap (λ rows. arrival_by (find by_it rows)) (map-reverse row es)
       ∙ last_of_all (reverse es) (turned 1 es ties.acts)
       ∙ ap (λ acts. arrival acts name) (sym (map-reverse (λ (e : ℕ × Act). e.1) es))
+
+-- with one row more
+pub arrival-next : (name : RequestName) (rows : List NumberedAct) (i : ℕ) (row : NumberedAct)
+    → i < length rows → get_or rows i row ≡ row
+    → (if submits name row.act.deed then arrival_by (Some row)
+    else arrival_by (find (λ n. submits name n.act.deed) (reverse (take i rows))))
+    ≡ arrival_by (find (λ n. submits name n.act.deed) (reverse (take (i + 1) rows)))
+arrival-next name rows i row inside here =
+    by (submits name row.act.deed)
+    ∙ ap (λ rows. arrival_by (find by_it rows)) (sym longer)
+  where
+    by_it : NumberedAct → Bool
+    by_it n = submits name n.act.deed
+
+    before : List NumberedAct
+    before = reverse (take i rows)
+
+    longer : reverse (take (i + 1) rows) ≡ row ∷ before
+    longer =
+        rw add-one
+        (ap reverse (take-suc rows i row inside ∙ ap (λ r. take i rows ++ r ∷ []) here)
+        ∙ reverse-append (take i rows) (row ∷ []))
+
+    by : (b : Bool) → (if b then arrival_by (Some row) else arrival_by (find by_it before))
+        ≡ arrival_by (cond b (Some row) (find by_it before))
+    by true = refl
+    by false = refl

@@ -1,5 +1,5 @@
 //! When requests came, as the table of acts has it.
-ghost use Rattle.std.specs.Prelude.{◌≡◌, find, reverse};
+ghost use Rattle.std.specs.Prelude.{◌≡◌, Some, find, if◌then◌else◌, reverse};
 ghost use Rattle.sqlite.specs.Held.{state};
 ghost use Rattle.reg_core.specs.Arrivals.{arrival as arrival_of};
 ghost use Rattle.reg_core.specs.Times.{submits as submits_it};
@@ -44,19 +44,28 @@ fn last_arrival(rows: &[NumberedAct], account: &Account, reference: &Ref) -> Arr
     ensures { result ≡ arrival_by
         (find (λ n. submits_it (account.now, reference.now) n.act.deed) (reverse rows.now)) }
 {
-    match rows
-        .iter()
-        .rev()
-        .find(|row| submits(&row.act.deed, account, reference))
-    {
-        Some(row) => Arrival {
+    let mut found = Arrival {
+        number: 0,
+        moment: None,
+    };
+    for row in rows {
+        found = arrival_after(found, row, account, reference);
+    }
+    found
+}
+
+// When a request came, after one act more.
+fn arrival_after(found: Arrival, row: &NumberedAct, account: &Account, reference: &Ref) -> Arrival
+    ensures { result ≡ (if submits_it (account.now, reference.now) row.now.act.deed
+        then arrival_by (Some row.now) else found) }
+{
+    if submits(&row.act.deed, account, reference) {
+        Arrival {
             number: u64::from(row.number),
             moment: row.act.stamp.moment,
-        },
-        None => Arrival {
-            number: 0,
-            moment: None,
-        },
+        }
+    } else {
+        found
     }
 }
 

@@ -20,7 +20,8 @@ use Rattle.reg_core.specs.declared.journal.Act.{Act}
 use Rattle.reg_core.specs.declared.journal.Arrival.{Arrival}
 use Rattle.reg_core.specs.declared.journal.Deed.{Deed}
 use Rattle.reg_core.specs.declared.journal.Deed.TheVariants.{Submit}
-use Rattle.reg_store.specs.Lists.Arrivals.{arrival_or}
+use Rattle.reg_core.specs.declared.journal.Stamp.{Stamp}
+use Rattle.reg_store.specs.Lists.Arrivals.{arrival_or, with_arrival}
 use Rattle.reg_store.specs.Lists.Journal.{journal_of}
 use Rattle.reg_store.proofs.JournalLaws.{with_acts-append}
 
@@ -62,13 +63,13 @@ module _ (journal : List Act) (act : Act) (name : RequestName) where
   -- by which the request did not come
   pub arrival-other : submits name act.deed ≡ false
       → arrival (act ∷ journal) name ≡ arrival journal name
-  arrival-other no = ap arrival_by no
+  arrival-other h = ap arrival_by h
 
   -- by which it came
   pub arrival-this : submits name act.deed ≡ true
       → arrival (act ∷ journal) name
       ≡ record { number = length journal + 1; moment = act.stamp.moment }
-  arrival-this yes = ap arrival_by yes
+  arrival-this h = ap arrival_by h
 
 -- by which another one may have come
 pub arrival-put : (m : FinMap name_cmp Arrival) (journal : List Act) (act : Act)
@@ -93,3 +94,17 @@ arrival-put m journal act of x deed is found name =
         (ap (λ n. eq_by_cmp name_cmp n of) (sym (same_name-is of name s))
         ∙ (eq_by_cmp_equiv name_keys.total).refl of)) in
         found name ∙ sym (arrival-other journal act name (ap (submits name) deed ∙ other))
+
+-- by which any may have come
+pub arrival-next : (m : FinMap name_cmp Arrival) (journal : List Act) (stamp : Stamp) (deed : Deed)
+    (number : ℕ) → number ≡ length journal + 1
+    → ((name : RequestName) → arrival_or (get m name) ≡ arrival journal name)
+    → (name : RequestName)
+    → arrival_or (get (with_arrival deed (record { number = number; moment = stamp.moment }) m) name)
+    ≡ arrival (record { stamp = stamp; deed = deed } ∷ journal) name
+arrival-next m journal stamp (Submit account reference) number is found name =
+    arrival-put m journal (record { stamp = stamp; deed = Submit account reference })
+    (account, reference) (record { number = number; moment = stamp.moment }) refl
+    (λ i. record { number = is i; moment = stamp.moment }) found name
+arrival-next m journal stamp deed number is found name =
+    found name ∙ sym (arrival-other journal (record { stamp = stamp; deed = deed }) name refl)

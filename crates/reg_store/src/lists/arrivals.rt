@@ -1,7 +1,9 @@
 //! When requests came, as the acts of a journal have it.
-ghost use Rattle.std.specs.Prelude.{◌≡◌, ◌+◌, ◌<◌, [], IfOk, OnOk, length};
+ghost use Rattle.std.specs.Prelude.{◌≡◌, ◌+◌, ◌<◌, [], IfOk, OnErr, OnOk, length};
+ghost use Rattle.reg_maps.specs.Groups.{pair_map};
+ghost use Rattle.reg_maps.specs.Maps.{text_cmp};
 ghost use Rattle.reg_core.specs.Arrivals.{arrival};
-ghost use Rattle.reg_store.specs.Lists.Arrivals.{AreArrivals, arrival_held};
+ghost use Rattle.reg_store.specs.Lists.Arrivals.{AreArrivals, arrival_held, with_arrival};
 ghost use Rattle.reg_store.specs.Lists.Journal.{journal_of};
 
 use crate::groups::{put_row, row_in};
@@ -10,11 +12,13 @@ use reg_core::text::{Account, Ref};
 use std::alloc::{AllocError, Global};
 use std::collections::BTreeMap;
 
+type ArrivalRows = BTreeMap<Account, BTreeMap<Ref, Arrival>>;
+
 /// When each request came, by account and reference, as far as the first acts of a journal tell.
 /// Acts that are made later are noted when a request is next looked up.
 #[derive(Drop)]
 pub struct Arrivals {
-    rows: BTreeMap<Account, BTreeMap<Ref, Arrival>>,
+    rows: ArrivalRows,
     noted: usize,
 }
 
@@ -67,14 +71,7 @@ impl Arrivals {
         ensures in_step { AreArrivals self.new acts.now }
         ensures noted { OnOk result (self.new.noted ≡ place + 1) }
     {
-        let act = &acts[place];
-        if let Deed::Submit(account, reference) = act.deed {
-            let arrival = Arrival {
-                number: place as u64 + 1,
-                moment: act.stamp.moment,
-            };
-            put_row(alloc, &mut self.rows, account, reference, arrival)?;
-        }
+        put_arrival(alloc, &mut self.rows, &acts[place], place as u64 + 1)?;
         self.noted = place + 1;
         Ok(())
     }
@@ -90,5 +87,30 @@ impl Arrivals {
                 moment: None,
             },
         }
+    }
+}
+
+// Keeps when a request came, if it did by this act, which has this number.
+fn put_arrival(
+    alloc: Global,
+    rows: &mut ArrivalRows,
+    act: &Act,
+    number: u64,
+) -> Result<(), AllocError>
+    ensures ok { OnOk result (pair_map text_cmp text_cmp rows.new
+        ≡ with_arrival act.now.deed (record { number = number; moment = act.now.stamp.moment })
+        (pair_map text_cmp text_cmp rows.old)) }
+    ensures err { OnErr result (pair_map text_cmp text_cmp rows.new
+        ≡ pair_map text_cmp text_cmp rows.old) }
+{
+    match act.deed {
+        Deed::Submit(account, reference) => {
+            let arrival = Arrival {
+                number,
+                moment: act.stamp.moment,
+            };
+            put_row(alloc, rows, account, reference, arrival)
+        }
+        _ => Ok(()),
     }
 }
