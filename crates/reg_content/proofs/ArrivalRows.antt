@@ -1,8 +1,9 @@
 -- The last of the rows about a request by which it came tells when it did.
-use Rattle.std.proofs.Common.{◌≡◌, ℕ, ◌+◌, Bool, true, false, cond, List, [], ◌∷◌, ◌++◌, length, map, reverse, Option, Some, None, refl, sym, ap, ◌∙◌, arith, ◌<◌, add-one, get_or, take}
-use Rattle.std.specs.Prelude.{filter_map, find, option_and_then, option_or, if◌then◌else◌}
+use Rattle.std.proofs.Common.{◌≡◌, ℕ, ◌+◌, Bool, true, false, cond, List, [], ◌∷◌, ◌++◌, length, map, reverse, Option, Some, None, refl, sym, ap, ◌∙◌, arith, ◌<◌, add-one, get_or, take, subst}
+use Rattle.std.specs.Prelude.{filter_map, find, option_and_then, if◌then◌else◌}
 use Rattle.std.specs.FinMap.{FinMap, entries}
-use Rattle.std.specs.List.{range_with_len}
+use Rattle.std.specs.List.{cons_option, range_with_len}
+use Rattle.std.specs.Option.{option_or}
 use Rattle.std.proofs.lemmas.List.{length-append, length-map, map-append, reverse-append}
 use Rattle.std.proofs.lemmas.List.Folds.{find-append}
 use Rattle.std.proofs.Math.Seq.{take-suc}
@@ -23,10 +24,15 @@ use Rattle.reg_statements.specs.Defined.{rows_where}
 use Rattle.reg_statements.specs.Office as office
 use Rattle.reg_statements.specs.Parts.{Parts}
 
+-- the first is the last of the reverse
+reverse-first : {A : Type 0} (x : A) (xs : List A) → reverse (x ∷ xs) ≡ reverse xs ++ x ∷ []
+reverse-first x xs = reverse-append (x ∷ []) xs
+
 map-reverse : {A B : Type 0} (f : A → B) (xs : List A) → reverse (map f xs) ≡ map f (reverse xs)
 map-reverse f [] = refl
 map-reverse f (x ∷ xs) =
-    ap (λ ys. ys ++ f x ∷ []) (map-reverse f xs) ∙ sym (map-append f (reverse xs) (x ∷ []))
+    reverse-first (f x) (map f xs) ∙ ap (λ ys. ys ++ f x ∷ []) (map-reverse f xs)
+    ∙ sym (ap (map f) (reverse-first x xs) ∙ map-append f (reverse xs) (x ∷ []))
 
 -- ---- Numbers from behind
 
@@ -49,7 +55,8 @@ turned n [] are = tt
 turned n (e ∷ es) are =
     let first : e.0 ≡ n = cc in
     let rest : map (λ (e : ℕ × Act). e.0) es ≡ range_with_len (n + 1) (length es) = cc in
-    before_all n e (reverse es) first (turned (n + 1) es rest)
+    subst (AreDown n) (sym (reverse-first e es))
+    (before_all n e (reverse es) first (turned (n + 1) es rest))
 
 -- ---- The last act by which it came
 
@@ -104,19 +111,23 @@ module _ (name : RequestName) where
       → find by_it (reverse (map row (those_about es))) ≡ find by_it (reverse (map row es))
   last_about [] = refl
   last_about (e ∷ es) =
-      by (is_about name e.1) refl ∙ sym (find-append by_it (reverse (map row es)) (row e ∷ []))
+      by (last_about es) (is_about name e.1) refl
+      ∙ sym (find-append by_it (reverse (map row es)) (row e ∷ []))
+      ∙ ap (find by_it) (sym (reverse-first (row e) (map row es)))
     where
       rest : List (ℕ × Act)
       rest = those_about es
 
-      by : (b : Bool) → is_about name e.1 ≡ b
-          → find by_it (reverse (map row (cond b (e ∷ rest) rest)))
+      by : find by_it (reverse (map row rest)) ≡ find by_it (reverse (map row es)) → (b : Bool)
+          → is_about name e.1 ≡ b
+          → find by_it (reverse (map row (cons_option (keyed e.0 (only_if b e.1)) rest)))
           ≡ option_or (find by_it (reverse (map row es))) (find by_it (row e ∷ []))
-      by true is =
-          find-append by_it (reverse (map row rest)) (row e ∷ [])
-          ∙ ap (λ o. option_or o (find by_it (row e ∷ []))) (last_about es)
-      by false is =
-          last_about es
+      by same true is =
+          ap (find by_it) (reverse-first (row e) (map row rest))
+          ∙ find-append by_it (reverse (map row rest)) (row e ∷ [])
+          ∙ ap (λ o. option_or o (find by_it (row e ∷ []))) same
+      by same false is =
+          same
           ∙ sym (or_none (find by_it (reverse (map row es))))
           ∙ ap (λ b. option_or (find by_it (reverse (map row es))) (cond b (Some (row e)) None))
           (sym (not_by_others e.1.deed is))

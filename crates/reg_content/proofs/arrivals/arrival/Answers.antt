@@ -15,5 +15,5 @@ returns g c =
     looks_tied c.requires c.in_ok-rows.ensures.rows (λ p ties is.
     c.last_arrival.ensures
     ∙ ap (λ rows. arrival_by (find (λ (n : NumberedAct). submits name n.act.deed) (reverse rows)))
-    (is _ (rw (c.name_value.ensures, c.name_value-2.ensures) (lists_acts_about c.args.account.now c.args.reference.now)))
+    (c.as_slice.ensures.value ∙ is _ (rw (c.name_value.ensures, c.name_value-2.ensures) (lists_acts_about c.args.account.now c.args.reference.now)))
     ∙ arrival_of_rows name p ties)

@@ -12,7 +12,7 @@ pub loop-row-preserved : goal.loop-row-preserved
 loop-row-preserved c =
     let name : RequestName = (c.args.account.now, c.args.reference.now) in
     let row = c.row-item.result in
-    c.arrival_after.ensures
+    c.arrival_after-found.ensures
     ∙ ap (λ found. if submits name row.act.deed then arrival_by (Some row) else found)
     c.loop-row.invariant
     ∙ arrival-next name c.args.rows.now c.loop-row.row-index row c.loop-row-test.true
