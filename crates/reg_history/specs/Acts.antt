@@ -1,5 +1,5 @@
 -- The acts of an office as a text, each of which is tied to all before it.
-use Rattle.std.specs.Prelude.{◌≡◌, ℕ, ◌+◌, List, [], ◌∷◌, ◌++◌, length, codes, Option, Some, None, option_map, unwrap_or}
+use Rattle.std.specs.Prelude.{◌≡◌, ℕ, List, [], ◌∷◌, ◌++◌, codes, Option, option_map, unwrap_or}
 use Rattle.std.specs.Fmt.{decimal}
 use Rattle.reg_blocks.specs.Digits.{block_text, prefix_text}
 use Rattle.reg_core.specs.ActKind.{act_kind_of, act_kind_word}

@@ -7,8 +7,9 @@ loop-act-init c = text_of_none _ _ c.in_ok-whole.ensures.text c.in_ok-whole.ensu
 
 pub loop-act-preserved : goal.loop-act-preserved
 loop-act-preserved c =
-    text_to c.args.acts.now c.loop-act.act-index _ _ _ _ _ (omega (arith, c.loop-act-test.true)) _
-    c.loop-act.invariant c.in_ok-add.ensures.text c.in_ok-add.ensures.digests
+    text_to c.args.acts.now c.loop-act.act-index c.act-item.result _ _ _ _
+    (omega (arith, c.loop-act-test.true)) c.act-item.is c.loop-act.invariant c.in_ok-add.ensures.text
+    c.in_ok-add.ensures.digests
 
 pub returns : goal.returns
 returns c = text_whole c.args.acts.now c.loop-act.act-index _ _ (omega (arith, c.loop-act-test.false)) c.loop-act.invariant
