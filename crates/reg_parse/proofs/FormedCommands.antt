@@ -95,11 +95,11 @@ day_is day h = grind (arith, nat_tests)
 read_clock_day-gives : Gives is_day read_clock_day
 read_clock_day-gives text day e = by (read_day text) refl e
   where
-    then : Option ℕ → Option ℕ
-    then None = None
-    then (Some read) = in_clock_years read
+    in_clock : Option ℕ → Option ℕ
+    in_clock None = None
+    in_clock (Some read) = in_clock_years read
 
-    by : (o : Option ℕ) → read_day text ≡ o → then o ≡ Some day → is_day day ≡ true
+    by : (o : Option ℕ) → read_day text ≡ o → in_clock o ≡ Some day → is_day day ≡ true
     by None is e = absurd (cc)
     by (Some read) is e = kept (nat_lt read 376200) e
       where
