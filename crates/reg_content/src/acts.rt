@@ -86,5 +86,9 @@ pub fn acts_about<S: Reports + Loads>(
 fn acts_in(alloc: Global, rows: &[NumberedAct]) -> Result<Vec<Act>, AllocError>
     ensures { IfOk result (λ acts. acts.items ≡ map (λ n. n.act) rows.now) }
 {
-    rows.iter().map(|row| row.act).collect(alloc)
+    let mut acts = Vec::with_capacity(alloc, rows.len())?;
+    for row in rows {
+        acts.push(row.act)?;
+    }
+    Ok(acts)
 }
