@@ -21,6 +21,7 @@ use Rattle.reg_core.specs.declared.command.ApplicantCommand.TheVariants as appli
 use Rattle.reg_core.specs.declared.command.ClerkCommand.TheVariants as clerk
 use Rattle.reg_core.specs.declared.command.TimesCommand.TheVariants as times
 use Rattle.reg_early.specs.Calendar.{IsDay}
+use Rattle.reg_early.specs.DayReading as days
 use Rattle.reg_early.specs.DayReading.{in_clock_years, read_clock_day, read_day}
 use Rattle.reg_early.specs.Forms.{is_day}
 use Rattle.reg_early.proofs.DaysRead.{read_day-is}
@@ -95,11 +96,8 @@ day_is day h = grind (arith, nat_tests)
 read_clock_day-gives : Gives is_day read_clock_day
 read_clock_day-gives text day e = by (read_day text) refl e
   where
-    then : Option ℕ → Option ℕ
-    then None = None
-    then (Some read) = in_clock_years read
-
-    by : (o : Option ℕ) → read_day text ≡ o → then o ≡ Some day → is_day day ≡ true
+    by : (o : Option ℕ) → read_day text ≡ o → days.◌>>=◌ o in_clock_years ≡ Some day
+        → is_day day ≡ true
     by None is e = absurd (cc)
     by (Some read) is e = kept (nat_lt read 376200) e
       where
