@@ -2,6 +2,8 @@
 use Rattle.std.proofs.Common.{◌≡◌, Bool, true, false, cond, ℕ, List, [], ◌∷◌, ◌++◌, map, filter, Option, refl, sym, ap, ◌∙◌, append-nil, append_assoc}
 use Rattle.std.specs.Prelude.{filter_map, reverse, if◌then◌else◌}
 use Rattle.std.specs.FinMap.{FinMap, entries}
+use Rattle.std.specs.List.{cons_option}
+use Rattle.std.proofs.lemmas.List.{reverse-append}
 use Rattle.std.specs.Ordering.{nat_cmp}
 use Rattle.reg_maps.specs.Maps.{keyed, only_if, select}
 use Rattle.reg_maps.proofs.MapLaws.{entries-select, number_keys}
@@ -36,7 +38,8 @@ module _ (test : Act → Bool) where
   in_order-reverse : (xs : List Act) → acts_in_order test (reverse xs) ≡ filter test xs
   in_order-reverse [] = refl
   in_order-reverse (x ∷ xs) =
-      in_order-append (reverse xs) (x ∷ [])
+      ap (acts_in_order test) (reverse-append (x ∷ []) xs)
+      ∙ in_order-append (reverse xs) (x ∷ [])
       ∙ ap (λ acts. one x ++ acts) (in_order-reverse xs) ∙ one_more x xs
 
   -- the acts of the rows that pass
@@ -54,7 +57,7 @@ module _ (test : Act → Bool) where
       shown es = map (λ (n : NumberedAct). n.act) (map (λ e. office.journal.item e.0 e.1) es)
 
       by : shown rest ≡ filter test (map (λ (e : ℕ × Act). e.1) es) → (b : Bool)
-          → shown (cond b (e ∷ rest) rest)
+          → shown (cons_option (keyed e.0 (only_if b e.1)) rest)
           ≡ cond b (e.1 ∷ filter test (map (λ (e : ℕ × Act). e.1) es))
           (filter test (map (λ (e : ℕ × Act). e.1) es))
       by more true = ap (λ acts. e.1 ∷ acts) more

@@ -1,6 +1,8 @@
 -- What a statement that asks for acts asks of a row.
-use Rattle.std.proofs.Common.{◌≡◌, ℕ, ◌/◌, ◌%◌, Bool, true, false, ◌&&◌, List, [], ◌∷◌, ◌++◌, Option, Some, None, refl, ap, ◌∙◌}
+use Rattle.std.proofs.Common.{◌≡◌, ℕ, pos, ◌==◌, arith, ◌/◌, ◌%◌, Bool, true, false, ◌&&◌, List, [], ◌∷◌, ◌++◌, Option, Some, None, refl, ap, ◌∙◌}
 use Rattle.std.proofs.Math.Bool.{and-true}
+use Rattle.std.proofs.lemmas.Bool.Decides.{nat_tests}
+use Rattle.std.specs.Ordering.{int_eq}
 use Rattle.sqlite.specs.Order.{Row, column}
 use Rattle.sqlite.specs.Values.{or_null}
 use Rattle.sqlite.specs.declared.types.Value.{Value}
@@ -19,7 +21,6 @@ use Rattle.reg_tables.specs.Editing.{has_all}
 use Rattle.reg_tables.specs.Selecting.{stored}
 use Rattle.reg_tables.specs.Values.{same_value}
 use Rattle.reg_statements.proofs.Office as laws
-use Rattle.reg_statements.proofs.Office.{number_tied}
 use Rattle.reg_content.proofs.AskedRows.{asked}
 
 -- ---- When
@@ -28,10 +29,13 @@ use Rattle.reg_content.proofs.AskedRows.{asked}
 abbrev day_cell : Option ℕ → Value
 day_cell moment = or_null (λ m. whole_value (m / 86400)) moment
 
+same_numbers : (m n : ℕ) → int_eq (pos m) (pos n) ≡ (m == n)
+same_numbers m n = grind (arith, nat_tests)
+
 is_day : (day : ℕ) (moment : Option ℕ)
     → same_value (day_cell moment) (whole_value day) ≡ is_moment_on day moment
 is_day day None = refl
-is_day day (Some moment) = number_tied (moment / 86400) day
+is_day day (Some moment) = same_numbers (moment / 86400) day
 
 pub made_on : (day : ℕ) (row : Row) (n : NumberedAct) → act_in (stored 13 row) ≡ Some n
     → has_all ((2, whole_value day) ∷ []) row ≡ is_on day n.act

@@ -182,6 +182,22 @@ own_times_rows w account (times.Principal principal) =
         (own_principal_times account principal w (ap is_some is))
         ∙ ap (λ rows. unchanged (tells.Times rows)) (times_told w principal)
 
+-- whoever is admitted is told the times of its account
+times_of_admitted : (w : World) (digest : List ℕ) (moment day : ℕ) (command : TimesCommand)
+    (mine : Cap) (outcome : Result Cap Refusal)
+    → admitted (Some mine) moment kind.Applicant ≡ outcome
+    → (outcome
+    >>= (λ served. times_answer mine.account (personal mine.account w)
+    (Some (own_times mine.account w)) command))
+    ≡ (caller_by digest moment day outcome
+    >>= (λ who. answer_about_times who.capability.account command w))
+times_of_admitted w digest moment day command mine (Err refusal) is = refl
+times_of_admitted w digest moment day command mine (Ok served) is =
+    let ok = admitted-ok (Some mine) moment kind.Applicant served is in
+    let itself : mine ≡ served = cc in
+    own_times_rows w mine.account command
+    ∙ ap (λ (c : Cap). answer_about_times c.account command w) itself
+
 pub times_answered : (w : World) (caller : Option (List ℕ)) (moment day : ℕ)
     (command : TimesCommand) → is_in_clock moment ≡ true
     → answer_to token_digest w caller moment (Times command)
@@ -197,26 +213,9 @@ times_answered w (Some digest) moment day command open_now =
         ≡ (caller_by digest moment day (admitted found moment kind.Applicant)
         >>= (λ who. answer_about_times who.capability.account command w))
     by None = refl
-    by (Some cap) =
-        elim (nat_le cap.until moment) as
-        (λ late. (if late then Err no.Token
-        else if same_kind cap.kind kind.Applicant then Ok cap else Err no.Kind)
-        >>= (λ (c : Cap). times_answer c.account (personal c.account w)
-        (Some (own_times cap.account w)) command)
-        ≡ (caller_by digest moment day (if late then Err no.Token
-        else if same_kind cap.kind kind.Applicant then Ok cap else Err no.Kind)
-        >>= (λ who. answer_about_times who.capability.account command w))) [
-          | true ↦ refl
-          | false ↦ elim (same_kind cap.kind kind.Applicant) as
-              (λ same. (if same then Ok cap else Err no.Kind)
-              >>= (λ (c : Cap). times_answer c.account (personal c.account w)
-              (Some (own_times cap.account w)) command)
-              ≡ (caller_by digest moment day (if same then Ok cap else Err no.Kind)
-              >>= (λ who. answer_about_times who.capability.account command w))) [
-                | true ↦ own_times_rows w cap.account command
-                | false ↦ refl
-              ]
-        ]
+    by (Some mine) =
+        times_of_admitted w digest moment day command mine
+        (admitted (Some mine) moment kind.Applicant) refl
 
 -- ---- A token
 

@@ -1,8 +1,9 @@
 -- The times of an account's requests, told as those of its rows.
-use Rattle.std.proofs.Common.{◌≡◌, Bool, true, false, cond, ℕ, List, [], ◌∷◌, map, refl, sym, ap, ◌∙◌}
+use Rattle.std.proofs.Common.{◌≡◌, Bool, true, false, ℕ, List, [], ◌∷◌, map, refl, sym, ap, ◌∙◌}
 use Rattle.std.proofs.lemmas.Simd.{map-map}
 use Rattle.std.specs.Prelude.{Option, filter_map}
 use Rattle.std.specs.FinMap.{entries}
+use Rattle.std.specs.List.{cons_option}
 use Rattle.reg_maps.proofs.MapLaws.{entries-select}
 use Rattle.reg_maps.specs.Maps.{keyed, only_if, same_text}
 use Rattle.reg_core.proofs.KeyOrders.{name_keys}
@@ -39,11 +40,10 @@ module _ (w : World) (of : List ℕ) where
     where
       by : told_rows es ≡ own_rows es → (b : Bool)
           → map (λ (e : RequestName × Times). times_row e.0 e.1)
-          (cond b ((e.0, times_of w.journal e.0 e.1)
-          ∷ filter_map (λ (e : RequestName × Case). keyed e.0 (told_at e.0 e.1)) es)
+          (cons_option (keyed e.0 (only_if b (times_of w.journal e.0 e.1)))
           (filter_map (λ (e : RequestName × Case). keyed e.0 (told_at e.0 e.1)) es))
           ≡ map row_at
-          (cond b (e ∷ filter_map (λ (e : RequestName × Case). keyed e.0 (own_at e.0 e.1)) es)
+          (cons_option (keyed e.0 (only_if b e.1))
           (filter_map (λ (e : RequestName × Case). keyed e.0 (own_at e.0 e.1)) es))
       by rest true = ap (λ rows. row_at e ∷ rows) rest
       by rest false = rest

@@ -1,15 +1,16 @@
 use Rattle.std.proofs.Common.{◌≡◌, ℕ, Result, Ok, sym, ap, ◌∙◌}
 use Rattle.std.specs.Option.{option_copied}
 use Rattle.reg_core.specs.Allowance.{◌>>=◌}
-use Rattle.reg_core.specs.Answer.{Answer}
+use Rattle.reg_core.specs.Answer.{Answer, unchanged}
 use Rattle.reg_core.specs.Step.{answer_to, stamp_in}
 use Rattle.reg_core.specs.World.{World}
 use Rattle.reg_core.specs.declared.capability.Kind.TheVariants as kind
 use Rattle.reg_core.specs.declared.refusal.Refusal.{Refusal}
+use Rattle.reg_core.specs.declared.told.Told.TheVariants.{InUse}
 use Rattle.reg_commands.specs.Answers.{answer_about_times, answer_to_account, answer_to_clerk, answer_to_expert}
-use Rattle.reg_commands.specs.Caller.{token_digest, caller_of as caller, admission, stamp_by}
+use Rattle.reg_commands.specs.Caller.{token_digest, caller_of as caller, admission, stamp_by, valid_cap}
 use Rattle.reg_commands.specs.declared.admission.Caller.{Caller}
-use Rattle.reg_office.proofs.Admitted.{is_open_on, public_answered, applicant_answered, times_answered, expert_answered, clerk_answered, signed_by}
+use Rattle.reg_office.proofs.Admitted.{is_open_on, public_answered, applicant_answered, times_answered, token_answered, expert_answered, clerk_answered, signed_by}
 use Rattle.reg_office.proofs.Performing.{performs_as, performs_then, performs_stopped}
 use Rattle.reg_office.proofs.office.answer.Given.{Over}
 use Rattle.reg_office.proofs.office.answer.Goals.{After-admit, After-admit-in-Times, After-admit-in-Expert, After-admit-in-Clerk}
@@ -28,6 +29,21 @@ returns-in-Public-clause-answer g c =
     (λ w.
     public_answered w who moment c.in_ok-today.today c.in-Public.command opened.0 opened.1
     ∙ ap (answer_to token_digest w who moment) (sym c.in-Public.is))
+
+-- ---- A token
+
+pub returns-in_err-valid-in-Token-clause-answer : goal.returns-in_err-valid-in-Token-clause-answer
+returns-in_err-valid-in-Token-clause-answer g c =
+    let who = caller (option_copied c.args.token) in
+    let moment = c.args.moment in
+    let opened =
+    is_open_on moment c.in_ok-today.today
+    (sym c.day_of.ensures.value ∙ c.in_ok-today.ensures.ok_part) in
+    let stopped = c.in_err-valid-in-Token in
+    performs_stopped (λ w. valid_cap w who moment) (λ cap w. unchanged (InUse cap)) _
+    stopped.field-0.0 stopped.ensures.cap c.from_residual-in_err-valid-in-Token.ensures.1
+    (ap (answer_to token_digest (g.K.Keeper.world c.args.keeper.now) who moment) c.in-Token.is
+    ∙ token_answered (g.K.Keeper.world c.args.keeper.now) who moment opened.0)
 
 -- ---- An applicant
 
