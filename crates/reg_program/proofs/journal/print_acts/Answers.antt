@@ -1,6 +1,3 @@
-use Rattle.std.proofs.Common.{◌≡◌, ◌∙◌, ap, subst}
-use Rattle.std.specs.Prelude.{option_map, string_bytes}
-use Rattle.std.specs.Io.KnownBytes.{Appends}
 use Rattle.reg_program.proofs.Acts.{common_of_acts, printed, unnoted, unread, write_of_acts}
 use Rattle.reg_program.proofs.Results.{err_as}
 use Rattle.reg_program.proofs.journal.print_acts.Goals as goal
@@ -8,7 +5,8 @@ use Rattle.reg_program.proofs.journal.print_acts.Goals as goal
 pub returns-clause-told : goal.returns-clause-told
 returns-clause-told g c =
     let text = c.in_ok-whole.ensures.text in
-    printed _ _ _ _ c.print.result text.0 _ _ text.1 text.2 ? c.print.ensures.ok c.print.ensures.err
+    printed _ _ _ _ c.print.result text.0 _ _ text.1 text.2 (cc)
+    (rw c.as_slice.ensures.value at c.print.ensures.ok) c.print.ensures.err
 
 pub returns-clause-why : goal.returns-clause-why
 returns-clause-why g c = err_as c.print.result write_of_acts c.print.ensures.err
@@ -16,7 +14,7 @@ returns-clause-why g c = err_as c.print.result write_of_acts c.print.ensures.err
 pub returns-then-not-is_noted_in-clause-told : goal.returns-then-not-is_noted_in-clause-told
 returns-then-not-is_noted_in-clause-told g c =
     let text = c.in_ok-whole.ensures.text in
-    unnoted _ _ _ text.0 _ _ text.1 text.2 ?
+    unnoted _ _ _ text.0 _ _ text.1 text.2 (cc)
 
 pub returns-in_err-whole-clause-told : goal.returns-in_err-whole-clause-told
 returns-in_err-whole-clause-told g c = unread _ _ _ _ c.in_err-whole.ensures.err
