@@ -4,9 +4,9 @@ import { Told, attempt, button, choice, control, details, drafts, element, form,
 import { table } from './list.js';
 import {
   KINDS, POLICIES, STATES, askOf, dayOf, easiest, evidenceFor, faultsOf, freeUnder, hexOf, inWords, noteOn, openPolicies, optionsFor, outcome, policyOf,
-  rowsOf, valuesOf, waitingFirst, waitingTwin,
+  rowsOf, stateOf, valuesOf, waitingFirst, waitingTwin,
 } from './forms.js';
-import { endingBy, entryOf, valuesHeld } from './cases.js';
+import { ENTRY, endingBy, entryOf, valuesHeld } from './cases.js';
 
 /** The caller's own requests, and which values expire soon. */
 export async function requests(app) {
@@ -19,7 +19,9 @@ export async function requests(app) {
       await app.go('requests', `The request ${row.reference} is withdrawn.`);
     });
   };
-  const actions = row => element('div', { class: 'row' }, detailsButton(app, row, `Request ${row.reference}`, pages, true),
+  const again = row => app => (['declined', 'withdrawn'].includes(row.state)
+    ? button('Ask again with these data', () => askFor(app, row.ask.kind, valuesOf(row.ask))) : null);
+  const actions = row => element('div', { class: 'row' }, detailsButton(app, row, `Request ${row.reference}`, again(row), pages),
     row.state === 'pending' ? button('Withdraw', () => withdraw(row), { 'aria-label': `Withdraw ${row.reference}`, class: 'plain' }) : null);
   const add = element('p', {}, element('a', { class: 'button', href: '#new' }, 'New request'));
   const soon = dayOf(Date.now() / 1000 + 30 * 86400), { length } = endingBy(valuesHeld(rows, pages), soon);
@@ -31,17 +33,14 @@ export async function requests(app) {
 
 // The pages of the registries in which requests were approved, by name.
 async function pagesOf(rows) {
-  const pages = new Map();
-  for (const { ask: { kind, registry }, state } of rows) {
-    if (kind !== 'block' && state === 'approved' && !pages.has(registry)) pages.set(registry, await ask('GET', `/registries/${registry}`));
-  }
+  const approved = rows.filter(row => row.state === 'approved' && row.ask.kind !== 'block'), pages = new Map();
+  for (const name of new Set(approved.map(row => row.ask.registry))) pages.set(name, await ask('GET', `/registries/${name}`));
   return pages;
 }
 
-function detailsButton(app, row, title, pages, isOwn = false) {
-  const again = app => button('Ask again with these data', () => askFor(app, row.ask.kind, valuesOf(row.ask)));
-  const more = app => (isOwn && ['declined', 'withdrawn'].includes(row.state) ? element('p', { class: 'actions' }, again(app)) : null);
-  const open = app => element('div', {}, requestDetails(row, pages), more(app));
+// `more` gives a button to stand below the details.
+function detailsButton(app, row, title, more, pages) {
+  const open = app => element('div', {}, requestDetails(row, pages), element('p', { class: 'actions' }, more(app)));
   return button('Details', () => app.open(title, open), { 'aria-label': `Details of ${row.reference}` });
 }
 
@@ -53,8 +52,9 @@ async function askFor(app, kind, values) {
 }
 
 function requestTable(rows, act, caption, empty, pages = new Map()) {
-  const cells = row => [row.reference, inWords(row.ask), STATES[row.state] ?? row.state, outcome(row, entryOf(row, pages))];
-  return table({ caption, columns: ['Reference', 'Request', 'State', 'Result'], rows, cells, act, empty, states: STATES, quiet: true });
+  const result = row => outcome(row, entryOf(row, pages));
+  const columns = { Reference: ({ reference }) => reference, Request: row => inWords(row.ask), State: stateOf, Result: result };
+  return table({ caption, columns, rows, act, empty, states: STATES, quiet: true });
 }
 
 /** A request in all its parts. */
@@ -81,7 +81,6 @@ export async function fresh(app) {
   return drafts.has('request') ? element('div', {}, element('p', {}, button('Empty this form', empty, { class: 'plain' })), node) : node;
 }
 
-const NEEDS = { renew: 'renew', permanent: 'make permanent' };
 const EARLY = 'An early allocation needs an Internet-Draft, a stable specification, enough interest, and the approval of the working group chairs and'
   + ' of the area director (RFC 7120). Under Specification Required, a designated expert must also recommend it.';
 const noteOf = text => element('p', { class: 'note' }, text);
@@ -158,7 +157,7 @@ class Draft {
     }
     const known = options[this.values.allocation] && this.values.allocation, change = { onchange: () => this.refresh() };
     if (Object.keys(options).length) this.put('top', [control('allocation', { options, label: 'Early allocation', value: known, ...change })]);
-    else if (!this.top.hasChildNodes()) this.put('top', [], noteOf(`You have no early allocation to ${NEEDS[kind]}.`));
+    else if (!this.top.hasChildNodes()) this.put('top', [], noteOf(`You have no early allocation to ${kind === 'renew' ? 'renew' : 'make permanent'}.`));
   }
 
   async load(registry) {
@@ -241,38 +240,31 @@ class Draft {
 /** Who may read the caller's requests, and whose the caller may read. */
 export async function agents(app) {
   const names = await ask('GET', '/agents'), principals = await ask('GET', '/principals'), place = element('div');
-  const set = async (agent, reads) => {
-    await ask('PUT', `/agents/${agent}`, { reads });
+  const set = async (agent, reads, sent) => {
+    await ask('PUT', `/agents/${agent}`, { reads }).then(sent);
     await app.go('agents', `${agent} can ${reads ? 'now' : 'no longer'} read your requests.`);
   };
-  const stop = agent => attempt(place, () => set(agent, false));
-  const open = account => attempt(place, async () => {
-    const rows = await ask('GET', `/principals/${account}/requests`);
-    const actions = app => row => detailsButton(app, row, `Request ${row.reference} of ${account}`);
-    app.open(`Requests of ${account}`, app => requestTable(rows, actions(app), `Requests of ${account}`, 'There are no requests.'));
+  const open = (app, account) => app.open(`Requests of ${account}`, async app => {
+    const back = app => button(`Requests of ${account}`, () => open(app, account), { class: 'plain' });
+    const act = row => detailsButton(app, row, `Request ${row.reference} of ${account}`, back);
+    return requestTable(await ask('GET', `/principals/${account}/requests`), act, `Requests of ${account}`, 'There are no requests.');
   });
-  const add = form({ title: 'Add an agent', verb: 'Add', controls: [control('agent')], key: 'agent', send: ({ agent }) => set(agent, true) });
-  const mine = table({
-    caption: 'Agents who may read my requests', columns: ['Account'], rows: names, empty: 'Nobody else may read your requests.',
-    cells: name => [name], act: name => button('Remove', () => stop(name), { 'aria-label': `Remove ${name}` }),
-  });
-  const others = table({
-    caption: 'Accounts whose requests I may read', columns: ['Account'], rows: principals, empty: 'No account has named you as its agent.',
-    cells: name => [name], act: name => button('Read', () => open(name), { 'aria-label': `Read the requests of ${name}` }),
-  });
+  const add = form({ title: 'Add an agent', verb: 'Add', controls: [control('agent')], key: 'agent', send: ({ agent }, sent) => set(agent, true, sent) });
+  const list = (caption, rows, empty, act) => table({ caption, columns: { Account: name => name }, rows, empty, act });
+  const mine = list('Agents who may read my requests', names, 'Nobody else may read your requests.',
+    name => button('Remove', () => attempt(place, () => set(name, false)), { 'aria-label': `Remove ${name}` }));
+  const others = list('Accounts whose requests I may read', principals, 'No account has named you as its agent.',
+    name => button('Read', () => open(app, name), { 'aria-label': `Read the requests of ${name}` }));
   return element('div', {}, place, element('p', {}, 'An agent sees your requests as you do. It cannot change anything.'), mine, add, others);
 }
 
 /** The values that the caller's account holds, and when each expires. */
 export async function values(app) {
   const rows = await ask('GET', '/requests'), held = valuesHeld(rows, await pagesOf(rows));
-  const renew = ({ registry, value }) => button('Renew', () => askFor(app, 'renew', { allocation: `${registry}/${value}` }),
-    { 'aria-label': `Renew value ${value} of ${registry}` });
-  return table({
-    quiet: true, caption: 'My values', columns: ['Registry', 'Value', 'Name', 'Status', 'Expires'], rows: held, empty: 'You hold no values yet.',
-    cells: ({ registry, value, label, status, held, expires }) => [registry, String(value), label, held ? 'Held' : status, expires ?? ''],
-    act: row => (row.expires ? renew(row) : []),
-  });
+  const way = (kind, verb, { registry, value }) => button(verb, () => askFor(app, kind, { allocation: `${registry}/${value}` }),
+    { 'aria-label': `${verb}: value ${value} of ${registry}` });
+  const act = row => (row.expires ? element('div', { class: 'row' }, way('renew', 'Renew', row), way('permanent', 'Make permanent', row)) : []);
+  return table({ caption: 'My values', columns: ENTRY, rows: held, act, quiet: true, empty: 'You hold no values yet.' });
 }
 
 /** The blocks that the caller's account holds, each with a switch that hides whose it is. */
@@ -291,7 +283,7 @@ export async function blocks() {
   });
   const about = 'The public always sees that a block is assigned. If you keep it private, the public sees neither your organization nor its address.';
   return element('div', {}, place, element('p', {}, about), table({
-    quiet: true, caption: 'My blocks', columns: ['Block', 'Size', 'Organization', 'Address'], acts: 'Private', act: toggle, rows,
-    cells: row => [row.block, row.size, row.organization, row.address], empty: 'You have no blocks. To ask for one, choose New request.',
+    columns: { Block: row => row.block, Size: row => row.size, Organization: row => row.organization, Address: row => row.address },
+    quiet: true, caption: 'My blocks', acts: 'Private', act: toggle, rows, empty: 'You have no blocks. To ask for one, choose New request.',
   }));
 }

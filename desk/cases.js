@@ -10,28 +10,41 @@ export function policyFor(ask, page) {
   return policyOf(ask.kind, { ...ask, wish: ask.least ? 'least' : 'value', value: String(ask.value ?? '') }, page);
 }
 
-/** The value that an approval would give now; undefined for a block, or if none is free. */
-export const valueDue = (ask, page) => (ask.least ? leastFree(page, ask.least) : ask.value);
+/** The value or block that an approval would give now; undefined if none is free. `page` is that of the registry, or has `prefixes` and `blocks`. */
+export const valueDue = (ask, page) => (ask.kind === 'block' ? blockDue(ask.size, page) : ask.least ? leastFree(page, ask.least) : ask.value);
+
+// The first block of a size that is in one of the prefixes, which ascend, and has no address of another block.
+function blockDue(size, { prefixes, blocks }) {
+  const count = { 'MA-L': 1, 'MA-M': 16, 'MA-S': 4096 }[size], given = new Set(blocks);
+  const parts = new Set(blocks.flatMap(block => [block.slice(0, 6), block.slice(0, 7), block]));
+  for (const prefix of prefixes) {
+    for (let number = 0; number < count; number += 1) {
+      const block = prefix + (count + number).toString(16).slice(1).toUpperCase();
+      if (!parts.has(block) && !given.has(prefix) && !given.has(block.slice(0, 7))) return block;
+    }
+  }
+  return undefined;
+}
 
 /** What an approval would do now, as a sentence. */
 export function effectOf({ account, ask }, page) {
-  if (ask.kind === 'block') return `Approve gives ${account} the next free block of size ${ask.size}.`;
-  const value = `value ${valueDue(ask, page)} of ${ask.registry}`, lowest = ask.least ? ', the lowest that is free now' : '';
+  const lowest = ask.least ? ', the lowest that is free now' : '', due = valueDue(ask, page), value = `value ${due} of ${ask.registry}`;
   return {
     code: `Approve gives ${account} ${value}${lowest}.`, early: `Approve gives ${account} ${value}${lowest}, for one year.`,
     renew: `Approve renews ${value} for one year.`, permanent: `Approve makes ${value} permanent.`,
+    block: `Approve gives ${account} block ${due}, the first of this size that is free now.`,
   }[ask.kind];
 }
 
-/** Why a request can never be approved any more, as a sentence; undefined if it still can. */
+/** Why a request cannot be approved now, whatever an expert says, and what to do; undefined if it can. */
 export function lossOf({ ask }, page) {
-  if (ask.kind === 'block' || !page) return undefined;
-  const value = valueDue(ask, page), entry = page.entries.find(one => one.value === value);
-  if (value === undefined) return `No value is free under ${POLICIES[ask.least]?.title ?? ask.least}.`;
-  if (isNew(ask)) return entry && `Value ${value} was assigned to ${entry.assignee} meanwhile.`;
-  if (entry && !entry.expires) return `Value ${value} was made permanent meanwhile.`;
+  const value = valueDue(ask, page), entry = page.entries?.find(one => one.value === value), decline = 'Decline this request.';
+  if (value === undefined && ask.kind === 'block') return `No block of size ${ask.size} is free. Add a prefix, or decline this request.`;
+  if (value === undefined) return `No value is free under ${POLICIES[ask.least]?.title ?? ask.least}. ${decline}`;
+  if (isNew(ask)) return entry && `Value ${value} was assigned to ${entry.assignee} meanwhile. ${decline}`;
+  if (entry && !entry.expires) return `Value ${value} was made permanent meanwhile. ${decline}`;
   const wasRenewed = ask.kind === 'renew' && entry?.renewed && !ask.iesg;
-  return wasRenewed ? `Value ${value} was renewed before, and this request cites no IESG minutes.` : undefined;
+  return wasRenewed ? `Value ${value} was renewed before, and this request cites no IESG minutes. ${decline}` : undefined;
 }
 
 /** Which advice a request still lacks, as sentences; undefined if it needs none. */
@@ -39,18 +52,27 @@ export function adviceLacking({ ask, experts, advice }, page) {
   const needsExpert = ['expert-review', 'specification-required'].includes(policyFor(ask, page)) && ask.kind !== 'renew';
   if (!needsExpert || advice.some(({ verdict }) => verdict === 'for')) return undefined;
   const silent = experts.filter(expert => !advice.some(one => one.expert === expert)), against = advice.map(({ expert }) => expert);
-  const told = (names, one, many) => (names.length ? `${inOneText(names)} ${names.length > 1 ? many : one}. ` : '');
+  const all = names => names.join(', ').replace(/, ([^,]*)$/, ' and $1');
+  const told = (names, one, many) => (names.length ? `${all(names)} ${names.length > 1 ? many : one}. ` : '');
   const who = told(silent, 'has not advised yet', 'have not advised yet') + told(against, 'is against it', 'are against it');
   return `${who || 'No expert is assigned. '}You can approve once an expert recommends it.`;
 }
 
-const inOneText = names => names.join(', ').replace(/, ([^,]*)$/, ' and $1');
-
 /** The other waiting requests that ask for just the value that this one would get. */
 export function rivalsOf(row, page, rows) {
-  const value = isNew(row.ask) && page ? valueDue(row.ask, page) : undefined;
+  const value = isNew(row.ask) ? valueDue(row.ask, page) : undefined;
   const wants = ({ ask }) => isNew(ask) && ask.registry === row.ask.registry && ask.value === value;
   return value === undefined ? [] : rows.filter(one => one.state === 'pending' && !isSame(one, row) && wants(one));
+}
+
+/** How many others want a value, as a sentence; an empty text for none. */
+export const wanted = count => (count ? `${count === 1 ? '1 other request wants' : `${count} other requests want`} this value.` : '');
+
+/** How many others of these waiting requests name the value that a request names, as a sentence, by the request. */
+export function rivalry(rows) {
+  const counts = new Map(), key = ({ ask }) => (isNew(ask) && !ask.least ? `${ask.registry} ${ask.value}` : undefined);
+  for (const row of rows) counts.set(key(row), (counts.get(key(row)) ?? 0) + 1);
+  return row => (key(row) ? wanted(counts.get(key(row)) - 1) : '');
 }
 
 /** The waiting request after this one in a list, or else the first before it. */
@@ -79,8 +101,15 @@ export const byExpiry = pages => inOrder(pages.flatMap(({ name, entries }) => en
 
 function inOrder(entries) {
   const rank = ({ status, held }) => (status === 'Assigned' ? 3 : status === 'Expired' ? 2 : held ? 1 : 0);
-  return entries.sort((one, other) => rank(one) - rank(other) || String(one.expires).localeCompare(String(other.expires)));
+  const order = (one, other) => rank(one) - rank(other) || String(one.expires).localeCompare(String(other.expires));
+  return entries.sort((one, other) => order(one, other) || one.registry.localeCompare(other.registry) || one.value - other.value);
 }
+
+/** The columns of lists of entries. */
+export const ENTRY = {
+  Registry: ({ registry }) => registry, Value: ({ value }) => String(value), Name: ({ label }) => label,
+  Status: ({ held, status }) => (held ? 'Held' : status), Expires: ({ expires }) => expires ?? '',
+};
 
 /** The entries that expire by a day. */
 export const endingBy = (entries, day) => entries.filter(({ status, held, expires }) => status === 'Temporary' && !held && expires <= day);

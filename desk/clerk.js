@@ -1,55 +1,63 @@
 // What clerks do: decide requests, define registries, add prefixes, hold allocations, and hand out tokens.
 import { Refusal, ask, ownDigest } from './office.js';
-import { Told, attempt, button, control, copyable, details, element, focusOn, form, say, sure } from './dom.js';
+import { Told, attempt, button, control, copyable, details, drafts, element, focusOn, form, say, sure } from './dom.js';
 import { table } from './list.js';
 import {
-  CAPABILITIES, COUNTS, POLICIES, STATES, dayOf, endOf, faultOf, grantOf, hexOf, inWords, opinionsOf, outcome, rangesOf, rowsOf,
+  CAPABILITIES, COUNTS, POLICIES, STATES, csvOf, dayOf, endOf, faultOf, grantOf, hexOf, inWords, opinionsOf, outcome, rangesOf, rowsOf, stateOf,
 } from './forms.js';
-import { adviceLacking, byExpiry, effectOf, endingBy, expertsAmong, isSame, lossOf, nextWaiting, noteLine, policyFor, rivalsOf } from './cases.js';
+import {
+  ENTRY, adviceLacking, byExpiry, effectOf, endingBy, expertsAmong, isSame, lossOf, nextWaiting, noteLine, policyFor, rivalry, rivalsOf, wanted,
+} from './cases.js';
 import { faultInWords } from './errors.js';
 
 /** The requests that wait, each with its experts and what they recommend. */
 export async function waiting(app) {
   const rows = await ask('GET', '/desk/pending');
-  return requestTable(app, rows, { caption: 'Waiting requests', empty: 'No requests are waiting.', last: ['Experts', opinionsOf] });
+  return requestTable(app, rows, { caption: 'Waiting requests', empty: 'No requests are waiting.', last: { Experts: opinionsOf }, more: rivalry(rows) });
 }
 
 /** All requests. */
 export async function everything(app) {
-  const texts = { caption: 'All requests', empty: 'There are no requests.', last: ['Result', outcome] };
-  return requestTable(app, await ask('GET', '/desk/requests'), { ...texts, states: STATES });
+  const texts = { caption: 'All requests', empty: 'There are no requests.', last: { State: stateOf, Result: outcome }, states: STATES };
+  return requestTable(app, await ask('GET', '/desk/requests'), texts);
 }
 
-function requestTable(app, rows, { last: [title, told], ...texts }) {
-  const name = row => `Open ${row.reference} of ${row.account}`;
-  const act = (row, seen) => button('Open', () => openCase(app, row, seen()), { 'aria-label': name(row) });
-  const state = row => (texts.states ? [STATES[row.state] ?? row.state] : []);
-  const cells = row => [row.account, row.reference, inWords(row.ask), ...state(row), told(row)];
-  const columns = ['Account', 'Reference', 'Request', ...texts.states ? ['State'] : [], title];
-  return table({ ...texts, columns, rows, cells, act, quiet: true });
+function requestTable(app, rows, { last, more = () => '', ...texts }) {
+  const act = (row, seen) => button('Open', () => openCase(app, row, seen()), { 'aria-label': `Open ${row.reference} of ${row.account}` });
+  const words = row => { const told = more(row); return inWords(row.ask) + (told && `. ${told}`); };
+  return table({ ...texts, columns: { Account: row => row.account, Reference: row => row.reference, Request: words, ...last }, rows, act, quiet: true });
 }
 
 // Opens a request of a list, in which `seen` were listed in this order. `before` is shown above the request.
 async function openCase(app, asked, seen, { message, before } = {}) {
   const { account, reference } = asked, listed = seen.find(one => isSame(one, asked)) ?? asked;
   await app.open(`Request ${reference} of ${account}`, async app => {
-    const row = await ask('GET', `/desk/requests/${account}/${reference}`);
-    const page = row.ask.kind === 'block' ? null : await ask('GET', `/registries/${row.ask.registry}`);
+    const row = await ask('GET', `/desk/requests/${account}/${reference}`), isOpen = row.state === 'pending';
     listed.state = row.state;
-    const result = outcome(row) ? [['Result', outcome(row)]] : [], state = STATES[row.state] ?? row.state;
-    const told = [['Applicant', account], ['Reference', reference], ['State', state], ...result, ...rowsOf(row.ask)];
+    const result = outcome(row) ? [['Result', outcome(row)]] : [];
+    const told = [['Applicant', account], ['Reference', reference], ['State', stateOf(row)], ...result, ...rowsOf(row.ask)];
     const next = nextWaiting(seen, row), go = (one, more) => openCase(app, one, seen, more);
-    const onward = next ? button('Next waiting request', () => go(next), { class: row.state === 'pending' ? 'plain' : undefined }) : null;
-    const all = page && row.state === 'pending' ? await ask('GET', '/desk/pending') : [];
-    const ways = row.state === 'pending' ? decision({ row, page, rivals: rivalsOf(row, page, all), listed, next, onward, go }) : null;
-    return element('div', {}, before, details(told), experts(row), ways ?? element('p', { class: 'actions' }, onward));
+    const onward = next ? button('Next waiting request', () => go(next), { class: isOpen ? 'plain' : undefined }) : null;
+    const ways = isOpen ? decision({ row, ...await groundOf(row), listed, next, onward, go }) : null;
+    return element('div', {}, before, !isOpen && next ? element('p', { class: 'actions' }, onward) : null, details(told), experts(row), ways);
   }, message);
+}
+
+// What a decision depends on: the registry, or the prefixes and blocks, as they are now, and who else wants the same.
+async function groundOf(row) {
+  if (row.ask.kind !== 'block') {
+    const page = await ask('GET', `/registries/${row.ask.registry}`);
+    return { page, rivals: rivalsOf(row, page, await ask('GET', '/desk/pending')) };
+  }
+  const prefixes = await ask('GET', '/pool'), [, ...given] = csvOf(await ask('GET', '/listings/blocks'));
+  return { page: { prefixes, blocks: given.map(([, block]) => block) }, rivals: [] };
 }
 
 function experts({ experts, advice }) {
   const rows = experts.map(expert => ({ expert, ...advice.find(one => one.expert === expert) }));
-  const cells = ({ expert, verdict, text }) => [expert, { for: 'For', against: 'Against' }[verdict] ?? 'No advice yet', text ?? ''];
-  return table({ caption: 'Experts', columns: ['Account', 'Recommendation', 'Advice'], rows, empty: 'No expert is assigned.', cells });
+  const told = ({ verdict }) => ({ for: 'For', against: 'Against' }[verdict] ?? 'No advice yet');
+  const columns = { Account: ({ expert }) => expert, Recommendation: told, Advice: ({ text }) => text ?? '' };
+  return table({ caption: 'Experts', columns, rows, empty: 'No expert is assigned.' });
 }
 
 // The refusals of an approval that a look at the case explains.
@@ -58,13 +66,14 @@ const MOVED = ['taken', 'exhausted', 'permanent', 'renewed', 'advice', 'closed']
 // What an approval would do, and the ways to decide.
 function decision({ row, page, rivals, listed, next, onward, go }) {
   const { account, reference } = row, path = `${account}/${reference}`, place = element('div');
-  const loss = lossOf(row, page), bar = loss ? `${loss} Decline this request.` : adviceLacking(row, page);
-  const policy = page && POLICIES[policyFor(row.ask, page)], told = bar ?? effectOf(row, page);
+  const loss = lossOf(row, page), bar = loss ?? adviceLacking(row, page), needsExpert = !loss && bar && !row.experts.length;
+  const policy = POLICIES[policyFor(row.ask, page)], told = bar ?? effectOf(row, page);
   const says = policy ? `${policy.title} (RFC 8126, section ${policy.section}). ${told}` : told;
-  const note = element('div', { class: 'note', id: 'prospect' }, element('p', {}, says), rivalry(rivals, go));
+  const note = element('div', { class: 'note', id: 'prospect' }, element('p', {}, says), others(rivals, go));
   const done = async (decided, answer) => {
     listed.state = decided.state;
-    const message = `${STATES[decided.state]}: ${reference} of ${account}. ${outcome(decided)}`;
+    for (const form of ['assign', 'decline']) drafts.delete(`${form} ${path}`);
+    const message = `${stateOf(decided)}: ${reference} of ${account}. ${outcome(decided)}`;
     await go(answer === 'more' ? next : listed, { message, before: noteCard(decided) });
   };
   const approve = async () => {
@@ -74,15 +83,14 @@ function decision({ row, page, rivals, listed, next, onward, go }) {
       await (decided ? done(decided, answer) : go(listed, { message: `${reference} of ${account} was not approved, because something has changed meanwhile.` }));
     });
   };
-  const actions = element('p', { class: 'actions' },
-    button('Approve', approve, { 'aria-disabled': bar ? 'true' : undefined, 'aria-describedby': 'prospect' }), onward);
-  return [note, place, actions, element('div', { class: 'columns' }, assignment(listed, path, go), refusal(listed, path, next, done))];
+  const off = bar ? { 'aria-disabled': 'true', class: 'plain' } : {};
+  const actions = element('p', { class: 'actions' }, button('Approve', approve, { ...off, 'aria-describedby': 'prospect' }), onward);
+  return [note, place, actions, element('div', { class: 'columns' }, assignment(listed, path, go, needsExpert), refusal(listed, path, next, done))];
 }
 
-function rivalry(rivals, go) {
+function others(rivals, go) {
   if (!rivals.length) return null;
-  const wants = rivals.length === 1 ? '1 other request wants' : `${rivals.length} other requests want`;
-  return [element('p', {}, `${wants} this value. The first to be approved gets it.`), element('p', { class: 'actions' },
+  return [element('p', {}, `${wanted(rivals.length)} The first to be approved gets it.`), element('p', { class: 'actions' },
     rivals.slice(0, 10).map(one => button(`Open ${one.reference} of ${one.account}`, () => go(one), { class: 'plain' })))];
 }
 
@@ -93,34 +101,33 @@ function noteCard(row) {
 }
 
 // Experts are those who have an expert's token. Another account is asked about first, since it gets to read the request.
-function assignment(listed, path, go) {
+function assignment(listed, path, go, isNext) {
   const field = control('expert'), names = element('datalist', { id: 'experts' });
   const load = async () => {
-    const accounts = expertsAmong(await ask('GET', '/desk/tokens').catch(() => []), Date.now() / 1000, listed.account);
+    const accounts = expertsAmong(await ask('GET', '/desk/tokens'), Date.now() / 1000, listed.account);
     names.replaceChildren(...accounts.map(value => element('option', { value })));
     return accounts;
   };
   field.input.setAttribute('list', 'experts');
-  field.input.addEventListener('focus', load, { once: true });
-  const assign = async ({ expert }) => {
+  field.input.addEventListener('focus', () => load().catch(() => {}), { once: true });
+  const assign = async ({ expert }, sent) => {
     if (expert === listed.account) throw new Told('Applicants cannot be their own experts. Choose another account.');
     const isKnown = (await load()).includes(expert);
     const question = `${expert} has no expert's token. It would get to read this request, and could not be removed. Is the spelling right?`;
-    if (!isKnown && !await sure(question, `Assign ${expert}`)) return false;
-    await ask('PUT', `/desk/experts/${path}/${expert}`);
-    return go(listed, { message: `${listed.reference} of ${listed.account} is assigned to ${expert}.` });
+    if (!isKnown && !await sure(question, `Assign ${expert}`)) return;
+    await ask('PUT', `/desk/experts/${path}/${expert}`).then(sent);
+    await go(listed, { message: `${listed.reference} of ${listed.account} is assigned to ${expert}.` });
   };
-  return form({ title: 'Ask an expert', verb: 'Assign', look: 'plain', controls: [field], parts: [field.node, names], send: assign });
+  return form({ title: 'Ask an expert', verb: 'Assign', look: isNext ? undefined : 'plain', controls: [field], parts: [field.node, names], send: assign, key: `assign ${path}` });
 }
 
 function refusal({ account, reference }, path, next, done) {
   return form({
     title: 'Decline', verb: 'Decline', look: 'stop', controls: [control('reason')], key: `decline ${path}`,
-    send: async ({ reason }) => {
+    send: async ({ reason }, sent) => {
       const question = `Decline ${reference} of ${account} for this reason? "${reason}" You cannot undo this.`;
       const answer = await sure(question, 'Decline', { stop: true, more: next && 'Decline and open the next' });
-      if (!answer) return false;
-      return done(await ask('PUT', `/desk/decline/${path}`, { reason }), answer);
+      if (answer) await done(await ask('PUT', `/desk/decline/${path}`, { reason }).then(sent), answer);
     },
   });
 }
@@ -128,9 +135,8 @@ function refusal({ account, reference }, path, next, done) {
 /** The registries, each with its ranges and early allocations, and a form for a new one. */
 export async function registries(app) {
   const names = await ask('GET', '/registries');
-  const open = name => button('Open', () => openRegistry(app, name), { 'aria-label': `Open ${name}` });
-  const texts = { caption: 'Registries', columns: ['Name'], empty: 'There are no registries yet.' };
-  const list = table({ ...texts, quiet: true, rows: names, cells: name => [name], act: open });
+  const act = name => button('Open', () => openRegistry(app, name), { 'aria-label': `Open ${name}` });
+  const list = table({ caption: 'Registries', columns: { Name: name => name }, rows: names, act, quiet: true, empty: 'There are no registries yet.' });
   return element('div', {}, list, definition(app));
 }
 
@@ -138,14 +144,15 @@ const HELD = 'An early allocation that is held does not expire until it is relea
 const words = treatment => (treatment === 'reserved' ? 'Reserved' : POLICIES[treatment]?.title ?? treatment);
 
 function rangeTable(caption, ranges) {
-  const cells = ({ lo, hi, treatment, note }) => [String(lo ?? ''), String(hi ?? ''), words(treatment ?? ''), note];
-  return table({ caption, columns: ['First', 'Last', 'Policy', 'Note'], rows: ranges, empty: 'No ranges.', cells });
+  const text = name => range => String(range[name] ?? '');
+  const columns = { First: text('lo'), Last: text('hi'), Policy: range => words(text('treatment')(range)), Note: text('note') };
+  return table({ caption, columns, rows: ranges, empty: 'No ranges.' });
 }
 
 function openRegistry(app, name, message) {
   return app.open(`Registry ${name}`, async app => {
     const page = await ask('GET', `/registries/${name}`), place = element('div');
-    const told = details([['Largest value', String(page.max)], ['Entries', String(page.entries.length)]]);
+    const told = details([['Registry', name], ['Largest value', String(page.max)], ['Entries', String(page.entries.length)]]);
     return element('div', {}, place, told, rangeTable('Ranges', page.ranges), element('p', {}, HELD),
       earlyTable('Early allocations', byExpiry([page]), place, text => openRegistry(app, name, text)));
   }, message);
@@ -168,10 +175,8 @@ function earlyTable(caption, rows, place, again, quiet) {
   });
   const action = (row, verb, held) => button(verb, () => hold(row, held), { 'aria-label': `${verb} value ${row.value} of ${row.registry}` });
   const act = row => (row.held ? action(row, 'Release', false) : row.status === 'Temporary' ? action(row, 'Hold', true) : []);
-  const status = row => (row.held ? 'Held' : row.status);
-  const cells = row => [row.expires, row.registry, String(row.value), row.label, row.assignee, status(row)];
-  const columns = ['Expires', 'Registry', 'Value', 'Name', 'Account', 'Status'];
-  return table({ caption, columns, rows, cells, act, quiet, empty: 'There are no early allocations.' });
+  const { Expires, Status, ...names } = ENTRY, columns = { Expires, ...names, Account: row => row.assignee, Status };
+  return table({ caption, columns, rows, act, quiet, empty: 'There are no early allocations.' });
 }
 
 // A new registry from a CSV file, after a look at its ranges.
@@ -183,9 +188,8 @@ function definition(app) {
     const chosen = event.target.files[0], bytes = chosen && await chosen.arrayBuffer();
     file = bytes ? { bytes, ...rangesOf(new TextDecoder().decode(bytes)) } : null;
     if (file && !file.fault) most.input.value = file.ranges.at(-1).hi;
-    preview.replaceChildren();
-    if (file?.fault) preview.append(element('p', { class: 'problem' }, faultInWords(file.fault, file.ranges)));
-    if (file) preview.append(rangeTable('Ranges in this file', file.ranges));
+    const fault = file?.fault && element('p', { class: 'problem' }, faultInWords(file.fault, file.ranges));
+    preview.replaceChildren(...[fault, file && rangeTable('Ranges in this file', file.ranges)].filter(Boolean));
   };
   const hint = 'The first line is lo,hi,treatment,note. Each other line is a range, for example 0,99,expert-review,its note';
   const known = details([...Object.keys(POLICIES), 'reserved'].map(treatment => [treatment, words(treatment)]));
@@ -196,11 +200,11 @@ function definition(app) {
     title: 'Define a registry', verb: 'Define this registry', controls: [name, chooser, most], key: 'define',
     parts: [name.node, chooser.node, help, preview, most.node],
     check: values => ({ name: faultOf('name', values.name), max: faultOf('max', values.max), file: fileFault(file, Number(values.max)) }),
-    send: async ({ name, max }) => {
+    send: async ({ name, max }, sent) => {
       const question = `Define ${name} with ${file.ranges.length} ranges, 0 to ${max}? You cannot change the ranges afterwards.`;
-      if (!await sure(question, 'Define')) return false;
-      await ask('PUT', `/desk/registries/${name}/${max}`, file.bytes);
-      return app.go('registries', `The registry ${name} is defined.`);
+      if (!await sure(question, 'Define')) return;
+      await ask('PUT', `/desk/registries/${name}/${max}`, file.bytes).then(sent);
+      await app.go('registries', `The registry ${name} is defined.`);
     },
   });
 }
@@ -216,15 +220,15 @@ function fileFault(file, max) {
 export async function pool(app) {
   const rows = await ask('GET', '/pool');
   const add = form({
-    title: 'Add a prefix', verb: 'Add', controls: [control('prefix')],
-    send: async ({ prefix }) => {
+    title: 'Add a prefix', verb: 'Add', controls: [control('prefix')], key: 'prefix',
+    send: async ({ prefix }, sent) => {
       if (!await sure(`Add ${prefix.toUpperCase()}? A prefix cannot be removed.`, 'Add')) return;
-      await ask('PUT', `/desk/pool/${prefix}`);
+      await ask('PUT', `/desk/pool/${prefix}`).then(sent);
       await app.go('pool', `Blocks can now be cut from ${prefix.toUpperCase()}.`);
     },
   });
   const empty = 'There are no prefixes yet, so no block can be assigned.';
-  return element('div', {}, table({ caption: 'Prefixes that blocks are cut from', columns: ['Prefix'], rows, cells: prefix => [prefix], empty }), add);
+  return element('div', {}, table({ caption: 'Prefixes that blocks are cut from', columns: { Prefix: prefix => prefix }, rows, empty }), add);
 }
 
 /** A form that grants a token, the list of all tokens, and a form that revokes one that the clerk has. */
@@ -240,15 +244,10 @@ function grant(app, shown, fill) {
   const node = form({
     title: 'Give somebody a token', verb: 'Make a token', key: 'grant',
     controls: [control('account'), control('kind'), control('until', { type: 'date', value: dayOf(Date.now() / 1000 + 365 * 86400) })],
-    send: async values => {
+    send: async (values, sent) => {
       made ??= hexOf(crypto.getRandomValues(new Uint8Array(16)));
-      try {
-        await ask('PUT', '/desk/tokens', grantOf(values, made));
-      } catch (error) {
-        // Only where no answer came may the same token be there already.
-        if (error instanceof Refusal) made = null;
-        throw error;
-      }
+      // Only where no answer came may the same token be there already.
+      await ask('PUT', '/desk/tokens', grantOf(values, made)).then(sent).catch(error => { if (error instanceof Refusal) made = null; throw error; });
       show(app, shown, made, values);
       made = null;
       node.reset();
@@ -302,9 +301,12 @@ function tokenTable(app, rows, own) {
   const of = account => rows.filter(row => row.account === account);
   const isFirst = row => { const [first, second] = of(row.account); return first === row && second && !of(row.account).some(isOwn); };
   const act = row => element('div', { class: 'row' }, isOwn(row) ? null : one(row), isFirst(row) ? all(row.account) : null);
-  const cells = row => [row.account, CAPABILITIES[row.kind] ?? row.kind, endOf(row, now), row.digest + (isOwn(row) ? ' (you)' : '')];
+  const columns = {
+    Account: row => row.account, Kind: row => CAPABILITIES[row.kind] ?? row.kind, 'Valid through': row => endOf(row, now),
+    Digest: row => row.digest + (isOwn(row) ? ' (you)' : ''),
+  };
   const about = "Tokens are not stored. The first 12 digits of a token's SHA-256 tell them apart.";
-  const list = table({ caption: 'All tokens', columns: ['Account', 'Kind', 'Valid through', 'Digest'], rows, cells, act, empty: 'There are no tokens.' });
+  const list = table({ caption: 'All tokens', columns, rows, act, empty: 'There are no tokens.' });
   return element('div', {}, list, element('p', {}, about), place);
 }
 

@@ -37,11 +37,14 @@ async function view(title, make, { message = '', back, scroll } = {}) {
   main.inert = false;
   main.replaceChildren(...back ? [back()] : [], heading, node);
   say(message);
-  document.title = `${title} - Registry desk`;
+  // (the browser keeps titles in its history, so they name sections only)
+  if (!back) document.title = `${title} - Registry desk`;
   focusOn(heading);
   if (scroll === undefined) return;
   scrollTo(0, scroll);
-  main.querySelector('.used button')?.focus({ preventScroll: true });
+  const used = main.querySelector('.used button');
+  used?.focus({ preventScroll: true });
+  used?.scrollIntoView({ block: 'nearest' });
 }
 
 // The address names the section alone. A case has an entry in the history with the same address, so that Back leads to its list.
@@ -49,10 +52,11 @@ async function view(title, make, { message = '', back, scroll } = {}) {
 const appFor = turn => ({
   go: (name, message) => {
     if (turn !== shown) return say(message);
+    const scroll = name === section() && !history.state?.inside ? scrollY : undefined;
     if (history.state?.inside) history.replaceState(null, '', `#${name}`);
     else if (location.hash !== `#${name}`) history.pushState(null, '', `#${name}`);
     place = here();
-    return draw(message);
+    return draw(message, scroll);
   },
   open: (title, make, message) => {
     if (turn !== shown) return say(message ?? '');
@@ -66,6 +70,8 @@ const appFor = turn => ({
 });
 
 const here = () => `${location.hash}${history.state?.inside ? ' inside' : ''}`;
+// The section that the address names, or else the first.
+const section = () => (Object.hasOwn(own, location.hash.slice(1)) ? location.hash.slice(1) : Object.keys(own)[0]);
 
 // What comes once the address or the entry of the history has changed. From a case the way leads to the same place of its list.
 function arrive() {
@@ -78,8 +84,7 @@ function arrive() {
 }
 
 function draw(message, scroll) {
-  const name = Object.hasOwn(own, location.hash.slice(1)) ? location.hash.slice(1) : Object.keys(own)[0];
-  const [title, make] = own[name];
+  const name = section(), [title, make] = own[name];
   const link = key => element('a', { href: `#${key}`, 'aria-current': key === name ? 'page' : undefined, onclick: () => again(key) }, own[key][0]);
   sections.replaceChildren(element('ul', {}, Object.keys(own).map(key => element('li', {}, link(key)))));
   return view(title, make, { message, scroll });
@@ -92,15 +97,15 @@ const again = name => { if (location.hash === `#${name}`) { forgetPlaces(); draw
 async function callerOf() {
   for (const [kind, path] of [['applicant', '/requests'], ['expert', '/queue']]) {
     const rows = await ask('GET', path).catch(error => { if (error.error !== 'kind') throw error; });
-    if (rows) return { kind, names: rows.map(({ account, reference }) => `${account}/${reference}`) };
+    if (rows) return { kind, names: rows.map(({ account, reference, ask }) => JSON.stringify([account, reference, ask])) };
   }
   return { kind: 'clerk', names: [] };
 }
 
-// Requests stay, so another account than before would lack some of those that were there.
-function isAnother(caller) {
-  const names = new Set(caller.names);
-  return caller.kind !== last.kind || !last.names.every(name => names.has(name));
+// Requests stay, so another account than before would lack some of those that were there. If there were none, it has none.
+function isAnother({ kind, names }) {
+  const known = new Set(names);
+  return kind !== last.kind || (last.names.length ? !last.names.every(name => known.has(name)) : names.length > 0);
 }
 
 function signIn(message = '') {
@@ -109,16 +114,11 @@ function signIn(message = '') {
     verb: 'Sign in', controls: [token], autocomplete: 'on',
     send: async values => {
       carry(values.token);
-      try {
-        const caller = await callerOf();
-        if (isAnother(caller)) drafts.clear();
-        last = caller;
-        ({ kind } = caller);
-        own = SECTIONS[kind];
-      } catch (error) {
-        carry(null);
-        throw error;
-      }
+      const caller = await callerOf().catch(error => { carry(null); throw error; });
+      if (isAnother(caller)) drafts.clear();
+      last = caller;
+      ({ kind } = caller);
+      own = SECTIONS[kind];
       token.input.value = '';
       enter();
     },
@@ -179,6 +179,8 @@ addEventListener('pagehide', () => {
   if (kind || drafts.size) signOut('You were signed out, because you left this page.');
 });
 addEventListener('pageshow', event => { isHere = true; if (event.persisted) history.replaceState(null, '', location.pathname); });
+// (the address of its link would name a section)
+document.querySelector('.skip').addEventListener('click', event => { event.preventDefault(); main.focus(); });
 addEventListener('hashchange', arrive);
 addEventListener('popstate', () => { if (!kind && location.hash) history.replaceState(null, '', location.pathname); else arrive(); });
 for (const name of ['pointerdown', 'keydown', 'focusin']) addEventListener(name, () => { isIdle(); used = Date.now(); }, true);

@@ -117,10 +117,10 @@ export function choice(legend, name, options, value, onchange) {
 /**
  * A form. `controls` gives its controls, `check` the faults of its values by field, and `send` does what it is for; what `send` throws is
  * shown beside the field to which it belongs, or above the form. `calm` hides what is shown above, and `allow` its button if nothing can
- * be sent. `look` is the class of its button. What was typed is kept under `key` until it is sent; `send` gives false if it was not.
+ * be sent. `look` is the class of its button. What was typed is kept under `key` until `send` calls its second argument.
  */
 export function form({ title, controls, parts, verb, check, send, autocomplete = 'off', look, key }) {
-  const problem = element('div', { class: 'problem', role: 'alert', hidden: true });
+  const problem = element('div', { class: 'problem', role: 'alert', tabindex: '-1', hidden: true });
   const submit = element('button', { type: 'submit', class: look }, verb);
   let busy = false;
   const now = () => (typeof controls === 'function' ? controls() : controls);
@@ -131,6 +131,7 @@ export function form({ title, controls, parts, verb, check, send, autocomplete =
     problem.hidden = !children.length;
     (now().find(one => named[one.name])?.input ?? (children.length ? problem : submit)).focus();
   };
+  const sent = answer => { drafts.delete(key); return answer; };
   const act = async event => {
     event.preventDefault();
     if (busy) return;
@@ -142,7 +143,7 @@ export function form({ title, controls, parts, verb, check, send, autocomplete =
     busy = true;
     submit.setAttribute('aria-disabled', 'true');
     try {
-      if (await send(values()) !== false) drafts.delete(key);
+      await send(values(), sent);
     } catch (error) {
       if (!(error instanceof Gone) && !node.isConnected) say(`${verb}: ${troubleOf(error)[0]}`);
       else if (!(error instanceof Gone)) show(troubleOf(error), faultNamed(error, now()));
@@ -150,7 +151,6 @@ export function form({ title, controls, parts, verb, check, send, autocomplete =
     busy = false;
     submit.removeAttribute('aria-disabled');
   };
-  problem.setAttribute('tabindex', '-1');
   const keep = () => { if (key) drafts.set(key, values()); };
   const actions = element('p', { class: 'actions' }, submit);
   const node = element('form', { novalidate: true, method: 'post', autocomplete, onsubmit: act, oninput: keep, onchange: keep },
@@ -185,9 +185,6 @@ export function details(rows) {
   return element('dl', {}, rows.map(row => told(...row)));
 }
 
-/** A state as a word with a mark of its own. */
-export const badge = (state, text) => element('span', { class: `badge ${state}` }, text);
-
 /** Asks before something that cannot be undone: `yes`, `more` for a second way to go on, or an empty text. `stop` is for what declines or revokes. */
 export function sure(question, verb, { stop = false, more } = {}) {
   return new Promise(done => {
@@ -206,8 +203,8 @@ export function sure(question, verb, { stop = false, more } = {}) {
 export function copyable(text, name, ...more) {
   const output = element('output', { class: 'token' }, text);
   const copy = async () => {
-    const done = await navigator.clipboard.writeText(output.textContent).then(() => true, () => false);
+    const done = await navigator.clipboard?.writeText(output.textContent).then(() => true, () => false);
     say(done ? `The ${name} is copied.` : `The browser does not allow that. Select the ${name} and copy it by hand.`);
   };
-  return [output, element('p', { class: 'actions' }, button('Copy', copy), more)];
+  return [output, element('p', { class: 'actions' }, button('Copy', copy, { class: 'plain' }), more)];
 }

@@ -1,5 +1,5 @@
 // Every error of the office as a sentence that says what to do. Nothing here touches the document or the network.
-import { POLICIES } from './forms.js';
+import { POLICIES, formOf } from './forms.js';
 
 /** The errors by their names, in the order in which the office names the first. */
 export const ERRORS = {
@@ -41,37 +41,26 @@ export const ERRORS = {
   storage: 'The office could not save this, so nothing was changed. Send it again in a minute. If this goes on, tell the authority.',
 };
 
-// The forms of the parts that `field` names, as sentences.
-const NAME = 'Use 1 to 32 small letters, digits and hyphens.';
-const TEXT = 'Use 1 to 200 letters without accents, digits and punctuation.';
+// The forms of the parts that `field` names, as sentences, where a form of the page does not say it.
 const MARK = 'Say true or false.';
-const FORMS = {
-  account: NAME, reference: NAME, expert: NAME, agent: NAME, name: NAME, registry: NAME,
-  label: TEXT, contact: TEXT, specification: TEXT, minute: TEXT, draft: TEXT, chair: TEXT, director: TEXT, iesg: TEXT,
-  organization: TEXT, address: TEXT, reason: TEXT, text: TEXT,
+const PARTS = {
   stable: MARK, interest: MARK, will_be_rfc: MARK, private: MARK, reads: MARK, held: MARK,
   value: 'Ask either for a value, a whole number of 0 to 4294967295, or for the lowest free one.',
   max: 'Use a whole number of 0 to 4294967295.', least: 'Choose a policy.',
   rfc: 'An RFC needs its number, 1 to 99999, its stream and its status.',
   kind: 'Choose one of the kinds.', size: 'Choose MA-L, MA-M or MA-S.', verdict: 'Choose for or against.',
-  block: 'A block has 6, 7 or 9 hexadecimal digits.', prefix: 'Use six hexadecimal digits: 0 to 9, A to F.',
-  token: 'A token has 16 to 64 letters, digits, hyphens, dots, underscores and tildes.',
-  until: 'Use a number of seconds, 0 to 32503680000.',
-  digits: 'Use 8 to 64 of the digits 0 to 9 and a to f.',
-  extra: 'Leave out the member that does not belong here.',
+  block: 'A block has 6, 7 or 9 hexadecimal digits.', until: 'Use a number of seconds, 0 to 32503680000.',
+  digits: 'Use 8 to 64 of the digits 0 to 9 and a to f.', extra: 'Leave out the member that does not belong here.',
 };
 
 // The items that `evidence` names, as sentences.
 const EVIDENCE = {
   policy: 'No value is assigned under this policy.', contact: 'The policy asks whom to contact about the value.',
-  specification: 'The policy asks for a public specification.',
+  specification: 'The policy asks for a public specification.', minute: 'The policy asks for IESG minutes.',
   rfc: 'The policy asks for an RFC.', stream: 'The policy asks for an RFC of the IETF stream.',
-  track: 'The policy asks for a Standards Track or Best Current Practice RFC.',
-  minute: 'The policy asks for IESG minutes.', draft: 'An early allocation needs an Internet-Draft.',
-  stable: 'An early allocation needs a stable specification.',
-  interest: 'An early allocation needs enough interest, or a risk of contention.',
-  chair: 'An early allocation needs the approval of the working group chairs.',
-  director: 'An early allocation needs the approval of an area director.',
+  track: 'The policy asks for a Standards Track or Best Current Practice RFC.', draft: 'An early allocation needs an Internet-Draft.',
+  stable: 'An early allocation needs a stable specification.', interest: 'An early allocation needs enough interest, or a risk of contention.',
+  chair: 'An early allocation needs the approval of the working group chairs.', director: 'An early allocation needs the approval of an area director.',
 };
 
 // The faults of a range file, as sentences; `#` stands for the row, counted from 1 below the header, and `@` for what is wrong in it.
@@ -99,7 +88,7 @@ export function faultInWords(fault, ranges = []) {
 
 /** An error of the office as one or two sentences that say what to do. */
 export function inWords(error, item) {
-  const more = { field: FORMS[item], evidence: EVIDENCE[item], ranges: item && faultInWords(item) };
+  const more = { field: PARTS[item] ?? formOf(item), evidence: EVIDENCE[item], ranges: item && faultInWords(item) };
   if (Object.hasOwn(more, error) && more[error]) return more[error];
   if (error === 'status 403') return "Clerks can use the desk only from the office's network.";
   return Object.hasOwn(ERRORS, error) ? ERRORS[error] : `The office refused this: ${error}. Ask the authority what it means.`;

@@ -31,6 +31,8 @@ export const KINDS = {
 
 const SIZES = { 'MA-L': 'MA-L: 16,777,216 addresses', 'MA-M': 'MA-M: 1,048,576 addresses', 'MA-S': 'MA-S: 4,096 addresses' };
 export const STATES = { pending: 'Waiting', approved: 'Approved', declined: 'Declined', withdrawn: 'Withdrawn' };
+/** The state of a request in a word. */
+export const stateOf = ({ state }) => STATES[state] ?? state;
 export const VERDICTS = { for: 'For: I recommend approval', against: 'Against: I do not recommend approval' };
 export const CAPABILITIES = { applicant: 'Applicant', expert: 'Expert', clerk: 'Clerk' };
 
@@ -43,15 +45,12 @@ export const COUNTS = {
 const MARKS = ['stable', 'interest', 'will_be_rfc'], PLAIN = 'At most 200 characters, without accents.';
 /** The fields of all forms, by the name of the member or of the part of the path. */
 export const FIELDS = {
-  registry: { label: 'Registry', form: 'name' },
-  value: { label: 'Value', form: 'number', hint: 'A whole number.' },
-  least: { label: 'Policy' },
+  registry: { label: 'Registry', form: 'name' }, value: { label: 'Value', form: 'number', hint: 'A whole number.' }, least: { label: 'Policy' },
   label: { label: 'Name of the value', hint: `What the registry will call it, for example the name of your option or message. ${PLAIN}` },
   contact: { label: 'Contact', hint: `Whom to ask about this value: a name and an e-mail address (RFC 8126, section 4). It is not published. ${PLAIN}` },
   specification: { label: 'Specification', hint: `Where the permanent, public specification is: its title or its web address. It must be detailed enough for independent implementations to work together (RFC 8126, section 4.6). ${PLAIN}` },
   'rfc-number': { label: 'Number of the RFC', form: 'rfc', hint: 'For example 9999.' },
-  'rfc-stream': { label: 'Stream of the RFC', options: STREAMS },
-  'rfc-track': { label: 'Status of the RFC', options: TRACKS },
+  'rfc-stream': { label: 'Stream of the RFC', options: STREAMS }, 'rfc-track': { label: 'Status of the RFC', options: TRACKS },
   minute: { label: 'IESG minutes', hint: `The minutes or message by which the IESG approved the assignment (RFC 8126, section 4.10). ${PLAIN}` },
   draft: { label: 'Internet-Draft', hint: `The draft that describes the value well enough to use it, for example draft-example-protocol-03 (RFC 7120, section 2). ${PLAIN}` },
   stable: { label: 'The specification is stable: a later version will still work with implementations of this one.' },
@@ -73,8 +72,7 @@ export const FIELDS = {
   text: { label: 'Your advice', rows: 3, hint: `The clerks read it. The applicant does not. ${PLAIN}` },
   verdict: { label: 'Your recommendation', options: VERDICTS },
   reason: { label: 'Reason', rows: 3, hint: `The applicant reads this. ${PLAIN}` },
-  token: { label: 'Token', form: 'token' },
-  kind: { label: 'Kind', options: CAPABILITIES },
+  token: { label: 'Token', form: 'token' }, kind: { label: 'Kind', options: CAPABILITIES },
   until: { label: 'Valid through', form: 'day', hint: 'The last day, in UTC, on which the token works.' },
 };
 
@@ -88,6 +86,9 @@ const FORMS = {
   day: [/^2[0-9]{3}-[0-9]{2}-[0-9]{2}$/, 'Choose a day of the years 2000 to 2999.'],
   text: [/^[ -~]{1,200}$/, 'Use letters without accents, digits and punctuation.'],
 };
+
+/** What a field of a form must look like, as a sentence; undefined for anything else. */
+export const formOf = name => (Object.hasOwn(FIELDS, name) ? FORMS[FIELDS[name].form ?? 'text'][1] : undefined);
 
 const SPELLED = { ä: 'ae', ö: 'oe', ü: 'ue', Ä: 'Ae', Ö: 'Oe', Ü: 'Ue', ß: 'ss', é: 'e', è: 'e', á: 'a', ñ: 'n', ø: 'oe' };
 
@@ -106,7 +107,6 @@ export function faultOf(name, text, needed = true) {
 
 /** The range of a registry in which a value lies, if one does. */
 export const rangeOf = (page, value) => page.ranges.find(({ lo, hi }) => lo <= value && value <= hi);
-
 /** Whether a kind of request can be made under a policy. */
 export const isOpen = (kind, policy) => (kind === 'early' || kind === 'renew' ? EARLY.includes(policy) : Boolean(POLICIES[policy]?.items));
 
@@ -128,7 +128,6 @@ export function leastFree(page, policy) {
 
 /** The policies of a registry under which a kind of request can be made, each once. */
 export const openPolicies = (page, kind) => [...new Set(page.ranges.map(({ treatment }) => treatment))].filter(policy => isOpen(kind, policy));
-
 /** Under which policy the least values are offered first: the one that asks for least. */
 export const easiest = policies => Object.keys(POLICIES).find(policy => policies.includes(policy));
 
@@ -301,20 +300,12 @@ export function outcome({ ask, state, given, reason }, entry) {
 
 /** The records of a text in CSV (RFC 4180); blank lines do not count. */
 export function csvOf(text) {
-  const records = [];
-  let record = [], field = '', quoted = false;
-  const end = () => { record.push(field); if (record.length > 1 || record[0] !== '') records.push(record); record = []; field = ''; };
-  const source = text.replace(/^\ufeff/, '').replace(/\r\n?/g, '\n');
-  for (let at = 0; at < source.length; at += 1) {
-    const letter = source[at];
-    if (quoted && letter === '"' && source[at + 1] === '"') { field += '"'; at += 1; }
-    else if (quoted ? letter === '"' : letter === '"' && field === '') quoted = !quoted;
-    else if (letter === ',' && !quoted) { record.push(field); field = ''; }
-    else if (letter === '\n' && !quoted) end();
-    else field += letter;
+  const records = [[]], source = text.replace(/^\ufeff/, '').replace(/\r\n?/g, '\n');
+  for (const [, quoted = '', rest, end] of source.matchAll(/(?:"((?:[^"]|"")*)(?:"|$))?([^,\n]*)(,|\n|$)/g)) {
+    records.at(-1).push(quoted.replaceAll('""', '"') + rest);
+    if (end !== ',') records.push([]);
   }
-  if (field !== '' || record.length) end();
-  return records;
+  return records.filter(record => record.join() !== '');
 }
 
 /** The ranges of a range file, and its first fault in the office's own words (`row 1 number`, `gap 2`), if it has one. */

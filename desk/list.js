@@ -1,23 +1,26 @@
 // Lists: how many rows there are, a search in what is seen, an order, 100 rows at a time. Where somebody was in a list is kept.
-import { badge, button, element, select } from './dom.js';
+import { button, element, select } from './dom.js';
 
 const SHOWN = 100, MANY = 10, { compare } = new Intl.Collator('en', { numeric: true }), places = new Map();
+// The columns that tell a row from others, whatever becomes of it.
+const NAMING = ['Account', 'Reference', 'Registry', 'Value', 'Name', 'Digest', 'Block', 'Prefix', 'First'];
 /** Forgets where somebody was in each list. */
 export const forgetPlaces = () => places.clear();
 
 /**
- * A list of rows. `cells` gives the texts of a row by column, once they are needed, with marks for State. `act` gives its controls, under the
- * title `acts`; it is also given a function that tells the rows as they are listed. Where `states` has words, one can choose among them. A `quiet` caption is only heard.
+ * A list of rows. `columns` gives the text of a row by title, once it is needed, with marks for State. `act` gives its controls, under the title
+ * `acts`; it is also given a function that tells the rows as they are listed. Where `states` has words, one can choose among them. A `quiet` caption is only heard.
  */
-export function table({ caption, columns, rows, cells, act, acts = 'Actions', empty, states, quiet = false }) {
-  const lines = rows.map(row => ({ row, get texts() { return (this.own ??= cells(row)); } })), seen = () => found(lines, at).map(({ row }) => row);
-  const at = places.get(caption) ?? { text: '', state: '', order: '', page: 0, key: '' };
+export function table({ caption, columns: texts, rows, act, acts = 'Actions', empty, states, quiet = false }) {
+  const columns = Object.keys(texts), textsOf = row => columns.map(name => texts[name](row));
+  const lines = rows.map(row => ({ row, get texts() { return (this.own ??= textsOf(row)); } })), seen = () => found(lines, at).map(({ row }) => row);
+  const at = places.get(caption) ?? { text: '', state: '', order: '', page: 0, key: '', row: -1 };
   places.set(caption, at);
   const body = element('tbody', { role: 'rowgroup' }), info = element('p', { class: 'hint', role: 'status' });
   const titles = (act ? [...columns, acts] : columns).map(name => element('th', { scope: 'col', role: 'columnheader' }, name));
   const head = element('thead', { role: 'rowgroup' }, element('tr', { role: 'row' }, titles));
   const frame = element('table', { role: 'table' }, element('caption', { class: 'heard' }, caption), head, body);
-  const move = step => () => { at.page += step; draw(); frame.scrollIntoView({ block: 'start' }); };
+  const move = step => () => { Object.assign(at, { page: at.page + step, row: -1 }); draw(); frame.scrollIntoView({ block: 'start' }); };
   const before = button('Previous page', move(-1)), after = button('Next page', move(1));
   const pages = element('p', { class: 'actions' }, before, after);
   function draw() {
@@ -25,7 +28,10 @@ export function table({ caption, columns, rows, cells, act, acts = 'Actions', em
     at.page = Math.min(Math.max(at.page, 0), last);
     const from = at.page * SHOWN, shown = all.slice(from, from + SHOWN);
     const actions = ({ row }) => act && element('td', { role: 'cell', 'data-label': acts }, act(row, seen));
-    body.replaceChildren(...shown.map(line => rowOf(line, columns, at, actions(line))));
+    const keys = shown.map(({ texts }) => texts.filter((_, place) => NAMING.includes(columns[place])).join(' ')), used = keys.indexOf(at.key);
+    const nodes = shown.map((line, row) => rowOf(line, columns, actions(line), () => Object.assign(at, { key: keys[row], row })));
+    nodes[used < 0 ? Math.min(at.row, nodes.length - 1) : used]?.classList.add('used');
+    body.replaceChildren(...nodes);
     info.textContent = !rows.length ? empty : !all.length ? 'Nothing matches.' : countOf(from, shown.length, all.length, rows.length);
     // A button that is disabled would lose the focus.
     before.setAttribute('aria-disabled', at.page === 0);
@@ -51,18 +57,17 @@ function countOf(from, shown, all, total) {
   return all === total ? `${few} in all` : `${few} found, ${total} in all`;
 }
 
-// The row that was used last is marked, so that the focus can return to it.
-function rowOf({ row, texts }, columns, at, actions) {
-  const key = texts.slice(0, 2).join(' '), [title, ...others] = texts, [, ...names] = columns;
-  const marked = (text, name) => (name === 'State' ? badge(row.state, text) : text);
+// The row that was used last is marked, or the one in its place, so that the focus can return to it.
+function rowOf({ row, texts }, columns, actions, use) {
+  const [title, ...others] = texts, [, ...names] = columns;
+  const marked = (text, name) => (name === 'State' ? element('span', { class: `badge ${row.state}` }, text) : text);
   const cell = (text, place) => element('td', { role: 'cell', 'data-label': names[place] }, marked(text, names[place]));
-  const use = () => { at.key = key; };
-  return element('tr', { role: 'row', class: at.key === key ? 'used' : undefined, onclick: use },
+  return element('tr', { role: 'row', onclick: use },
     element('th', { scope: 'row', role: 'rowheader' }, title), others.map(cell), actions);
 }
 
 function tools(caption, columns, states, at, draw) {
-  const change = name => ({ target }) => { Object.assign(at, { [name]: target.value, page: 0 }); draw(); };
+  const change = name => ({ target }) => { Object.assign(at, { [name]: target.value, page: 0, row: -1 }); draw(); };
   const menu = (name, what, options) => select({ 'aria-label': `${what}: ${caption}`, onchange: change(name) }, options, at[name]);
   const orders = columns.flatMap((name, place) => [[`up ${place}`, `By ${name}`], [`down ${place}`, `By ${name}, last first`]]);
   const search = element('input', {

@@ -196,19 +196,42 @@ test('what an approval would do now', () => {
   assert.equal(effect({ ...SOME.draft, kind: 'early', least: 'specification-required' }), 'Approve gives acme value 20 of codes, the lowest that is free now, for one year.');
   assert.equal(effect({ ...SOME.draft, kind: 'renew', value: 25 }), 'Approve renews value 25 of codes for one year.');
   assert.equal(effect({ ...SOME.code, kind: 'permanent', value: 25 }), 'Approve makes value 25 of codes permanent.');
-  assert.equal(effect({ kind: 'block', size: 'MA-S' }), 'Approve gives acme the next free block of size MA-S.');
+  const block = cases.effectOf(waits('acme', { kind: 'block', size: 'MA-S' }), { prefixes: ['001A2B'], blocks: ['001A2B000'] });
+  assert.equal(block, 'Approve gives acme block 001A2B001, the first of this size that is free now.');
   assert.equal(forms.leastFree({ ranges: [range(0, 0, 'iesg-approval'), range(1, 1, 'reserved'), range(2, 2, 'iesg-approval')], entries: [{ value: 0 }] }, 'iesg-approval'), 2);
 });
 
-test('a request that cannot be approved any more says why', () => {
+test('the block that is due is the first of its size that has no address of another', () => {
+  const due = (size, prefixes, blocks) => cases.valueDue({ kind: 'block', size }, { prefixes, blocks });
+  const sizes = (prefixes, blocks) => ['MA-L', 'MA-M', 'MA-S'].map(size => due(size, prefixes, blocks));
+  assert.deepEqual(sizes(['001A2B', '8C1F64'], []), ['001A2B', '001A2B0', '001A2B000']);
+  assert.deepEqual(sizes(['001A2B', '8C1F64'], ['001A2B0']), ['8C1F64', '001A2B1', '001A2B100']);
+  assert.deepEqual(sizes(['001A2B', '8C1F64'], ['001A2B', '8C1F64000', '8C1F6400A']), [undefined, '8C1F641', '8C1F64001']);
+  assert.equal(due('MA-M', ['001A2B'], Array.from({ length: 10 }, (_, number) => `001A2B${number}`)), '001A2BA');
+  assert.deepEqual(sizes([], []), [undefined, undefined, undefined]);
+  const rows = forms.csvOf('Registry,Assignment,Organization Name,Organization Address\nMA-M,001A2B0,Private,\nMA-S,001A2B100,"Acme, ""Inc.""","1 Road, Town"\n');
+  assert.deepEqual(rows.slice(1).map(([, block]) => block), ['001A2B0', '001A2B100']);
+});
+
+test('CSV is read as the office reads it', () => {
+  const reads = (text, ...records) => assert.deepEqual(forms.csvOf(text), records, JSON.stringify(text));
+  reads('\ufeffa,b\r\nc\rd', ['a', 'b'], ['c'], ['d']);
+  reads('\n\n,\n""\na,', ['', ''], ['a', '']);
+  reads('"a ""b"", c"d,e"f"\n"g\nh', ['a "b", cd', 'e"f"'], ['g\nh']);
+});
+
+test('a request that cannot be approved any more says why, and what to do', () => {
   const loss = ask => cases.lossOf(waits('zoe', ask), HELD);
-  assert.equal(loss(code({ value: 3 })), 'Value 3 was assigned to bob meanwhile.');
+  assert.equal(loss(code({ value: 3 })), 'Value 3 was assigned to bob meanwhile. Decline this request.');
   assert.equal(loss(code({ value: 4 })), undefined);
-  assert.equal(loss({ ...SOME.code, kind: 'permanent', value: 26 }), 'Value 26 was made permanent meanwhile.');
-  assert.match(loss({ ...SOME.draft, kind: 'renew', value: 25 }), /renewed before/);
+  assert.equal(loss({ ...SOME.code, kind: 'permanent', value: 26 }), 'Value 26 was made permanent meanwhile. Decline this request.');
+  assert.match(loss({ ...SOME.draft, kind: 'renew', value: 25 }), /renewed before, .* Decline this request\.$/);
   assert.equal(loss({ ...SOME.draft, kind: 'renew', value: 25, iesg: 'M' }), undefined);
-  assert.equal(loss({ kind: 'block', size: 'MA-S' }), undefined);
-  assert.equal(cases.lossOf(waits('zoe', code({ least: 'rfc-required' })), { entries: [], ranges: [range(0, 9, 'iesg-approval')] }), 'No value is free under RFC Required.');
+  const blocks = prefixes => cases.lossOf(waits('zoe', { kind: 'block', size: 'MA-L' }), { prefixes, blocks: ['001A2B0'] });
+  assert.equal(blocks(['001A2B']), 'No block of size MA-L is free. Add a prefix, or decline this request.');
+  assert.equal(blocks(['001A2B', '8C1F64']), undefined);
+  const none = { entries: [], ranges: [range(0, 9, 'iesg-approval')] };
+  assert.equal(cases.lossOf(waits('zoe', code({ least: 'rfc-required' })), none), 'No value is free under RFC Required. Decline this request.');
 });
 
 test('which expert has not advised yet, until one recommends it', () => {
@@ -233,6 +256,14 @@ test('others who want just this value, and the next that waits', () => {
   const next = row => cases.nextWaiting(rows, row)?.account;
   assert.deepEqual([next(rows[0]), next(rows[1]), next(rows[5]), next({ account: 'old', reference: 'o' })], ['bob', 'dan', 'acme', 'acme']);
   assert.equal(cases.nextWaiting(rows.slice(0, 1), rows[0]), undefined);
+});
+
+test('a list says how many others want the value that a request names', () => {
+  const rows = [waits('acme', code({ value: 2 })), waits('bob', code({ least: 'first-come-first-served' })), waits('dan', { ...SOME.draft, kind: 'early', value: 2 }),
+    waits('eve', code({ value: 2, registry: 'other' })), waits('fay', { kind: 'block', size: 'MA-S' }), waits('gil', code({ value: 2 })), waits('hal', { ...SOME.draft, kind: 'renew', value: 2 })];
+  const two = '2 other requests want this value.';
+  assert.deepEqual(rows.map(cases.rivalry(rows)), [two, '', two, '', '', two, '']);
+  assert.equal(cases.wanted(1), '1 other request wants this value.');
 });
 
 test('the line for notes.csv, experts to choose from, and what expires next', () => {
@@ -267,6 +298,12 @@ test('what an applicant holds, and when it ends', () => {
   const pages = new Map([['codes', { entries: [other, entry, { value: 8, expires: '2026-12-01', status: 'Temporary', held: true }] }]]);
   const rows = [row('code', '9'), row('early', '8'), row('early', '7'), row('renew', '7'), row('code', undefined, 'pending'), row('block', '001A2B')];
   assert.deepEqual(cases.valuesHeld(rows, pages).map(({ value, registry }) => `${registry} ${value}`), ['codes 7', 'codes 8', 'codes 9']);
+  const more = new Map([['bits', { entries: [{ value: 10, status: 'Assigned' }] }], ['codes', { entries: [other, { value: 12, status: 'Assigned' }] }]]);
+  const of = (given, registry) => ({ ask: { kind: 'code', registry }, state: 'approved', given });
+  const sorted = cases.valuesHeld([of('12', 'codes'), of('10', 'bits'), of('9', 'codes')], more);
+  assert.deepEqual(sorted.map(({ value, registry }) => `${registry} ${value}`), ['bits 10', 'codes 9', 'codes 12']);
+  assert.deepEqual(Object.entries(cases.ENTRY).map(([title, text]) => `${title}: ${text({ ...entry, registry: 'codes', held: true })}`),
+    ['Registry: codes', 'Value: 7', 'Name: Seven', 'Status: Held', 'Expires: 2026-12-26']);
   assert.deepEqual(cases.endingBy(cases.valuesHeld(rows, pages), '2026-12-26').map(({ value }) => value), [7]);
   assert.deepEqual(cases.endingBy(cases.valuesHeld(rows, pages), '2026-12-25'), []);
   assert.equal(forms.outcome(rows[2], entry), 'Value 7, expires on 2026-12-26');
@@ -337,4 +374,47 @@ test('errors belong to fields', () => {
   assert.equal(errors.fieldOf('taken'), 'value');
   assert.equal(errors.fieldOf('storage'), undefined);
   assert.equal(errors.fieldOf('field', 'extra'), undefined);
+});
+
+// What the page tells of a request: an answer is a status, a text and perhaps a type, or null where the connection breaks. Time runs a hundred times faster.
+async function asked(answers, method = 'PUT', meanwhile = () => {}) {
+  const office = await load('office.js'), { setTimeout, fetch } = globalThis, sent = [], said = [];
+  office.listen({ tell: text => said.push(text), end: () => said.push('end') });
+  office.carry('token-of-somebody');
+  globalThis.setTimeout = (act, time) => setTimeout(act, time / 100);
+  globalThis.fetch = async (path, { method, headers, body }) => {
+    sent.push(`${method} ${path} ${headers.Authorization} ${body}`);
+    meanwhile(office);
+    const [status, text, type = 'application/json'] = answers[Math.min(sent.length, answers.length) - 1] ?? [];
+    if (!status) throw new TypeError('The connection broke');
+    return { status, text: async () => text, headers: new Map([['Content-Type', type]]) };
+  };
+  try {
+    const told = await office.ask(method, '/requests/r', method === 'PUT' ? { a: 1 } : undefined).catch(error => `${error.constructor.name} ${error.message}`);
+    return { told, sent: sent.length, same: new Set(sent).size === 1, said };
+  } finally {
+    Object.assign(globalThis, { setTimeout, fetch });
+  }
+}
+
+test('a request without an answer of the office is sent again as it was, and the page says what it knows', async () => {
+  const busy = [429, '<h1>429</h1>', 'text/html'], made = [201, '{"state":"pending"}'];
+  assert.deepEqual(await asked([made]), { told: { state: 'pending' }, sent: 1, same: true, said: [] });
+  const again = await asked([null, busy, made]);
+  assert.deepEqual([again.told, again.sent, again.same], [{ state: 'pending' }, 3, true]);
+  assert.deepEqual(again.said, ['The connection broke. Trying again (2 of 5).', 'Too many requests from your network. Trying again (3 of 5).', '']);
+  assert.match((await asked([busy])).told, /^Lost Too many requests .* Nothing was done\./);
+  assert.match((await asked([null, busy])).told, /^Lost The office does not answer\. It may or may not have your request\./);
+  assert.equal((await asked([null])).sent, 5);
+});
+
+test('what the office or a proxy refuses is not sent again', async () => {
+  const refusals = [[[503, '{"error":"storage"}'], 'storage'], [[403, '<h1>403</h1>', 'text/html'], 'status 403'], [[413, '', 'text/html'], 'large']];
+  for (const [answer, right] of refusals) {
+    const { told, sent } = await asked([answer]);
+    assert.deepEqual([told, sent], [`Refusal ${right}`, 1]);
+  }
+  assert.deepEqual((await asked([[401, '{"error":"token"}']])).said, ['end']);
+  assert.equal((await asked([null, [200, '[]']], 'GET', office => office.carry(null))).told, 'Gone ');
+  assert.equal((await asked([[200, 'Registry,Assignment\n', 'text/csv']], 'GET')).told, 'Registry,Assignment\n');
 });

@@ -19,6 +19,10 @@ def a_day(office, people, folder):
     clerk.go('Prefixes')
     clerk.fill('Prefix', '001a2b')
     clerk.click('Add')
+    clerk.click('Cancel')
+    clerk.go('Counts')
+    clerk.go('Prefixes')
+    clerk.click('Add')
     clerk.click('Add')
     clerk.status('Blocks can now be cut from 001A2B.')
     judge([row[0] for row in clerk.rows('Prefixes that blocks are cut from')] == office.ask('GET', '/pool'), 'the prefixes are others')
@@ -42,6 +46,7 @@ def defined(clerk, folder):
     clerk.click('Define this registry')
     clerk.click('Define')
     clerk.status('The registry codes is defined.')
+    judge(clerk.control('Name of the registry').get_attribute('value') == '', 'what was sent is still in the form')
 
 
 def granted(office, clerk, account, kind):
@@ -273,6 +278,7 @@ def agents(office, alice, tokens):
     alice.click('Add')
     alice.status('bob can now read your requests.')
     judge(office.ask('GET', '/agents', tokens['alice']) == ['bob'], 'bob is no agent')
+    judge(alice.control('Account of the agent').get_attribute('value') == '', 'the agent who was added is still in the form')
     alice.sign_out()
     alice.sign_in(tokens['bob'])
     alice.go('Agents')
@@ -280,4 +286,8 @@ def agents(office, alice, tokens):
     alice.sees('Requests of alice')
     shown = [row[0] for row in alice.rows('Requests of alice')]
     judge(shown == [one['reference'] for one in office.ask('GET', '/principals/alice/requests', tokens['bob'])], f'the agent is shown {shown}')
+    alice.click(f'Details of {shown[-1]}')
+    alice.sees(f'Request {shown[-1]} of alice')
+    alice.click('Requests of alice')
+    alice.until(lambda: [row[0] for row in alice.rows('Requests of alice')] == shown, 'the requests again')
     alice.sign_out()

@@ -1,7 +1,7 @@
 """What must hold for everybody: how pages look, the reader's own colours, the keyboard, narrow screens, sessions."""
 from people.office import CLERK
 from people.person import judge, narrow
-from people.tasks import token_of, within
+from people.tasks import asks, token_of, within
 
 # Whether the button's name begins with what is seen of it, for each button and link.
 NAMES = '''return [...document.querySelectorAll('button, a')].filter(one => one.checkVisibility() && one.hasAttribute('aria-label'))
@@ -57,6 +57,7 @@ def looks(office, clerk):
     headings = clerk.script('return [...document.querySelectorAll("main h3")].map(one => one.textContent)')
     judge(sorted(headings) == ['Ask an expert', 'Decline', 'Experts'], f'the headings of a case are {headings}')
     judge(clerk.script(NAMES) == [], f'in a case names do not begin with what is seen: {clerk.script(NAMES)}')
+    without_advice(office, clerk)
     clerk.go('Registries')
     clerk.click('Open ports')
     clerk.sees('Early allocations')
@@ -64,6 +65,30 @@ def looks(office, clerk):
     clerk.go('Tokens')
     tools = clerk.script('return [...document.querySelectorAll(".tools")].map(one => one.previousElementSibling?.textContent)')
     judge(tools == ['All tokens'], f'the searches are below {tools}')
+
+
+def without_advice(office, clerk):
+    """Where an expert is needed and none is assigned, that comes first, and Approve looks off, also with colours of the reader's own."""
+    asks(office, 'zephyr', 'x-3', value=1002)
+    clerk.go('Waiting')
+    clerk.click('Open x-3 of zephyr')
+    clerk.sees('No expert is assigned.')
+    colours = clerk.script(COLOURS)
+    judge([name for name, colour in colours if colour == GREEN] == ['Assign'], f'the colours are {colours}')
+    emulated(clerk, forced_colors='active')
+    off = clerk.script('const { color, opacity } = getComputedStyle(document.querySelector("button[aria-disabled]")); return [opacity, color !== getComputedStyle(document.body).color]')
+    judge(off == ['1', True], f'a button that is off looks {off}')
+    emulated(clerk)
+
+
+def skipped(clerk):
+    """The first key leads to the content of the same section."""
+    from selenium.webdriver.common.keys import Keys
+    clerk.go('Tokens')
+    clerk.script('document.querySelector(".skip").focus()')
+    clerk.press(Keys.ENTER)
+    clerk.until(lambda: clerk.script('return document.activeElement.id') == 'main', 'the focus on the content')
+    judge(clerk.script('return [location.hash, document.querySelector("h2").textContent]') == ['#tokens', 'Tokens'], 'the way to the content leads to another section')
 
 
 def sessions(person):
@@ -83,16 +108,22 @@ def sessions(person):
     judge(not person.rows('My values') and person.script('return location.hash') == '', 'Back shows something after signing out')
 
 
+def fits(person, name):
+    """At each width the page is no wider than the window, and tables have their roles: cards below 47rem, and a column of its own width from 56rem."""
+    for width in (320, 390, 641, 753, 768, 897):
+        narrow(person, True, width)
+        wide = person.script('return document.documentElement.scrollWidth')
+        judge(wide <= width, f'{name} is {wide} pixels wide at {width}')
+        judge(person.script(ROLES) == [], f'{name} at {width}: without roles are {person.script(ROLES)[:3]}')
+    narrow(person, False)
+
+
 def by_name_and_role(clerk):
     """Each name begins with what is seen, and tables keep their roles on narrow screens."""
     for section in ('Waiting', 'All requests', 'Due to expire', 'Registries', 'Prefixes', 'Tokens'):
         clerk.go(section)
         judge(clerk.script(NAMES) == [], f'{section}: names do not begin with what is seen: {clerk.script(NAMES)}')
-        narrow(clerk, True)
-        judge(clerk.script(ROLES) == [], f'{section}: without roles are {clerk.script(ROLES)[:3]}')
-        wide = clerk.script('return document.documentElement.scrollWidth')
-        judge(wide <= 390, f'{section} is {wide} pixels wide at 390')
-        narrow(clerk, False)
+        fits(clerk, section)
 
 
 def focus_stays(clerk):
@@ -118,15 +149,18 @@ def everybody(office, clerk, person):
     for section in ('My requests', 'New request', 'My values', 'My blocks', 'Agents'):
         person.go(section)
         judge(person.script(NAMES) == [], f'{section}: names do not begin with what is seen: {person.script(NAMES)}')
+        fits(person, section)
     person.sign_out()
     sessions(person)
     person.sign_in(token_of('moduya'))
     person.sees('Requests to review')
     judge(person.script(NAMES) == [], f'names do not begin with what is seen: {person.script(NAMES)}')
+    fits(person, 'Requests to review')
     person.sign_out()
     by_name_and_role(clerk)
     looks(office, clerk)
-    [held] = office.ask('GET', '/holdings', token_of('acme'))
+    skipped(clerk)
+    held = next(one for one in office.ask('GET', '/holdings', token_of('acme')) if one['size'] == 'MA-S')
     with within(clerk, 1, 'who holds a block'):
         clerk.go('All requests')
         clerk.named('input', 'Search: All requests').send_keys(held['block'])

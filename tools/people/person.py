@@ -69,7 +69,10 @@ class Person:
 
     def click(self, name):
         self.clicks += 1
-        self.named('button, a, summary', name).click()
+        found = self.named('button, a, summary', name)
+        # (the news stand above what is scrolled to the top)
+        self.script('arguments[0].scrollIntoView({ block: "nearest" })', found)
+        found.click()
 
     def click_twice(self, name):
         from selenium.webdriver.common.action_chains import ActionChains
@@ -142,9 +145,9 @@ class Person:
         self.driver.quit()
 
 
-def narrow(person, is_narrow):
+def narrow(person, is_narrow, width=390):
     if is_narrow:
-        person.driver.execute_cdp_cmd('Emulation.setDeviceMetricsOverride', {'width': 390, 'height': 844, 'deviceScaleFactor': 1, 'mobile': False})
+        person.driver.execute_cdp_cmd('Emulation.setDeviceMetricsOverride', {'width': width, 'height': 844, 'deviceScaleFactor': 1, 'mobile': False})
     else:
         person.driver.execute_cdp_cmd('Emulation.clearDeviceMetricsOverride', {})
 

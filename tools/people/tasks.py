@@ -53,6 +53,8 @@ def in_lists(office, clerk):
     with within(clerk, 1, 'how many wait'):
         clerk.go('Waiting')
         clerk.sees(f'{len(waiting)} in all')
+    contested = [row[0] for row in clerk.rows('Waiting requests') if row[2].endswith('1 other request wants this value.')]
+    judge(contested == ['acme', 'zephyr'], f'contested in the list are the requests of {contested}')
     search = clerk.named('input', 'Search: Waiting requests')
     for text, right in [('kind', 0), ('FIRST COME FIRST SERVED', sum(row['ask'].get('least') == 'first-come-first-served' for row in waiting)), ('oceanic', 3)]:
         search.clear()
@@ -103,6 +105,8 @@ def clerks_tasks(office, clerk):
         clerk.click('Approve and open the next')
         clerk.status('Approved: p-843 of acme. Value 843')
     too_early(office, clerk)
+    noted(clerk)
+    followed(office, clerk)
     clerk.go('Waiting')
     clerk.click('Open o-0 of oceanic')
     for number in range(2):
@@ -114,6 +118,7 @@ def clerks_tasks(office, clerk):
     lost(office, clerk)
     clerk.click('Next waiting request')
     clerk.until(lambda: 'Waiting' in clerk.script('return document.querySelector("main dl").textContent'), 'the next that waits')
+    blocks(office, clerk)
     expiring(office, clerk)
     tokens_of_others(clerk)
     office.relay.mode = ['foreign']
@@ -170,8 +175,25 @@ def too_early(office, clerk):
         clerk.click('Assign')
         clerk.status('x-1 of acme is assigned to moduya.')
     clerk.sees('moduya has not advised yet.')
+    judge(clerk.control('Account of the expert').get_attribute('value') == '', 'the expert who was assigned is still in the form')
     judge(office.ask('GET', '/desk/requests/acme/x-1', CLERK)['experts'] == ['moduya'], 'a mistyped account was assigned')
     office.ask('PUT', '/queue/acme/x-1', token_of('moduya'), {'text': 'fine', 'verdict': 'for'})
+
+
+def followed(office, clerk):
+    """Where a row is gone, the focus comes to the one in its place."""
+    asks(office, 'zz', 'z-35', value=735)
+    clerk.go('Waiting')
+    clerk.click('Open z-35 of zz')
+    clerk.sees('Approve gives zz')
+    office.ask('DELETE', '/requests/z-35', token_of('zz'))
+    clerk.click('Back to the list')
+    name = clerk.until(lambda: clerk.script('return document.activeElement.getAttribute("aria-label")'), 'the focus')
+    judge(name == 'Open z-4 of zz', f'after a row is gone the focus is on {name}')
+
+
+def noted(clerk):
+    """After an approval the line for notes.csv and the next request come first, and the news cover no title."""
     clerk.go('Waiting')
     clerk.click('Open x-1 of acme')
     clerk.sees('Approve gives acme value 1000 of ports.')
@@ -180,6 +202,14 @@ def too_early(office, clerk):
     clerk.sees('Line for notes.csv, from x-1 of acme')
     line = clerk.script('return document.querySelector("output").textContent')
     judge(line == 'ports,1000,,"https://example.org/spec, 2nd edition",', f'the line for notes.csv is {line}')
+    onward, told = [clerk.script(f'return document.querySelector("main {css}").getBoundingClientRect().top') for css in ('.actions button:only-child:not(.plain)', 'dl')]
+    judge(onward < told, 'after a decision the next request is below the one that was decided')
+    clerk.driver.set_window_size(1280, 500)
+    clerk.script('scrollTo(0, document.body.scrollHeight)')
+    clerk.script('document.querySelector("h2").blur(); document.querySelector("h2").focus()')
+    shown = clerk.script('return ["#status", "h2"].map(one => document.querySelector(one).getBoundingClientRect()).map(({ top, bottom }) => [top, bottom])')
+    judge(shown[0][1] <= shown[1][0], f'the news and the title are at {shown} pixels')
+    clerk.driver.set_window_size(1280, 1000)
 
 
 def lost(office, clerk):
@@ -207,6 +237,25 @@ def lost(office, clerk):
         office.ask('PUT', f'/desk/decline/{account}/{reference}', CLERK, {'reason': 'taken'})
 
 
+def blocks(office, clerk):
+    """The block that is due, and none of a size once there is no whole prefix for it."""
+    office.ask('PUT', '/desk/pool/8C1F64', CLERK)
+    for account, size in (('acme', 'MA-L'), ('zephyr', 'MA-L'), ('zz', 'MA-S')):
+        office.ask('PUT', '/requests/block-1', token_of(account), {'kind': 'block', 'size': size, 'organization': account, 'address': '1 Road'})
+    for account in ('acme', 'zz'):
+        clerk.go('Waiting')
+        clerk.click(f'Open block-1 of {account}')
+        clerk.sees(f'Approve gives {account} block ')
+        due = clerk.script('return document.querySelector("#prospect").textContent').split(' block ')[1].split(',')[0]
+        clerk.click('Approve')
+        clerk.click('Approve')
+        clerk.status(f'Approved: block-1 of {account}. Block {due}')
+    clerk.go('Waiting')
+    clerk.click('Open block-1 of zephyr')
+    clerk.sees('No block of size MA-L is free. Add a prefix, or decline this request.')
+    office.ask('DELETE', '/requests/block-1', token_of('zephyr'))
+
+
 def expiring(office, clerk):
     with within(clerk, 1, 'what expires'):
         clerk.go('Due to expire')
@@ -218,6 +267,8 @@ def expiring(office, clerk):
     clerk.click('Hold value 2001 of ports')
     clerk.status('Value 2001 of ports is held')
     judge(clerk.rows('Due to expire')[-1][5] == 'Held', 'what is held does not come last')
+    focus = clerk.script('return document.activeElement.getAttribute("aria-label")')
+    judge(focus == 'Release value 2001 of ports', f'after Hold the focus is on {focus}')
     clerk.click('Release value 2001 of ports')
     clerk.status('Value 2001 of ports is released')
 
@@ -236,10 +287,13 @@ def applicants_tasks(office, person):
     shown = {(row[0], row[1]): row[4] for row in person.rows('My values')}
     judge(shown == {('ports', str(entry['value'])): entry.get('expires', '') for entry in entries}, f'the values are {shown} in place of {entries}')
     early = next(entry for entry in entries if 'expires' in entry)
-    person.click(f'Renew value {early["value"]} of ports')
-    person.sees(f'Value {early["value"]} of ports, "acme early", until {early["expires"]}')
-    person.click('Empty this form')
-    person.sees('What each policy needs')
+    for verb, needs in (('Renew', 'Internet-Draft'), ('Make permanent', 'Number of the RFC')):
+        person.go('My values')
+        person.click(f'{verb}: value {early["value"]} of ports')
+        person.sees(f'Value {early["value"]} of ports, "acme early", until {early["expires"]}')
+        person.control(needs)
+        person.click('Empty this form')
+        person.sees('What each policy needs')
     again(office, person)
     kept(office, person)
     slow(office, person)
@@ -306,7 +360,7 @@ def asking_in_vain(person):
 
 
 def experts_tasks(office, person):
-    """An expert's first request: those that wait come first, and the filter is kept after the advice."""
+    """An expert's first request: those that wait for advice come first, and the filter is kept after the advice."""
     asks(office, 'zephyr', 'x-2', value=1001, specification='https://example.org/x-2')
     for path in ('zephyr/x-2', *(f'zz/z-{number}' for number in range(10))):
         office.ask('PUT', f'/desk/experts/{path}/moduya', CLERK)
@@ -314,6 +368,7 @@ def experts_tasks(office, person):
     person.sees('Requests to review')
     listed = lambda: [row[1] for row in person.rows('Requests assigned to me')]
     person.until(lambda: [listed()[0], listed()[-1], len(listed())] == ['x-2', 'x-1', 12], 'the list with what waits first')
+    person.sees('11 requests wait for your advice.')
     state = person.named('select', 'State: Requests assigned to me')
     [one for one in state.find_elements('css selector', 'option') if one.text == 'Waiting'][0].click()
     person.until(lambda: len(listed()) == 11, 'those that wait')
@@ -325,7 +380,8 @@ def experts_tasks(office, person):
         person.click('Send my advice')
         person.status('is recorded')
     judge(links == [[place, '_blank', 'noopener noreferrer'] for place in ('../registries/ports.html', 'https://example.org/x-2')], f'a request links to {links}')
-    judge(person.rows('Requests assigned to me')[0][4] == 'Against: Too vague' and len(listed()) == 11, 'the advice is not in the list, or the state is chosen no more')
+    person.sees('10 requests wait for your advice.')
+    judge(person.rows('Requests assigned to me')[10][4] == 'Against: Too vague' and len(listed()) == 11, 'the advice is not in the list, or the state is chosen no more')
     person.sign_out()
 
 
@@ -355,7 +411,7 @@ def kept(office, person):
     person.fill('Contact', 'Acme')
     person.go('My values')
     value = next(entry['value'] for entry in office.ask('GET', '/registries/ports')['entries'] if entry['assignee'] == 'acme' and 'expires' in entry)
-    person.click(f'Renew value {value} of ports')
+    person.click(f'Renew: value {value} of ports')
     person.sees('You have begun another request, which is not sent yet.')
     person.click('Cancel')
     person.go('New request')
@@ -403,11 +459,11 @@ def left(person):
 
 def ended(office, person):
     """A token that ends in mid-form: what was typed is there again for the same account, and for no other."""
-    for number, (account, right) in enumerate([('acme', 'Ended'), ('zephyr', '')]):
+    for number, (holder, account, right) in enumerate([('acme', 'acme', 'Ended'), ('acme', 'zephyr', ''), ('nobody', 'zephyr', '')]):
         token = f'short-token-0000000000{number}'
-        office.grant('acme', 'applicant', token, 15)
+        office.grant(holder, 'applicant', token, 15)
         person.sign_in(token)
-        person.sees('Details')
+        person.sees('You have no requests yet.' if holder == 'nobody' else 'Details')
         begun(person)
         person.fill('Name of the value', 'Ended')
         person.fill('Contact', 'Acme')

@@ -186,6 +186,11 @@ def secrets(office, alice, log):
     judge(token in heap, 'a snapshot of the heap does not show the token while it is used, so its absence later says nothing')
     judge(token not in alice.script('return document.documentElement.outerHTML + location.href'), 'the document has the token')
     alice.go('New request')
+    office.ask('PUT', '/requests/told-to-nobody', token, {'contact': 'C', 'kind': 'code', 'label': 'Secret', 'least': 'first-come-first-served', 'registry': 'codes'})
+    alice.go('My requests')
+    alice.click('Details of told-to-nobody')
+    alice.sees('Request told-to-nobody')
+    judge(alice.script('return document.title') == 'My requests - Registry desk', 'the title, which the browser keeps, names a request')
     alice.go('Agents')
     alice.sign_out()
     heap = devtools(alice, 'HeapProfiler.takeHeapSnapshot', reportProgress=False)
@@ -201,8 +206,9 @@ def secrets(office, alice, log):
     profile = alice.profile
     alice.quiet('the applicant')
     alice.end()
-    found = subprocess.run(['grep', '-rlaF', token, profile], capture_output=True, text=True, check=False).stdout
-    judge(not found, f'the browser has kept the token in {found}')
+    for secret in (token, 'told-to-nobody'):
+        found = subprocess.run(['grep', '-rlaF', secret, profile], capture_output=True, text=True, check=False).stdout
+        judge(not found, f'the browser has kept {secret} in {found}')
     told = subprocess.run(['grep', '-cF', token, log], capture_output=True, text=True, check=False).stdout.strip()
     judge(told == '0', f'the log of the proxy has the token {told} times')
 
