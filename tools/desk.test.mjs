@@ -152,7 +152,7 @@ test('what clerks list of tokens and waiting requests, and what they count', () 
   assert.equal(forms.endOf({ until: 1799971200 }, 0), '2027-01-14');
   const answers = name => [...read(`crates/reg_cli/transcripts/${name}.txt`).matchAll(/^< 200 (\[\{.*\]|\{"agents".*\})$/gm)].map(([, body]) => JSON.parse(body));
   const [waiting] = answers('waiting').filter(rows => rows.some(({ advice }) => advice?.length === 2));
-  assert.deepEqual(waiting.map(forms.opinionsOf), ['', '', 'xan: for; yve: for', 'xan: no advice yet', '', '']);
+  assert.deepEqual(waiting.map(forms.opinionsOf), ['', 'xan: for; yve: for', '', '', '', 'xan: no advice yet']);
   const counts = answers('counts').filter(told => !Array.isArray(told));
   assert.ok(counts.length > 10);
   for (const told of counts) assert.deepEqual(Object.keys(forms.COUNTS).sort(), Object.keys(told));
