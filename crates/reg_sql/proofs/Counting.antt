@@ -1,8 +1,9 @@
 -- What stands beside the tables, as a change with its acts leaves it.
-use Rattle.std.proofs.Common.{◌≡◌, ℕ, ◌+◌, List, length, Ok, Err, sym, ap, subst, ◌∙◌, arith}
+use Rattle.std.proofs.Common.{◌≡◌, ℕ, ◌+◌, List, length, Result, Ok, Err, sym, ap, subst, ◌∙◌, arith}
 use Rattle.std.specs.Prelude.{Option, Some, None}
 use Rattle.sqlite.specs.Effect.{Database}
 use Rattle.sqlite.specs.State.{State}
+use Rattle.reg_tables.specs.Connection.{Holds}
 use Rattle.reg_core.specs.WellKept.{WellKept, CanApply}
 use Rattle.reg_core.specs.Journal.{with_acts}
 use Rattle.reg_core.specs.World.{World, applied}
@@ -44,3 +45,13 @@ pub well_with : (w v : World) (acts : List Act) (change : Change) → v ≡ appl
     → CanApply w change → WellKept v
 well_with w v acts change is can =
     subst WellKept (sym is) (with_journal (applied w change) can.1 (with_acts acts w.journal))
+
+-- whether it is made or not, what was well kept is
+pub stays_well : {T E : Type 0} {old new : State} {result : Result T E} (change : Change)
+    (acts : List Act) → Alters old new result (λ w. applied_with acts w change)
+    → (Holds old → WellKept (world_in old)) → (Holds old → CanApply (world_in old) change)
+    → Holds new → WellKept (world_in new)
+stays_well {old = old} {new = new} {result = Ok x} change acts it well fits h =
+    well_with (world_in old) (world_in new) acts change (it.made h) (fits (it.held h))
+stays_well {result = Err e} change acts it well fits h =
+    subst (λ (db : Database). WellKept (content_of db)) (sym (it.kept h)) (well (it.held h))
