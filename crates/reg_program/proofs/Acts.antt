@@ -1,6 +1,6 @@
 -- Acts that a job prints, or not.
 use Rattle.std.proofs.Common.{◌≡◌, ℕ, true, false, List, Option, Result, Ok, Err, refl, subst, ap, sym, ◌∙◌}
-use Rattle.std.specs.Prelude.{⊤, IfErr, OnOk}
+use Rattle.std.specs.Prelude.{⊤, IfErr, IsErrAnd, OnOk}
 use Rattle.std.specs.Io.KnownBytes.{Appends}
 use Rattle.reg_core.specs.declared.journal.Act.{Act}
 use Rattle.reg_history.specs.Acts.{IsTextOfActs}
@@ -23,6 +23,13 @@ pub common_of_acts : (why : Undone) → IsOfStoreOrPrinting why → IsOfActs why
 common_of_acts (Fault failure) h = of_acts failure h
 common_of_acts _ h = absurd h
 
+-- and so it is of what is passed on
+pub stopped_of_acts : (why : Undone) → IsOfStoreOrPrinting why → (done : Result ⊤ Undone)
+    → IsErrAnd done (λ e. e ≡ why) → IfErr done IsOfActs
+stopped_of_acts why of (Ok u) is = absurd is
+stopped_of_acts why of (Err e) is =
+    common_of_acts e (subst IsOfStoreOrPrinting (sym is) of)
+
 pub write_of_acts : (why : Undone) → why ≡ Fault Write → IsOfActs why
 write_of_acts why h = rw h tt
 
@@ -33,6 +40,11 @@ module _ (Has : List Act → Type 0) (noted had : Option (List ℕ)) where
     silent = λ not. refl;
     unnoted = λ is. absurd (subst IsOfStoreOrPrinting is of);
   }
+
+  pub stopped : (why : Undone) → IsOfStoreOrPrinting why → (done : Result ⊤ Undone)
+      → IsErrAnd done (λ e. e ≡ why) → TellsActs Has noted had had done
+  stopped why of (Ok u) is = absurd is
+  stopped why of (Err e) is = unread e (subst IsOfStoreOrPrinting (sym is) of)
 
   -- no digest begins so
   pub unnoted : (acts : List Act) (text : List ℕ) (digests : List (List ℕ)) → Has acts

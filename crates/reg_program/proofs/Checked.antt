@@ -1,5 +1,5 @@
 -- Offices that a job counts.
-use Rattle.std.proofs.Common.{◌≡◌, ◌++◌, ℕ, ℤ, Bool, true, false, List, Option, Some, None, refl, ap, subst, ◌∙◌, if◌then◌else◌, codes}
+use Rattle.std.proofs.Common.{◌≡◌, [], ◌++◌, ℕ, ℤ, Bool, true, false, List, Option, Some, None, refl, ap, subst, ◌∙◌, if◌then◌else◌, codes}
 use Rattle.std.specs.Fmt.{signed_decimal}
 use Rattle.std.specs.Io.KnownBytes.{Appends}
 use Rattle.reg_early.specs.Moment.{day_of_moment, is_in_clock, utc_day}

@@ -1,4 +1,4 @@
-use Rattle.reg_program.proofs.Acts.{common_of_acts, printed, unnoted, unread, write_of_acts}
+use Rattle.reg_program.proofs.Acts.{printed, stopped, stopped_of_acts, unnoted, write_of_acts}
 use Rattle.reg_program.proofs.Results.{err_as}
 use Rattle.reg_program.proofs.journal.print_acts.Goals as goal
 
@@ -17,7 +17,11 @@ returns-then-not-is_noted_in-clause-told g c =
     unnoted _ _ _ text.0 _ _ text.1 text.2 (cc)
 
 pub returns-in_err-whole-clause-told : goal.returns-in_err-whole-clause-told
-returns-in_err-whole-clause-told g c = unread _ _ _ _ c.in_err-whole.ensures.err
+returns-in_err-whole-clause-told g c =
+    stopped _ _ _ c.in_err-whole.field-0.0 c.in_err-whole.ensures.err c.from_residual.result
+    c.from_residual.ensures.1
 
 pub returns-in_err-whole-clause-why : goal.returns-in_err-whole-clause-why
-returns-in_err-whole-clause-why g c = common_of_acts _ c.in_err-whole.ensures.err
+returns-in_err-whole-clause-why g c =
+    stopped_of_acts c.in_err-whole.field-0.0 c.in_err-whole.ensures.err c.from_residual.result
+    c.from_residual.ensures.1
