@@ -21,16 +21,17 @@ returns g c =
     let decided : c.match-request.decided
     ≡ (if is_pending request.state then None else last_moment (decides name) w.journal) =
     elim c.match-request.branch [
-    in-Pending m ↦
-    m.decided-is
-    ∙ sym (ap (λ state. if is_pending state then None else last_moment (decides name) w.journal)
-    m.in-Pending.is)
-    | in_default m ↦
-    m.decided-is ∙ m.last_decision-decided.ensures
-    ∙ ap (λ acts. last_moment (decides name) (reverse acts)) listed
-    ∙ last_about name (decides name) (decides_of name) w.journal
-    ∙ sym (ap (λ b. if b then None else last_moment (decides name) w.journal)
-    (waits_not request.state m.in_default.not-Pending)) ] in
+      | in-Pending m ↦
+          m.decided-is
+          ∙ sym (ap (λ state. if is_pending state then None else last_moment (decides name) w.journal)
+          m.in-Pending.is)
+      | in_default m ↦
+          m.decided-is ∙ m.last_decision-decided.ensures
+          ∙ ap (λ acts. last_moment (decides name) (reverse acts)) listed
+          ∙ last_about name (decides name) (decides_of name) w.journal
+          ∙ sym (ap (λ b. if b then None else last_moment (decides name) w.journal)
+          (waits_not request.state m.in_default.not-Pending))
+    ] in
     λ i. record {
       account = request.account;
       reference = request.reference;
