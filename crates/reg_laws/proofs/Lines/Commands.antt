@@ -25,7 +25,7 @@ use Rattle.reg_blocks.specs.Pool.{first_octet, is_pool_prefix}
 use Rattle.reg_early.specs.declared.term.Status.TheVariants as status
 use Rattle.reg_core.specs.Allowance.{◌>>=◌, or_refusal, allowance_on, allowed, ground_of}
 use Rattle.reg_core.specs.Request.{word_of}
-use Rattle.reg_core.specs.declared.command.ApplicantCommand.TheVariants.{Own, OwnOne, Submit, Withdraw, SetListing, SetAgent, PrincipalRows}
+use Rattle.reg_core.specs.declared.command.ApplicantCommand.TheVariants.{OwnOne, Submit, Withdraw, SetListing, SetAgent, PrincipalRows}
 use Rattle.reg_core.specs.declared.command.ExpertCommand.TheVariants.{Queue, Advise}
 use Rattle.reg_core.specs.declared.command.ClerkCommand.TheVariants.{OneRequest, AssignExpert, Approve, Decline, SetHold, Define, AddPool, Grant, Revoke, RevokeDigits, RevokeAccount, ActsAbout}
 use Rattle.reg_core.specs.declared.command.TimesCommand.TheVariants as times

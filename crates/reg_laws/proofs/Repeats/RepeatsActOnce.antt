@@ -12,7 +12,7 @@ use Rattle.reg_core.proofs.Common.{request_rows, private_rule, link_rule, mark_r
 use Rattle.reg_core.proofs.Common.{answer_to, step, Queued, as_queued, published, personal, requests_by}
 use Rattle.reg_core.proofs.Common.{queue_of, agents_of, principals_of, principal_rows_of, cap_at, World}
 use Rattle.reg_core.proofs.Common.{RequestName, Place, Link, in_state, carried, acts_where, is_about}
-use Rattle.reg_core.proofs.Common.{own_times, times_answer, times_of_requests_by, times_rows}
+use Rattle.reg_core.proofs.Common.{own_times, times_of_requests_by, times_rows}
 use Rattle.reg_core.specs.declared.command.TimesCommand.{TimesCommand}
 use Rattle.reg_laws.proofs.Types.{Ask, Cap, Kind}
 use Rattle.reg_laws.proofs.Types.{Command, ApplicantCommand, ExpertCommand, ClerkCommand, PublicCommand}

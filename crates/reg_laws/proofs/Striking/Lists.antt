@@ -1,7 +1,7 @@
 -- Lists of requests without the hidden ones: maps that agree but for those, and where none is.
-use Rattle.std.proofs.Common.{◌≡◌, ℕ, Bool, true, false, cond, not, List, [], ◌∷◌, map, refl, sym, ap, subst, ◌∙◌}
+use Rattle.std.proofs.Common.{◌≡◌, ℕ, Bool, true, not, List, refl, sym, ap, subst, ◌∙◌}
 use Rattle.std.specs.Prelude.{Option, Some, None, Ok, Err, option_and_then}
-use Rattle.reg_core.proofs.Common.{FinMap, get, entries, get-select, utc_day, Answer, Outcome, reply_of}
+use Rattle.reg_core.proofs.Common.{FinMap, get, get-select, utc_day, Answer, Outcome, reply_of}
 use Rattle.reg_core.proofs.Common.{made_row, queue_row}
 use Rattle.reg_core.proofs.Common.{queue_rows, request_row, request_rows, Event, answer_to, Queued}
 use Rattle.reg_core.proofs.Common.{queued_to, requests_of, queue_of, World, RequestName, name_cmp}
