@@ -4,3 +4,4 @@ pub mod Faults
 pub mod Lines
 pub mod Rows
 pub mod Scripts
+pub mod Imported

@@ -177,9 +177,11 @@ standing_in row kind.ForGood policy first assignee =
 
 -- ---- Entries
 
+-- the value of a row, or that it has not its form
 abbrev pub value_in : CellsOfRow → Result ℕ ImportRowFault
 value_in row = formed (read_number (row column.Value)) column.Value
 
+-- the policy of a row, or that it is none
 abbrev pub policy_in : CellsOfRow → Result Policy ImportRowFault
 policy_in row = formed (read_policy (row column.Policy)) column.Policy
 
@@ -215,6 +217,7 @@ entry_in import kind row = do
 
 -- ---- Status
 
+-- this is the word of a status
 abbrev pub is_word_of : List ℕ → RowStatus → Bool
 is_word_of word status = bytes_eq word (status_word status)
 
@@ -242,6 +245,7 @@ kind_in row =
 
 -- ---- Rows
 
+-- the entry of a row whose values have one of this kind, or its first fault; none where they have none
 abbrev pub entry_if : Import → CellsOfRow → Option EntryKind → Result (Option ListedEntry) ImportRowFault
 entry_if import row None = Ok None
 entry_if import row (Some kind) = entry_in import kind row >>= (λ entry. Ok (Some entry))

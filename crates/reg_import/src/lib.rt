@@ -8,6 +8,7 @@ mod evidence;
 pub mod fault;
 mod fields;
 pub mod import;
+pub mod laws;
 pub mod lines;
 mod marks;
 mod records;

@@ -11,3 +11,10 @@ pub mod Causes
 pub mod Unfed
 pub mod ActsRead
 pub mod OpenLemmas
+pub mod Neighbours
+pub mod Minutes
+pub mod Parts
+pub mod RowsDecide
+pub mod KeptRows
+pub mod KeptFits
+pub mod FedAudits

@@ -13,8 +13,8 @@ use Rattle.sqlite.specs.State.{State, IsLive}
 use Rattle.sqlite.specs.Table.{Table}
 use Rattle.sqlite_schema.specs.Names.{same_name}
 use Rattle.reg_maps.proofs.RowMaps.Lists.{all_permuted, shown_rows}
-use Rattle.reg_audit.specs.Audits.{Audits}
-use Rattle.reg_audit.specs.declared.audit.Audit.{Audit}
+use Rattle.reg_opening.specs.Audits.{Audits}
+use Rattle.reg_opening.specs.declared.audit.Audit.{Audit}
 use Rattle.reg_core.specs.WellKept.{WellKept}
 use Rattle.reg_core.specs.World.{empty_world}
 use Rattle.reg_core.proofs.Keeping.OtherMaps.{with_journal}

@@ -4,8 +4,8 @@ use Rattle.std.specs.Fmt.{digits}
 use Rattle.std.specs.FinMap.{FinMap, contains_key, empty, get}
 use Rattle.std.proofs.Common.{[], ap, subst, sym, ◌∙◌}
 use Rattle.sqlite.specs.Order.{Row as SqlRow}
-use Rattle.reg_audit.specs.Rows.{is_markable, is_unminuted, lacks_minute}
-use Rattle.reg_audit.specs.declared.row.Row.TheVariants as row
+use Rattle.reg_opening.specs.Rows.{is_markable, is_unminuted, lacks_minute}
+use Rattle.reg_opening.specs.declared.row.Row.TheVariants as row
 use Rattle.reg_core.specs.Entry.{with_hold}
 use Rattle.reg_core.specs.World.{World, Place, RequestName, name_cmp, place_cmp}
 use Rattle.reg_core.specs.declared.ask.Ask.{Ask}

@@ -8,3 +8,8 @@ pub mod Parts
 pub mod Rowids
 pub mod Unordered
 pub mod Opening
+pub mod Rows
+pub mod Blocks
+pub mod Requests
+pub mod Audits
+pub mod Laws

@@ -10,8 +10,8 @@ use Rattle.sqlite_trees.specs.declared.store.Store.{Ghosts}
 use Rattle.reg_keeper.specs.declared.keeper.Fault.{Fault}
 use Rattle.reg_core.specs.WellKept.{WellKept}
 use Rattle.reg_core.specs.World.{World}
-use Rattle.reg_audit.specs.Audits.{Audits, is_well_kept}
-use Rattle.reg_audit.specs.declared.audit.Audit.{Audit}
+use Rattle.reg_opening.specs.Audits.{Audits, is_well_kept}
+use Rattle.reg_opening.specs.declared.audit.Audit.{Audit}
 use Rattle.reg_vacancies.specs.Vacancies.{AreVacanciesOf}
 use Rattle.reg_vacancies.specs.declared.vacancies.Vacancies.{Vacancies}
 use Rattle.reg_tables.specs.Editing.{AreKeyed}

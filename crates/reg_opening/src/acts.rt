@@ -14,7 +14,7 @@ use crate::feed::Reading;
 use crate::flaw::RowFlaw;
 use crate::numbered::Rise;
 use crate::opens::Opens;
-use reg_audit::grows::Grows;
+use crate::grows::Grows;
 use reg_keeper::keeper::Fault;
 use reg_records::acts::NumberedAct;
 use reg_records::column::int;

@@ -6,8 +6,8 @@ ghost use Rattle.reg_opening.specs.Numbered.{HasRisen};
 use crate::feed::{Fed, FedRow};
 use crate::flaw::RowFlaw;
 use crate::numbered::{Numbered, Rise};
-use reg_audit::audit::Audit;
-use reg_audit::grows::Grows;
+use crate::audit::Audit;
+use crate::grows::Grows;
 use reg_statements::read::Sink;
 use std::alloc::AllocError;
 
@@ -71,7 +71,7 @@ impl Feeder {
 
 impl<T: FedRow, S: Grows> Sink<Numbered<T>, S> for Feeder {
     ghost use Rattle.std.specs.Prelude.{IsTrue};
-    ghost use Rattle.reg_audit.specs.Audits.{knows_free};
+    ghost use Rattle.reg_opening.specs.Audits.{knows_free};
 
     ghost Takes = { TakesRow T.row_of };
 

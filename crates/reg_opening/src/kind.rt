@@ -2,7 +2,7 @@
 ghost use Rattle.std.specs.Prelude.{◌≡◌, ◌⊎◌, false, IfErr, IfOk};
 ghost use Rattle.sqlite.specs.Held.{state};
 ghost use Rattle.sqlite.specs.State.{IsLive};
-ghost use Rattle.reg_audit.specs.Audits.{knows_free};
+ghost use Rattle.reg_opening.specs.Audits.{knows_free};
 ghost use Rattle.reg_tables.specs.Connection.{Endures, IsIdle, Stays, Tells, Works};
 ghost use Rattle.reg_tables.specs.Having.{AreFreeLater, FindsTablesOf, HasTable};
 ghost use Rattle.reg_tables.specs.Schema.{office_table};
@@ -20,7 +20,7 @@ use crate::flaw::{Flaw, RowFlaw};
 use crate::opens::Opens;
 use crate::parts::feed_parts;
 use crate::rowids::check_rowids;
-use reg_audit::audit::Audit;
+use crate::audit::Audit;
 use reg_keeper::keeper::Fault;
 use reg_records::office::Version as VersionRow;
 use reg_statements::read::load;

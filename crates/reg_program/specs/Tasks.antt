@@ -5,7 +5,7 @@ use Rattle.std.specs.declared.time.Duration.{Duration}
 use Rattle.reg_core.specs.View.{published}
 use Rattle.reg_core.specs.World.{World}
 use Rattle.reg_http.specs.Meeting.{ReadsMoment}
-use Rattle.reg_notes.specs.declared.notes.Notes.{Notes}
+use Rattle.reg_pages.specs.declared.notes.Notes.{Notes}
 use Rattle.reg_program.specs.Asking.{PrintsStep, step_of}
 use Rattle.reg_program.specs.Doing.{Does}
 use Rattle.reg_program.specs.Expiring.{PrintsDue}

@@ -27,7 +27,7 @@ use crate::version::print_version;
 use reg_http::dates::{Dates, moment_now};
 use reg_jobs::jobs::{Importation, Job, JobFault, Publication, Service};
 use reg_keeper::keeper::Keeper;
-use reg_notes::notes::Notes;
+use reg_pages::notes::Notes;
 use reg_office::Office;
 use reg_store::lists::ListKeeper;
 use std::io::{Read, Write};

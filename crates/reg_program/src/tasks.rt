@@ -21,7 +21,7 @@ use crate::tokens::{revoke_in, tokens_in};
 use reg_http::dates::{Dates, moment_now};
 use reg_http::peers::Ports;
 use reg_keeper::keeper::Keeper;
-use reg_notes::notes::Notes;
+use reg_pages::notes::Notes;
 use reg_office::{Choice, Office};
 use std::io::{Read, Write};
 

@@ -25,7 +25,7 @@ use reg_disk::folder::Folder;
 use reg_history::history::History;
 use reg_history::overview::Overview;
 use reg_history::recorder::Recorded;
-use reg_notes::notes::Notes;
+use reg_pages::notes::Notes;
 use reg_pages::noted::of_authority;
 use reg_site::files::File;
 use reg_site::sums::Sums;
