@@ -7,7 +7,7 @@ use Rattle.reg_opening.specs.Audits.{Audits, Feeds, Keeps, knows_free}
 use Rattle.reg_opening.specs.Rows.{with_row, has_row_form, IsNew, IsInTurn, Fits}
 use Rattle.reg_opening.specs.declared.audit.Audit.{Audit}
 use Rattle.reg_opening.specs.declared.row.Row.{Row}
-use Rattle.reg_opening.proofs.Parts.{part_kept}
+use Rattle.reg_opening.proofs.AuditParts.{part_kept}
 use Rattle.reg_opening.proofs.RowsDecide.{next_fits, part_of_next, rows_decide}
 
 module _ (audit : Audit) (next : Row) where

@@ -13,7 +13,7 @@ pub mod ActsRead
 pub mod OpenLemmas
 pub mod Neighbours
 pub mod Minutes
-pub mod Parts
+pub mod AuditParts
 pub mod RowsDecide
 pub mod KeptRows
 pub mod KeptFits

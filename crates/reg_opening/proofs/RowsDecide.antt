@@ -28,7 +28,7 @@ use Rattle.reg_opening.specs.Rows.{with_row, has_row_form, is_markable, is_unmin
 use Rattle.reg_opening.specs.declared.row.Row.{Row}
 use Rattle.reg_opening.specs.declared.row.Row.TheVariants as row
 use Rattle.reg_opening.proofs.Minutes.{changed_row, named_stands, request_raised}
-use Rattle.reg_opening.proofs.Parts.{no_row, part_itself, part_kept, more_entries, more_requests}
+use Rattle.reg_opening.proofs.AuditParts.{no_row, part_itself, part_kept, more_entries, more_requests}
 
 -- ---- Rows that are there stay
 

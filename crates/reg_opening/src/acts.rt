@@ -12,9 +12,9 @@ ghost use Rattle.reg_opening.specs.Numbered.{HasRisen};
 
 use crate::feed::Reading;
 use crate::flaw::RowFlaw;
+use crate::grows::Grows;
 use crate::numbered::Rise;
 use crate::opens::Opens;
-use crate::grows::Grows;
 use reg_keeper::keeper::Fault;
 use reg_records::acts::NumberedAct;
 use reg_records::column::int;

@@ -20,12 +20,12 @@ ghost use Rattle.reg_opening.specs.Feeding.{FeedsPart, FeedsRows, FeedsShown, Ma
 ghost use Rattle.reg_opening.specs.Numbered.{ShowsNumbered, numbered_columns};
 ghost use Rattle.reg_opening.specs.Unordered.{IsUnnumbered};
 
+use crate::audit::Audit;
 use crate::feeder::Feeder;
 use crate::flaw::RowFlaw;
+use crate::grows::Grows;
 use crate::numbered::Numbered;
 use crate::opens::Opens;
-use crate::audit::Audit;
-use crate::grows::Grows;
 use crate::row::Row;
 use reg_keeper::keeper::Fault;
 use reg_records::record::Record;

@@ -3,11 +3,11 @@ ghost use Rattle.std.specs.Prelude.{◌≡◌, []};
 ghost use Rattle.reg_opening.specs.Feeding.{TakesRow};
 ghost use Rattle.reg_opening.specs.Numbered.{HasRisen};
 
+use crate::audit::Audit;
 use crate::feed::{Fed, FedRow};
 use crate::flaw::RowFlaw;
-use crate::numbered::{Numbered, Rise};
-use crate::audit::Audit;
 use crate::grows::Grows;
+use crate::numbered::{Numbered, Rise};
 use reg_statements::read::Sink;
 use std::alloc::AllocError;
 

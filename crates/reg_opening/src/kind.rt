@@ -13,6 +13,7 @@ ghost use Rattle.reg_opening.specs.Opening.{AreRowsOf, TellsKind, FindsKind, IsF
 ghost use Rattle.reg_opening.specs.Opening.{OpeningIsStopped, Reads, free_in, only, kind_of};
 
 use crate::acts::count_acts;
+use crate::audit::Audit;
 use crate::beside::Beside;
 use crate::feed::Reading;
 use crate::feeder::Feeder;
@@ -20,7 +21,6 @@ use crate::flaw::{Flaw, RowFlaw};
 use crate::opens::Opens;
 use crate::parts::feed_parts;
 use crate::rowids::check_rowids;
-use crate::audit::Audit;
 use reg_keeper::keeper::Fault;
 use reg_records::office::Version as VersionRow;
 use reg_statements::read::load;

@@ -7,12 +7,12 @@ ghost use Rattle.reg_opening.specs.Partitions.{ArePartitions, AreRegistries, Are
 ghost use Rattle.reg_opening.specs.Partitions.{left_over, partition_row, shared_out, trailing};
 ghost use Rattle.reg_opening.specs.Unordered.{AreRegistriesUnordered};
 
+use crate::audit::Audit;
 use crate::feed::{Fed, Part, Reading, feed_all};
 use crate::feeder::Feeder;
 use crate::flaw::RowFlaw;
-use crate::opens::Opens;
-use crate::audit::Audit;
 use crate::grows::Grows;
+use crate::opens::Opens;
 use crate::row::Row;
 use reg_core::text::Name;
 use reg_keeper::keeper::Fault;

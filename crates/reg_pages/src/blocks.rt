@@ -6,15 +6,15 @@ ghost use Rattle.reg_pages.specs.Table.{table_start};
 ghost use Rattle.reg_pages.specs.Blocks.{above_rows, assignments_text, block_links, block_row, blocks_page, no_blocks, page_left, row_by, rows_of, same_size};
 ghost use Rattle.reg_print.specs.BlockListing.{block_header};
 
-use crate::noted::push_apply;
-use crate::portions::{Next, Portions};
-use reg_blocks::size::Size;
-use reg_core::holding::Listed;
 use crate::document::push_start;
 use crate::markup::Piece::{Link, Markup};
 use crate::markup::{push, push_all};
-use crate::table;
 use crate::note::Note;
+use crate::noted::push_apply;
+use crate::portions::{Next, Portions};
+use crate::table;
+use reg_blocks::size::Size;
+use reg_core::holding::Listed;
 use reg_print::listing::blocks::{address_text, block_listing, organization_text};
 use std::alloc::{AllocError, Global};
 

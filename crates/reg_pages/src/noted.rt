@@ -5,12 +5,12 @@ ghost use Rattle.reg_pages.specs.Appended.{Shown};
 ghost use Rattle.reg_print.specs.Listing.{row_view};
 ghost use Rattle.reg_pages.specs.Noted.{apply_at, apply_line, note_of_row, note_shown, noted, noted_in, reference_shown, title_shown};
 
-use crate::reference::push_reference;
 use crate::escape::push_text;
 use crate::markup::Piece::{Markup, Text};
 use crate::markup::{push, push_all};
 use crate::note::Note;
 use crate::notes::Notes;
+use crate::reference::push_reference;
 use reg_print::listing::rows::ListingRow;
 use std::alloc::{AllocError, Global};
 

@@ -27,8 +27,8 @@ use crate::version::print_version;
 use reg_http::dates::{Dates, moment_now};
 use reg_jobs::jobs::{Importation, Job, JobFault, Publication, Service};
 use reg_keeper::keeper::Keeper;
-use reg_pages::notes::Notes;
 use reg_office::Office;
+use reg_pages::notes::Notes;
 use reg_store::lists::ListKeeper;
 use std::io::{Read, Write};
 

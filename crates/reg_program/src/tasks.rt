@@ -21,8 +21,8 @@ use crate::tokens::{revoke_in, tokens_in};
 use reg_http::dates::{Dates, moment_now};
 use reg_http::peers::Ports;
 use reg_keeper::keeper::Keeper;
-use reg_pages::notes::Notes;
 use reg_office::{Choice, Office};
+use reg_pages::notes::Notes;
 use std::io::{Read, Write};
 
 /// What a job does with the office in a file.

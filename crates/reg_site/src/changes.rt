@@ -9,9 +9,9 @@ ghost use Rattle.reg_site.specs.Changes.{change_entry, change_links, change_row,
 use reg_pages::document::{push_end, push_start_with_feed};
 use reg_pages::markup::Piece::{Link, Markup, Text};
 use reg_pages::markup::{push, push_all};
-use reg_pages::table;
 use reg_pages::note::Note;
 use reg_pages::noted::push_apply;
+use reg_pages::table;
 use std::alloc::{AllocError, Global};
 
 /// How many changes the page shows.

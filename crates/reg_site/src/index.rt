@@ -17,14 +17,14 @@ use reg_blocks::size::Size;
 use reg_core::holding::Listed;
 use reg_core::text::Name;
 use reg_history::moment::moment_text;
+use reg_pages::blocks::count_of;
 use reg_pages::document::{push_end, push_start_with_feed};
 use reg_pages::markup::Piece::{Link, Markup, Number, Text};
 use reg_pages::markup::{push, push_all};
-use reg_pages::table;
 use reg_pages::note::Note;
-use reg_pages::notes::Notes;
-use reg_pages::blocks::count_of;
 use reg_pages::noted::{of_authority, of_registry, push_apply};
+use reg_pages::notes::Notes;
+use reg_pages::table;
 use std::alloc::{AllocError, Global};
 
 /// The first page: the moment, in seconds since 1970-01-01T00:00:00Z; what is noted about the authority,
