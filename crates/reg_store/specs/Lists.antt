@@ -24,7 +24,7 @@ pub mod Pairs
 pub mod Links
 pub mod Blocks
 pub mod Journal
-pub mod Arrivals
+pub mod ActPlaces
 pub mod Content
 
 -- the one that the keeper in memory holds

@@ -2,7 +2,7 @@
 ghost use Rattle.std.specs.Prelude.{◌≡◌};
 ghost use Rattle.reg_core.specs.WellKept.{WellKept};
 ghost use Rattle.reg_core.specs.World.{empty_world};
-ghost use Rattle.reg_store.specs.Lists.Arrivals.{AreArrivals};
+ghost use Rattle.reg_store.specs.Lists.ActPlaces.{AreActPlaces};
 ghost use Rattle.reg_store.specs.Lists.Blocks.{pool_held, blocks_given};
 ghost use Rattle.reg_store.specs.Lists.Content.{content};
 ghost use Rattle.reg_store.specs.Lists.Journal.{journal_held};
@@ -10,8 +10,8 @@ ghost use Rattle.reg_store.specs.Lists.Links.{links_held};
 ghost use Rattle.reg_store.specs.Lists.Registrations.{entries_held};
 ghost use Rattle.reg_store.specs.Lists.Reviews.{world_of};
 
+mod act_places;
 mod acts;
-mod arrivals;
 mod blocks;
 mod caps;
 mod entries;
@@ -27,8 +27,8 @@ mod requests;
 mod reviews;
 
 use crate::maps::{row_at, set_row, unset_row};
-use acts::{acts_about, acts_by, acts_on, all_acts};
-use arrivals::Arrivals;
+use act_places::ActPlaces;
+use acts::{acts_by, acts_on, all_acts};
 use blocks::Blocks;
 use caps::{Caps, cap_in, caps_in, take_caps};
 use entries::{entries_in, entry_in};
@@ -63,8 +63,8 @@ use std::collections::BTreeMap;
 /// reference, their experts and the advice on them by request, and, once more, by expert, what is
 /// assigned to each as the expert sees it; the pool with the free places in it, the blocks that
 /// were given in order, and, once more, by account, those that each holds; the agents of each
-/// account, and, once more, its principals; and the journal, the latest act last, with when each
-/// request came, by account and reference.
+/// account, and, once more, its principals; and the journal, the latest act last, with the places
+/// of the acts about each request, by account and reference.
 ///
 /// A row by its key and a change take O(log n), whatever else there is, but a change of a
 /// request's state O((1 + experts) log n), for the experts of that request, and the removal of
@@ -73,8 +73,9 @@ use std::collections::BTreeMap;
 /// its entries, an account's own requests, blocks, agents and principals, a request's file and an
 /// expert's queue O(log n + rows); the names of all registries, all blocks, all requests, all
 /// capabilities and all agents O(rows), and the pool O(rows log rows); the files of the requests
-/// that wait O(requests + rows), and O(log n) more for each of these files; a list of acts O(acts).
-/// When a request came takes O(log n), and O(log n) for each act that is noted for the first time.
+/// that wait O(requests + rows), and O(log n) more for each of these files; all acts, and those of a
+/// day or by an account, O(acts). The acts about a request, and when it came, take O(log n + acts
+/// about it), and O(log n) more for each act that is noted for the first time.
 pub struct ListKeeper {
     alloc: Global,
     caps: Caps,
@@ -84,8 +85,8 @@ pub struct ListKeeper {
     blocks: Blocks,
     links: Links,
     journal: Vec<Act>,
-    arrivals: Arrivals,
-    ghost arrived: { AreArrivals arrivals journal.items },
+    places: ActPlaces,
+    ghost placed: { AreActPlaces places journal.items },
     ghost well: { WellKept (content caps registries (entries_held registrations)
         (world_of reviews) (pool_held blocks) (blocks_given blocks) (links_held links)
         (journal_held journal)) },
@@ -103,7 +104,7 @@ impl Drop for ListKeeper {
             blocks: _,
             links: _,
             journal: _,
-            arrivals: _,
+            places: _,
         } = self;
     }
 }
@@ -125,7 +126,7 @@ impl ListKeeper {
             blocks: Blocks::new(alloc),
             links: Links::new(alloc),
             journal: Vec::new(alloc),
-            arrivals: Arrivals::new(alloc),
+            places: ActPlaces::new(alloc),
         }
     }
 
@@ -322,12 +323,12 @@ impl Keeper for ListKeeper {
     #[tactic(auto, using(crate::proofs::JournalLaws::chosen_in_order))]
     fn acts_about(&mut self, account: &Account, reference: &Ref) -> Result<Rows<Act>, Fault> {
         let acts = self.journal.as_slice();
-        Ok(acts_about(self.alloc, acts, account, reference)?)
+        Ok(self.places.about(self.alloc, acts, account, reference)?)
     }
 
     fn arrival(&mut self, account: &Account, reference: &Ref) -> Result<Arrival, Fault> {
         let acts = self.journal.as_slice();
-        Ok(self.arrivals.find(self.alloc, acts, account, reference)?)
+        Ok(self.places.find(self.alloc, acts, account, reference)?)
     }
 
     fn apply(&mut self, change: Change) -> Result<(), Fault> {

@@ -1,10 +1,10 @@
 //! The acts of a journal that are listed, in order.
-ghost use Rattle.std.specs.Prelude.{◌≡◌, filter, IfOk};
-ghost use Rattle.reg_core.specs.Journal.{is_about as about, is_by as by, is_on as on};
+ghost use Rattle.std.specs.Prelude.{◌≡◌, filter, filter_map, slice_get, IfOk};
+ghost use Rattle.reg_core.specs.Journal.{is_by as by, is_on as on};
 
 use reg_core::journal::Act;
 use reg_core::rows::Rows;
-use reg_core::text::{Account, Ref};
+use reg_core::text::Account;
 use reg_early::day::Day;
 use std::alloc::{AllocError, Global};
 
@@ -39,19 +39,15 @@ pub fn acts_by(alloc: Global, acts: &[Act], account: &Account) -> Result<Rows<Ac
     ))
 }
 
-/// Those about the request of an account under a reference.
-pub fn acts_about(
-    alloc: Global,
-    acts: &[Act],
-    account: &Account,
-    reference: &Ref,
-) -> Result<Rows<Act>, AllocError>
-    ensures { IfOk result (λ rows. rows ≡ filter (about (account.now, reference.now)) acts.now) }
+/// Those at these places, in this order.
+pub fn acts_at(alloc: Global, acts: &[Act], places: &[usize]) -> Result<Rows<Act>, AllocError>
+    ensures { IfOk result (λ rows. rows ≡ filter_map (slice_get acts.now) places.now) }
 {
     Ok(Rows::from_vec(
-        acts.iter()
+        places
+            .iter()
             .copied()
-            .filter(|act| is_about(act, account, reference))
+            .filter_map(|place| act_at(acts, place))
             .collect(alloc)?,
     ))
 }
@@ -74,11 +70,11 @@ fn is_by(act: &Act, account: &Account) -> bool
     }
 }
 
-fn is_about(act: &Act, account: &Account, reference: &Ref) -> bool
-    ensures { result ≡ about (account.now, reference.now) act.now }
+fn act_at(acts: &[Act], place: usize) -> Option<Act>
+    ensures { result ≡ slice_get acts.now place }
 {
-    match act.deed.request() {
-        Some((of, under)) => of == *account && under == *reference,
-        None => false,
+    match acts.get(place) {
+        Some(act) => Some(*act),
+        None => None,
     }
 }
