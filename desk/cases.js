@@ -70,11 +70,11 @@ export function rivalsOf(row, page, rows) {
 
 /** How many others of these want a value, and which came earlier if that is known, as sentences; an empty text for none. */
 export function wanted(row, all) {
-  const [first, second] = all, count = all.length - 1, isFirst = count > 0 && isSame(first, row);
+  const [first, second] = all, listed = all.find(one => isSame(one, row)), count = all.length - 1;
   if (count < 1) return '';
-  const early = isFirst ? 'This one came first.' : `${first.reference} of ${first.account} came earlier.`;
+  const early = listed === first ? 'This one came first.' : `${first.reference} of ${first.account} came earlier.`;
   const told = `${count === 1 ? '1 other request wants' : `${count} other requests want`} this value.`;
-  return (isFirst ? second : row).submitted === undefined ? told : `${told} ${early}`;
+  return (listed === first ? second : listed)?.submitted === undefined ? told : `${told} ${early}`;
 }
 
 /** What is wanted of the value that a request names, by the request; `rows` are all that wait, in order of arrival. */

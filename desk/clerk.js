@@ -313,20 +313,20 @@ function tokenTable(app, rows, own) {
 /** What was done on a day, at first today, or by an account. */
 export async function acts(app) {
   const today = dayAfter(0), at = placeIn('acts', { day: today }), place = element('div'), list = element('div');
-  const fill = async chosen => {
-    const { day, account } = Object.assign(at, { account: undefined }, chosen);
+  const fill = async ({ day = at.day, account }) => {
+    Object.assign(at, { day, account });
     const rows = await ask('GET', `/desk/journal/${account ? `actors/${account}` : `days/${day}`}`);
     if (day !== at.day || account !== at.account) return;
-    chooser.input.value = day;
     after.setAttribute('aria-disabled', day >= today);
     const columns = { ...ACT, Token: ({ token }) => token ?? '' }, empty = account ? `${account} has done nothing.` : 'Nothing was done on this day.';
     list.replaceChildren(table({ caption: `Acts ${account ? `of ${account}` : `on ${day}`}`, columns, rows, act, empty }));
   };
   const act = row => (row.reference ? button('Open', () => openCase(app, row, []), { 'aria-label': `Open ${row.reference} of ${row.account}` }) : []);
   const turn = day => (faultOf('day', day) ? undefined : attempt(place, () => fill({ day })));
-  const chooser = control('day', { type: 'date', onchange: ({ target }) => turn(target.value) });
-  const before = button('Previous day', () => turn(dayAfter(-1, at.day)), { class: 'plain' });
-  const after = button('Next day', () => at.day < today && turn(dayAfter(1, at.day)), { class: 'plain' });
+  const chooser = control('day', { type: 'date', value: at.day, onchange: ({ target }) => turn(target.value) });
+  const step = count => { chooser.input.value = dayAfter(count, at.day); turn(chooser.input.value); };
+  const before = button('Previous day', () => step(-1), { class: 'plain' });
+  const after = button('Next day', () => at.day < today && step(1), { class: 'plain' });
   await fill(at);
   const days = element('div', {}, element('h3', {}, 'By day'), chooser.node, element('p', { class: 'actions' }, before, after));
   const accounts = form({ title: 'By account', verb: 'Show', look: 'plain', controls: [control('account')], send: ({ account }) => fill({ account }) });

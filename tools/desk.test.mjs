@@ -307,6 +307,7 @@ test('a list says how many others want the value that a request names, and which
   // (those that came before the office noted when come first, in an order of their own)
   assert.deepEqual(said([undefined, 1, 1, 1, 1, 2, 2]), [`${two} This one came first.`, `${two} acme-1 of acme came earlier.`, `${two} acme-1 of acme came earlier.`]);
   assert.deepEqual(said([undefined, undefined, undefined, 1, 1, 2, 2]), [two, two, `${two} acme-1 of acme came earlier.`]);
+  assert.equal(cases.wanted(rows[2], [rows[0], { ...rows[2], submitted: 1 }]), '1 other request wants this value. acme-1 of acme came earlier.');
   assert.deepEqual([cases.wanted(rows[0], []), cases.wanted(rows[0], [rows[0], rows[2]])], ['', '1 other request wants this value.']);
 });
 
