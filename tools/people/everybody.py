@@ -109,8 +109,8 @@ def sessions(person):
 
 
 def fits(person, name):
-    """At each width the page is no wider than the window, and tables have their roles: cards below 47rem, and a column of its own width from 56rem."""
-    for width in (320, 390, 641, 753, 768, 897):
+    """At each width the page is no wider than the window, and tables have their roles: cards up to 56rem, and a column of its own width from 64rem."""
+    for width in (320, 390, 641, 768, 896, 897, 1025):
         narrow(person, True, width)
         wide = person.script('return document.documentElement.scrollWidth')
         judge(wide <= width, f'{name} is {wide} pixels wide at {width}')
