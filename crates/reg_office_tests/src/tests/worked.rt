@@ -6,7 +6,7 @@ mod exercise;
 mod floods;
 mod generated;
 mod heads;
-mod http;
+mod served;
 mod messages;
 mod refused;
 pub mod rows;
