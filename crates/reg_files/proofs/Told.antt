@@ -1,8 +1,8 @@
 -- Acts of which less is told.
-use Rattle.std.proofs.Common.{◌≡◌, ℕ, List, Option, Result, Ok, Err, refl}
-use Rattle.std.specs.Prelude.{⊤}
+use Rattle.std.proofs.Common.{◌≡◌, ℕ, List, Option, Result, Ok, Err, refl, sym, ◌∙◌}
+use Rattle.std.specs.Prelude.{⊤, IsErrAnd}
 use Rattle.reg_core.specs.declared.journal.Act.{Act}
-use Rattle.reg_program.specs.Journal.{AreUnnotedBy, IsUnprintedBy, TellsActs}
+use Rattle.reg_program.specs.Journal.{AreUnnotedBy, TellsActs}
 use Rattle.reg_program.specs.declared.faults.JobFailure.TheVariants.{Journal}
 use Rattle.reg_program.specs.declared.faults.Undone.{Undone}
 use Rattle.reg_program.specs.declared.faults.Undone.TheVariants.{Fault}
@@ -24,8 +24,10 @@ module _ (P Q : List Act → Type 0) (noted had has : Option (List ℕ))
 
 -- none were read, and nothing was printed
 pub untold : (Has : List Act → Type 0) (noted had : Option (List ℕ)) (why : Undone)
-    → (why ≡ Fault Journal → ⊥) → IsUnprintedBy Has noted had had why
-untold Has noted had why other = record {
+    → (why ≡ Fault Journal → ⊥) → (done : Result ⊤ Undone) → IsErrAnd done (λ e. e ≡ why)
+    → TellsActs Has noted had had done
+untold Has noted had why other (Ok u) is = absurd is
+untold Has noted had why other (Err e) is = record {
   silent = λ not. refl;
-  unnoted = λ is. absurd (other is);
+  unnoted = λ same. absurd (other (sym is ∙ same));
 }

@@ -8,4 +8,6 @@ returns g c =
     c.tell.ensures
 
 pub returns-in_err-snapshot : goal.returns-in_err-snapshot
-returns-in_err-snapshot g c = untold _ _ _ _ c.in_err-snapshot.ensures.untold
+returns-in_err-snapshot g c =
+    untold _ _ _ c.in_err-snapshot.field-0.0 c.in_err-snapshot.ensures.untold
+    c.from_residual.result c.from_residual.ensures.1
