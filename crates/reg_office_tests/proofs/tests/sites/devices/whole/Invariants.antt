@@ -1,5 +1,5 @@
 use Rattle.std.proofs.Common.{◌≡◌, ◌++◌, length}
-use Rattle.reg_program_tests.proofs.tests.sites.devices.whole.Given as goal
+use Rattle.reg_office_tests.proofs.tests.sites.devices.whole.Given as goal
 
 abbrev pub invariant-loop-given : goal.invariant-loop-given
 invariant-loop-given g l =
