@@ -1,12 +1,19 @@
 """The acts of a journal, as an office shows them, by the rows of their table."""
 import datetime
 import hashlib
+import re
 
 DIGITS = {'MA-L': 6, 'MA-M': 7, 'MA-S': 9}
 HEADER = 'Number,Moment,By,Token,Kind,Account,Reference,Registry,Value,Block,Other,Digest'
 # What the column `other` names.
 NAMED = {'grant': 'digest', 'revoke': 'digest', 'assign': 'expert', 'advise': 'expert', 'appoint': 'agent', 'dismiss': 'agent'}
 DECISIONS = ('approve', 'decline', 'withdraw')
+MOMENTS = re.compile(rb'"(decided|moment|submitted)":[0-9]+')
+
+
+def timeless(answer):
+    """An answer without its moments, which differ where an office is asked at others."""
+    return MOMENTS.sub(rb'"\1":0', answer)
 
 
 def moment_of(act):
