@@ -3,14 +3,15 @@ import { ask } from './office.js';
 import { Told, attempt, button, choice, control, details, drafts, element, form, say, sure } from './dom.js';
 import { table } from './list.js';
 import {
-  KINDS, POLICIES, STATES, askOf, dayOf, easiest, evidenceFor, faultsOf, freeUnder, hexOf, inWords, noteOn, openPolicies, optionsFor, outcome, policyOf,
-  rowsOf, stateOf, valuesOf, waitingFirst, waitingTwin,
+  KINDS, POLICIES, STATES, askOf, easiest, evidenceFor, faultsOf, freeUnder, inWords, noteOn, openPolicies, optionsFor, outcome, policyOf, rowsOf,
+  stateOf, valuesOf, waitingTwin,
 } from './forms.js';
 import { ENTRY, endingBy, entryOf, valuesHeld } from './cases.js';
+import { dayAfter, dayOf, newReference, newestFirst } from './times.js';
 
 /** The caller's own requests, and which values expire soon. */
 export async function requests(app) {
-  const rows = waitingFirst(await ask('GET', '/requests')), place = element('div');
+  const rows = newestFirst(await ask('GET', '/requests'), await ask('GET', '/times')), place = element('div');
   const pages = await pagesOf(rows.filter(row => row.ask.kind === 'early'));
   const withdraw = async row => {
     if (!await sure(`Withdraw the request ${row.reference}? You cannot undo this. To ask again, make a new request.`, 'Withdraw')) return;
@@ -23,12 +24,11 @@ export async function requests(app) {
     ? button('Ask again with these data', () => askFor(app, row.ask.kind, valuesOf(row.ask))) : null);
   const actions = row => element('div', { class: 'row' }, detailsButton(app, row, `Request ${row.reference}`, again(row), pages),
     row.state === 'pending' ? button('Withdraw', () => withdraw(row), { 'aria-label': `Withdraw ${row.reference}`, class: 'plain' }) : null);
-  const add = element('p', {}, element('a', { class: 'button', href: '#new' }, 'New request'));
-  const soon = dayOf(Date.now() / 1000 + 30 * 86400), { length } = endingBy(valuesHeld(rows, pages), soon);
+  const soon = dayAfter(30), { length } = endingBy(valuesHeld(rows, pages), soon);
   const told = `${length === 1 ? '1 of your values expires' : `${length} of your values expire`} by ${soon}. `;
   const greeting = length ? element('p', { class: 'note' }, told, element('a', { href: '#values' }, 'See My values')) : null;
-  const empty = 'You have no requests yet. To make one, choose New request.';
-  return element('div', {}, place, greeting, add, requestTable(rows, actions, 'My requests', empty, pages));
+  const list = requestTable(rows, actions, 'My requests', 'You have no requests yet. To make one, choose New request.', pages);
+  return element('div', {}, place, greeting, element('p', {}, element('a', { class: 'button', href: '#new' }, 'New request')), list);
 }
 
 // The pages of the registries in which requests were approved, by name.
@@ -51,9 +51,11 @@ async function askFor(app, kind, values) {
   await app.go('new', 'Check the data before you send them.');
 }
 
+const TIMES = { Asked: ({ submitted }) => dayOf(submitted), Decided: ({ decided }) => dayOf(decided) };
+
 function requestTable(rows, act, caption, empty, pages = new Map()) {
   const result = row => outcome(row, entryOf(row, pages));
-  const columns = { Reference: ({ reference }) => reference, Request: row => inWords(row.ask), State: stateOf, Result: result };
+  const columns = { Reference: ({ reference }) => reference, Request: row => inWords(row.ask), ...TIMES, State: stateOf, Result: result };
   return table({ caption, columns, rows, act, empty, states: STATES, quiet: true });
 }
 
@@ -62,7 +64,8 @@ export function requestDetails(row, pages = new Map()) {
   const result = outcome(row, entryOf(row, pages)), told = {
     pending: 'Waiting: nothing is decided yet.', approved: `Approved. ${result}.`, declined: `Declined. ${result}`, withdrawn: 'Withdrawn by the applicant.',
   };
-  return details([['State', told[row.state] ?? row.state], ['Reference', row.reference], ...rowsOf(row.ask)]);
+  const times = Object.entries(TIMES).map(([name, text]) => [name, text(row)]).filter(([, day]) => day);
+  return details([['State', told[row.state] ?? row.state], ['Reference', row.reference], ...times, ...rowsOf(row.ask)]);
 }
 
 /** A form for a new request. Its reference stays the same until the office has answered, so one ask never has two. */
@@ -88,8 +91,8 @@ const noteOf = text => element('p', { class: 'note' }, text);
 class Draft {
   constructor(names, own, { kind = 'code', values } = {}) {
     Object.assign(this, { names, own, kind, page: null, pages: new Map(), parts: {}, shape: '' });
-    this.values = { wish: 'least', reference: `r${hexOf(crypto.getRandomValues(new Uint8Array(4)))}`, ...values };
-    this.kinds = choice('What do you need?', 'kind', KINDS, kind, chosen => this.choose(chosen));
+    this.values = { wish: 'least', reference: newReference(dayAfter(0), own), ...values };
+    this.kinds = choice('What do you need?', 'need', KINDS, kind, chosen => this.choose(chosen));
     for (const name of ['top', 'wishes', 'naming', 'evidence', 'last']) this[name] = element('div');
     this.note = element('p', { class: 'note', role: 'status' });
     const needs = Object.values(POLICIES).map(({ title, says }) => [title, says]);
@@ -215,9 +218,8 @@ class Draft {
     const shape = JSON.stringify([policy, needed]);
     if (shape === this.shape) return;
     this.shape = shape;
-    const marks = ['stable', 'interest', 'will_be_rfc'];
     const of = (name, isOptional) => control(name, {
-      type: marks.includes(name) ? 'checkbox' : undefined, optional: isOptional, value: this.values[name],
+      type: ['stable', 'interest', 'will_be_rfc'].includes(name) ? 'checkbox' : undefined, optional: isOptional, value: this.values[name],
       options: name.startsWith('rfc-') && name !== 'rfc-number' ? { ...(isOptional ? { '': 'None' } : {}), ...optionsFor(name, policy) } : undefined,
     });
     const must = needed.map(name => of(name, false)), may = optional.map(name => of(name, true));
@@ -247,7 +249,8 @@ export async function agents(app) {
   const open = (app, account) => app.open(`Requests of ${account}`, async app => {
     const back = app => button(`Requests of ${account}`, () => open(app, account), { class: 'plain' });
     const act = row => detailsButton(app, row, `Request ${row.reference} of ${account}`, back);
-    return requestTable(await ask('GET', `/principals/${account}/requests`), act, `Requests of ${account}`, 'There are no requests.');
+    const [rows, times] = [await ask('GET', `/principals/${account}/requests`), await ask('GET', `/principals/${account}/times`)];
+    return requestTable(newestFirst(rows, times), act, `Requests of ${account}`, 'There are no requests.');
   });
   const add = form({ title: 'Add an agent', verb: 'Add', controls: [control('agent')], key: 'agent', send: ({ agent }, sent) => set(agent, true, sent) });
   const list = (caption, rows, empty, act) => table({ caption, columns: { Account: name => name }, rows, empty, act });

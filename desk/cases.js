@@ -58,21 +58,30 @@ export function adviceLacking({ ask, experts, advice }, page) {
   return `${who || 'No expert is assigned. '}You can approve once an expert recommends it.`;
 }
 
-/** The other waiting requests that ask for just the value that this one would get. */
+// The new value that a request names, if it names one.
+const named = ({ ask }) => (isNew(ask) && !ask.least ? `${ask.registry} ${ask.value}` : undefined);
+
+/** The waiting requests, in order of arrival, that want just the value that this one would get, with this one; none if nobody else wants it. */
 export function rivalsOf(row, page, rows) {
   const value = isNew(row.ask) ? valueDue(row.ask, page) : undefined;
-  const wants = ({ ask }) => isNew(ask) && ask.registry === row.ask.registry && ask.value === value;
-  return value === undefined ? [] : rows.filter(one => one.state === 'pending' && !isSame(one, row) && wants(one));
+  const all = rows.filter(one => isSame(one, row) || (named(one) === `${row.ask.registry} ${value}` && one.state === 'pending'));
+  return value !== undefined && all.length > 1 ? all : [];
 }
 
-/** How many others want a value, as a sentence; an empty text for none. */
-export const wanted = count => (count ? `${count === 1 ? '1 other request wants' : `${count} other requests want`} this value.` : '');
+/** How many others of these want a value, and which came earlier if that is known, as sentences; an empty text for none. */
+export function wanted(row, all) {
+  const [first, second] = all, listed = all.find(one => isSame(one, row)), count = all.length - 1;
+  if (count < 1) return '';
+  const early = listed === first ? 'This one came first.' : `${first.reference} of ${first.account} came earlier.`;
+  const told = `${count === 1 ? '1 other request wants' : `${count} other requests want`} this value.`;
+  return (listed === first ? second : listed)?.submitted === undefined ? told : `${told} ${early}`;
+}
 
-/** How many others of these waiting requests name the value that a request names, as a sentence, by the request. */
+/** What is wanted of the value that a request names, by the request; `rows` are all that wait, in order of arrival. */
 export function rivalry(rows) {
-  const counts = new Map(), key = ({ ask }) => (isNew(ask) && !ask.least ? `${ask.registry} ${ask.value}` : undefined);
-  for (const row of rows) counts.set(key(row), (counts.get(key(row)) ?? 0) + 1);
-  return row => (key(row) ? wanted(counts.get(key(row)) - 1) : '');
+  const wanting = new Map();
+  for (const row of rows) wanting.set(named(row), wanting.get(named(row)) ?? []).get(named(row)).push(row);
+  return row => (named(row) ? wanted(row, wanting.get(named(row))) : '');
 }
 
 /** The waiting request after this one in a list, or else the first before it. */

@@ -1,10 +1,9 @@
 // What clerks do: decide requests, define registries, add prefixes, hold allocations, and hand out tokens.
 import { Refusal, ask, ownDigest } from './office.js';
 import { Told, attempt, button, control, copyable, details, drafts, element, focusOn, form, say, sure } from './dom.js';
-import { table } from './list.js';
-import {
-  CAPABILITIES, COUNTS, POLICIES, STATES, csvOf, dayOf, endOf, faultOf, grantOf, hexOf, inWords, opinionsOf, outcome, rangesOf, rowsOf, stateOf,
-} from './forms.js';
+import { placeIn, table } from './list.js';
+import { CAPABILITIES, COUNTS, POLICIES, STATES, csvOf, faultOf, grantOf, hexOf, inWords, opinionsOf, outcome, rangesOf, rowsOf, stateOf } from './forms.js';
+import { ACT, dayAfter, endOf, waitOf } from './times.js';
 import {
   ENTRY, adviceLacking, byExpiry, effectOf, endingBy, expertsAmong, isSame, lossOf, nextWaiting, noteLine, policyFor, rivalry, rivalsOf, wanted,
 } from './cases.js';
@@ -12,8 +11,8 @@ import { faultInWords } from './errors.js';
 
 /** The requests that wait, each with its experts and what they recommend. */
 export async function waiting(app) {
-  const rows = await ask('GET', '/desk/pending');
-  return requestTable(app, rows, { caption: 'Waiting requests', empty: 'No requests are waiting.', last: { Experts: opinionsOf }, more: rivalry(rows) });
+  const rows = await ask('GET', '/desk/pending'), last = { Asked: row => waitOf(row, Date.now() / 1000), Experts: opinionsOf };
+  return requestTable(app, rows, { caption: 'Waiting requests', empty: 'No requests are waiting.', last, more: rivalry(rows) });
 }
 
 /** All requests. */
@@ -33,13 +32,15 @@ async function openCase(app, asked, seen, { message, before } = {}) {
   const { account, reference } = asked, listed = seen.find(one => isSame(one, asked)) ?? asked;
   await app.open(`Request ${reference} of ${account}`, async app => {
     const row = await ask('GET', `/desk/requests/${account}/${reference}`), isOpen = row.state === 'pending';
+    const rows = await ask('GET', `/desk/journal/requests/${account}/${reference}`);
     listed.state = row.state;
     const result = outcome(row) ? [['Result', outcome(row)]] : [];
     const told = [['Applicant', account], ['Reference', reference], ['State', stateOf(row)], ...result, ...rowsOf(row.ask)];
     const next = nextWaiting(seen, row), go = (one, more) => openCase(app, one, seen, more);
     const onward = next ? button('Next waiting request', () => go(next), { class: isOpen ? 'plain' : undefined }) : null;
     const ways = isOpen ? decision({ row, ...await groundOf(row), listed, next, onward, go }) : null;
-    return element('div', {}, before, !isOpen && next ? element('p', { class: 'actions' }, onward) : null, details(told), experts(row), ways);
+    const timeline = table({ caption: 'Time line', columns: ACT, rows, empty: 'Nothing is noted about it. It is older than the journal of acts.' });
+    return element('div', {}, before, !isOpen && next ? element('p', { class: 'actions' }, onward) : null, details(told), experts(row), ways, timeline);
   }, message);
 }
 
@@ -69,7 +70,7 @@ function decision({ row, page, rivals, listed, next, onward, go }) {
   const loss = lossOf(row, page), bar = loss ?? adviceLacking(row, page), needsExpert = !loss && bar && !row.experts.length;
   const policy = POLICIES[policyFor(row.ask, page)], told = bar ?? effectOf(row, page);
   const says = policy ? `${policy.title} (RFC 8126, section ${policy.section}). ${told}` : told;
-  const note = element('div', { class: 'note', id: 'prospect' }, element('p', {}, says), others(rivals, go));
+  const note = element('div', { class: 'note', id: 'prospect' }, element('p', {}, says), others(row, rivals, go));
   const done = async (decided, answer) => {
     listed.state = decided.state;
     for (const form of ['assign', 'decline']) drafts.delete(`${form} ${path}`);
@@ -88,10 +89,11 @@ function decision({ row, page, rivals, listed, next, onward, go }) {
   return [note, place, actions, element('div', { class: 'columns' }, assignment(listed, path, go, needsExpert), refusal(listed, path, next, done))];
 }
 
-function others(rivals, go) {
+function others(row, rivals, go) {
   if (!rivals.length) return null;
-  return [element('p', {}, `${wanted(rivals.length)} The first to be approved gets it.`), element('p', { class: 'actions' },
-    rivals.slice(0, 10).map(one => button(`Open ${one.reference} of ${one.account}`, () => go(one), { class: 'plain' })))];
+  const open = one => button(`Open ${one.reference} of ${one.account}`, () => go(one), { class: 'plain' });
+  return [element('p', {}, `${wanted(row, rivals)} The first to be approved gets it.`),
+    element('p', { class: 'actions' }, rivals.filter(one => !isSame(one, row)).slice(0, 10).map(open))];
 }
 
 function noteCard(row) {
@@ -160,7 +162,7 @@ function openRegistry(app, name, message) {
 
 /** The early allocations of all registries, the next to expire first. */
 export async function due(app) {
-  const pages = [], place = element('div'), soon = dayOf(Date.now() / 1000 + 30 * 86400);
+  const pages = [], place = element('div'), soon = dayAfter(30);
   for (const name of await ask('GET', '/registries')) pages.push(await ask('GET', `/registries/${name}`));
   const rows = byExpiry(pages), { length } = endingBy(rows, soon);
   const told = length ? `${length === 1 ? '1 allocation expires' : `${length} allocations expire`} by ${soon}.` : `Nothing expires by ${soon}.`;
@@ -181,8 +183,7 @@ function earlyTable(caption, rows, place, again, quiet) {
 
 // A new registry from a CSV file, after a look at its ranges.
 function definition(app) {
-  const preview = element('div', { role: 'status' });
-  const name = control('name'), most = control('max');
+  const preview = element('div', { role: 'status' }), name = control('name'), most = control('max');
   let file = null;
   const choose = async event => {
     const chosen = event.target.files[0], bytes = chosen && await chosen.arrayBuffer();
@@ -243,7 +244,7 @@ function grant(app, shown, fill) {
   let made = null;
   const node = form({
     title: 'Give somebody a token', verb: 'Make a token', key: 'grant',
-    controls: [control('account'), control('kind'), control('until', { type: 'date', value: dayOf(Date.now() / 1000 + 365 * 86400) })],
+    controls: [control('account'), control('kind'), control('until', { type: 'date', value: dayAfter(365) })],
     send: async (values, sent) => {
       made ??= hexOf(crypto.getRandomValues(new Uint8Array(16)));
       // Only where no answer came may the same token be there already.
@@ -280,8 +281,7 @@ function revocation(app) {
   });
 }
 
-const OWN = 'You are signed in with this token, so you cannot revoke it here.';
-const notOwn = error => { throw error.error === 'own' ? new Told(OWN) : error; };
+const notOwn = error => { throw error.error === 'own' ? new Told('You are signed in with this token, so you cannot revoke it here.') : error; };
 
 // All tokens, each with a button that revokes it, and the first of several of an account with one that revokes them all.
 function tokenTable(app, rows, own) {
@@ -308,6 +308,29 @@ function tokenTable(app, rows, own) {
   const about = "Tokens are not stored. The first 12 digits of a token's SHA-256 tell them apart.";
   const list = table({ caption: 'All tokens', columns, rows, act, empty: 'There are no tokens.' });
   return element('div', {}, list, element('p', {}, about), place);
+}
+
+/** What was done on a day, at first today, or by an account. */
+export async function acts(app) {
+  const today = dayAfter(0), at = placeIn('acts', { day: today }), place = element('div'), list = element('div');
+  const fill = async ({ day = at.day, account }) => {
+    Object.assign(at, { day, account });
+    const rows = await ask('GET', `/desk/journal/${account ? `actors/${account}` : `days/${day}`}`);
+    if (day !== at.day || account !== at.account) return;
+    after.setAttribute('aria-disabled', day >= today);
+    const columns = { ...ACT, Token: ({ token }) => token ?? '' }, empty = account ? `${account} has done nothing.` : 'Nothing was done on this day.';
+    list.replaceChildren(table({ caption: `Acts ${account ? `of ${account}` : `on ${day}`}`, columns, rows, act, empty }));
+  };
+  const act = row => (row.reference ? button('Open', () => openCase(app, row, []), { 'aria-label': `Open ${row.reference} of ${row.account}` }) : []);
+  const turn = day => (faultOf('day', day) ? undefined : attempt(place, () => fill({ day })));
+  const chooser = control('day', { type: 'date', value: at.day, onchange: ({ target }) => turn(target.value) });
+  const step = count => { chooser.input.value = dayAfter(count, at.day); turn(chooser.input.value); };
+  const before = button('Previous day', () => step(-1), { class: 'plain' });
+  const after = button('Next day', () => at.day < today && step(1), { class: 'plain' });
+  await fill(at);
+  const days = element('div', {}, element('h3', {}, 'By day'), chooser.node, element('p', { class: 'actions' }, before, after));
+  const accounts = form({ title: 'By account', verb: 'Show', look: 'plain', controls: [control('account')], send: ({ account }) => fill({ account }) });
+  return element('div', {}, element('div', { class: 'columns' }, days, accounts), place, list);
 }
 
 /** How much the office has at this moment, and how many requests wait. */

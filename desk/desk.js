@@ -3,8 +3,10 @@ import * as applicant from './applicant.js';
 import * as clerk from './clerk.js';
 import * as expert from './expert.js';
 import { LOADING, button, control, drafts, element, focusOn, form, say, trouble } from './dom.js';
+import { readErrors } from './errors.js';
 import { forgetPlaces } from './list.js';
 import { Gone, ask, carry, listen } from './office.js';
+import { endOf } from './times.js';
 
 const SECTIONS = {
   applicant: {
@@ -13,13 +15,13 @@ const SECTIONS = {
   },
   expert: { queue: ['Requests to review', expert.queue] },
   clerk: {
-    waiting: ['Waiting', clerk.waiting], requests: ['All requests', clerk.everything], due: ['Due to expire', clerk.due],
+    waiting: ['Waiting', clerk.waiting], requests: ['All requests', clerk.everything], due: ['Due to expire', clerk.due], acts: ['Acts', clerk.acts],
     registries: ['Registries', clerk.registries], pool: ['Prefixes', clerk.pool], tokens: ['Tokens', clerk.tokens], counts: ['Counts', clerk.counts],
   },
 };
 const HOUR = 3600000, LOOK = 10000;
 const main = document.getElementById('main'), sections = document.getElementById('sections'), who = document.getElementById('who');
-let kind = null, own = {}, used = 0, shown = 0, place = '', scrolled = 0, isHere = true, last = { names: [] };
+let kind = null, own = {}, used = 0, shown = 0, place = '', scrolled = 0, isHere = true, last = {};
 
 // Shows a view. Of two that are on their way the later one stays.
 async function view(title, make, { message = '', back, scroll } = {}) {
@@ -93,29 +95,14 @@ function draw(message, scroll) {
 // A link to the section that is open changes no address, so it would do nothing.
 const again = name => { if (location.hash === `#${name}`) { forgetPlaces(); draw(); } };
 
-// Which of three kinds of work a token is for, and the requests that tell its account from another.
-async function callerOf() {
-  for (const [kind, path] of [['applicant', '/requests'], ['expert', '/queue']]) {
-    const rows = await ask('GET', path).catch(error => { if (error.error !== 'kind') throw error; });
-    if (rows) return { kind, names: rows.map(({ account, reference, ask }) => JSON.stringify([account, reference, ask])) };
-  }
-  return { kind: 'clerk', names: [] };
-}
-
-// Requests stay, so another account than before would lack some of those that were there. If there were none, it has none.
-function isAnother({ kind, names }) {
-  const known = new Set(names);
-  return kind !== last.kind || (last.names.length ? !last.names.every(name => known.has(name)) : names.length > 0);
-}
-
 function signIn(message = '') {
   const token = control('token', { type: 'password', autocomplete: 'current-password', label: 'Your token', hint: 'The authority gave it to you. It works like a password.' });
   const node = form({
     verb: 'Sign in', controls: [token], autocomplete: 'on',
     send: async values => {
       carry(values.token);
-      const caller = await callerOf().catch(error => { carry(null); throw error; });
-      if (isAnother(caller)) drafts.clear();
+      const caller = await ask('GET', '/token').catch(error => { carry(null); throw error; });
+      if (caller.account !== last.account || caller.kind !== last.kind) drafts.clear();
       last = caller;
       ({ kind } = caller);
       own = SECTIONS[kind];
@@ -135,7 +122,8 @@ function signIn(message = '') {
 
 function enter() {
   used = Date.now();
-  who.replaceChildren(element('span', {}, `Signed in as ${kind === 'clerk' ? 'a' : 'an'} ${kind}`), button('Sign out', () => signOut('You are signed out.'), { class: 'plain' }));
+  const told = `Signed in as ${last.account} (${kind}). Your token is valid through ${endOf(last, 0)}.`;
+  who.replaceChildren(element('span', {}, told), button('Sign out', () => signOut('You are signed out.'), { class: 'plain' }));
   sections.hidden = false;
   history.replaceState(null, '');
   place = here();
@@ -155,7 +143,7 @@ function signOut(message, isAgain = false) {
   forgetPlaces();
   if (!isAgain) {
     drafts.clear();
-    last = { names: [] };
+    last = {};
     if (isHere) history.replaceState(null, '', location.pathname);
   }
   // The engine keeps the last text that a pattern was tried on.
@@ -174,6 +162,7 @@ function end() {
 }
 
 listen({ tell: say, end });
+fetch('errors.html').then(page => page.text()).then(readErrors, () => {});
 addEventListener('pagehide', () => {
   isHere = false;
   if (kind || drafts.size) signOut('You were signed out, because you left this page.');

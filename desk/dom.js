@@ -9,7 +9,6 @@ export class Told extends Error {}
 export const LOADING = 'Loading.';
 /** What was typed and not sent yet, by the key of its form. It goes with the token. */
 export const drafts = new Map();
-
 let count = 0;
 
 /** An element with its attributes, listeners (`onclick`) and children. */
@@ -69,7 +68,7 @@ export function control(name, { options, value, onchange, type, optional = false
   const common = { id, name, 'aria-describedby': words, onchange };
   const typed = {
     ...common, type: type ?? 'text', autocomplete: more.autocomplete ?? 'off', autocapitalize: 'none', spellcheck: 'false',
-    value: ['checkbox', 'file'].includes(type) ? undefined : value, checked: type === 'checkbox' && value === true,
+    value: ['checkbox', 'file'].includes(type) ? undefined : value, checked: more.checked ?? value === true,
     inputmode: ['number', 'rfc'].includes(field.form) ? 'numeric' : undefined,
   };
   const input = options ?? field.options ? select(common, options ?? field.options, value)
@@ -78,7 +77,7 @@ export function control(name, { options, value, onchange, type, optional = false
   const fault = element('p', { id: `${id}-fault`, class: 'fault', hidden: true });
   const title = element('label', { for: id }, label, optional ? element('span', { class: 'optional' }, ' (optional)') : null);
   const about = hint ? element('p', { id: `${id}-hint`, class: 'hint' }, hint) : null;
-  const node = type === 'checkbox' ? element('div', { class: 'field check' }, input, title, about, fault)
+  const node = type === 'checkbox' || type === 'radio' ? element('div', { class: 'field check' }, input, title, about, fault)
     : element('div', { class: 'field' }, title, about, input, fault);
   return {
     name, node, input, label,
@@ -103,22 +102,13 @@ export function select(attributes, options, value) {
 
 /** One of several, as buttons of a group; `options` are pairs of a title and what it says. */
 export function choice(legend, name, options, value, onchange) {
-  const group = element('fieldset', { class: 'choice' }, element('legend', {}, legend));
-  for (const [key, { title, says }] of Object.entries(options)) {
-    const id = `field-${count += 1}`;
-    const is = { checked: key === value, 'aria-describedby': says && `${id}-hint` };
-    const input = element('input', { type: 'radio', id, name, value: key, onchange: () => onchange(key), ...is });
-    const hint = says ? element('p', { id: `${id}-hint`, class: 'hint' }, says) : null;
-    group.append(element('div', { class: 'field check' }, input, element('label', { for: id }, title), hint));
-  }
-  return group;
+  const of = ([key, { title, says }]) => control(name, { type: 'radio', label: title, hint: says, value: key, checked: key === value, onchange: () => onchange(key) });
+  return element('fieldset', { class: 'choice' }, element('legend', {}, legend), Object.entries(options).map(one => of(one).node));
 }
 
-/**
- * A form. `controls` gives its controls, `check` the faults of its values by field, and `send` does what it is for; what `send` throws is
+/** A form. `controls` gives its controls, `check` the faults of its values by field, and `send` does what it is for; what `send` throws is
  * shown beside the field to which it belongs, or above the form. `calm` hides what is shown above, and `allow` its button if nothing can
- * be sent. `look` is the class of its button. What was typed is kept under `key` until `send` calls its second argument.
- */
+ * be sent. `look` is the class of its button. What was typed is kept under `key` until `send` calls its second argument. */
 export function form({ title, controls, parts, verb, check, send, autocomplete = 'off', look, key }) {
   const problem = element('div', { class: 'problem', role: 'alert', tabindex: '-1', hidden: true });
   const submit = element('button', { type: 'submit', class: look }, verb);

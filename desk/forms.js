@@ -14,9 +14,8 @@ export const POLICIES = {
   'iesg-approval': { title: 'IESG Approval', section: '4.10', items: ['contact', 'minute'], says: 'The IESG must have approved the assignment.' },
 };
 
-/** The policies under which a value can be allocated early (RFC 7120, section 2). */
-const EARLY = ['specification-required', 'rfc-required', 'ietf-review', 'standards-action'];
-const EARLY_ITEMS = ['draft', 'stable', 'interest', 'chair', 'director'];
+// The policies under which a value can be allocated early, and the evidence that this needs (RFC 7120, section 2).
+const EARLY = ['specification-required', 'rfc-required', 'ietf-review', 'standards-action'], EARLY_ITEMS = ['draft', 'stable', 'interest', 'chair', 'director'];
 const STREAMS = { ietf: 'IETF', irtf: 'IRTF', iab: 'IAB', independent: 'Independent Submission', editorial: 'Editorial' };
 const TRACKS = { standards: 'Standards Track', bcp: 'Best Current Practice', informational: 'Informational', experimental: 'Experimental', historic: 'Historic' };
 
@@ -74,6 +73,7 @@ export const FIELDS = {
   reason: { label: 'Reason', rows: 3, hint: `The applicant reads this. ${PLAIN}` },
   token: { label: 'Token', form: 'token' }, kind: { label: 'Kind', options: CAPABILITIES },
   until: { label: 'Valid through', form: 'day', hint: 'The last day, in UTC, on which the token works.' },
+  day: { label: 'Day (UTC)', form: 'day' },
 };
 
 // What each form of field looks like, and the sentence for what does not.
@@ -236,21 +236,13 @@ export function waitingTwin(ask, requests) {
   return requests.find(request => request.state === 'pending' && JSON.stringify(request.ask) === text)?.reference;
 }
 
-/** Requests with those that wait first. */
-export const waitingFirst = rows => [...rows].sort((one, other) => (other.state === 'pending') - (one.state === 'pending'));
-
 /** The grant that a form's values spell; `until` is the midnight (UTC) that ends the day. */
 export function grantOf({ account, kind, until }, token) {
   return { account, kind, token, until: Math.min(Date.parse(`${until}T00:00:00Z`) / 1000 + 86400, 32503680000) };
 }
 
-/** Random bytes as a token, or as the end of a reference. */
+/** Bytes as hexadecimal digits. */
 export const hexOf = bytes => [...bytes].map(byte => byte.toString(16).padStart(2, '0')).join('');
-/** The day of a number of seconds, in UTC. */
-export const dayOf = seconds => new Date(seconds * 1000).toISOString().slice(0, 10);
-/** The last day of a capability, or when it expired if it has. */
-export const endOf = ({ until }, now) => (until > now ? dayOf(until - 1) : `Expired on ${dayOf(until)}`);
-
 /** What each expert of a request recommends. */
 export const opinionsOf = ({ experts, advice }) => experts
   .map(expert => `${expert}: ${advice.find(one => one.expert === expert)?.verdict ?? 'no advice yet'}`).join('; ');

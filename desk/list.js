@@ -1,21 +1,21 @@
 // Lists: how many rows there are, a search in what is seen, an order, 100 rows at a time. Where somebody was in a list is kept.
 import { button, element, select } from './dom.js';
+import { compare } from './times.js';
 
-const SHOWN = 100, MANY = 10, { compare } = new Intl.Collator('en', { numeric: true }), places = new Map();
+const SHOWN = 100, MANY = 10, places = new Map();
 // The columns that tell a row from others, whatever becomes of it.
-const NAMING = ['Account', 'Reference', 'Registry', 'Value', 'Name', 'Digest', 'Block', 'Prefix', 'First'];
+const NAMING = ['Account', 'Reference', 'Registry', 'Value', 'Name', 'Digest', 'Block', 'Prefix', 'First', 'When (UTC)', 'What'];
 /** Forgets where somebody was in each list. */
 export const forgetPlaces = () => places.clear();
+/** Where somebody was in a list, or where everybody begins. */
+export const placeIn = (caption, first) => places.get(caption) ?? places.set(caption, first).get(caption);
 
-/**
- * A list of rows. `columns` gives the text of a row by title, once it is needed, with marks for State. `act` gives its controls, under the title
- * `acts`; it is also given a function that tells the rows as they are listed. Where `states` has words, one can choose among them. A `quiet` caption is only heard.
- */
+/** A list of rows. `columns` gives the text of a row by title, once it is needed, with marks for State. `act` gives its controls, under the title
+ * `acts`; it is also given a function that tells the rows as they are listed. Where `states` has words, one can choose among them. A `quiet` caption is only heard. */
 export function table({ caption, columns: texts, rows, act, acts = 'Actions', empty, states, quiet = false }) {
   const columns = Object.keys(texts), textsOf = row => columns.map(name => texts[name](row));
   const lines = rows.map(row => ({ row, get texts() { return (this.own ??= textsOf(row)); } })), seen = () => found(lines, at).map(({ row }) => row);
-  const at = places.get(caption) ?? { text: '', state: '', order: '', page: 0, key: '', row: -1 };
-  places.set(caption, at);
+  const at = placeIn(caption, { text: '', state: '', order: '', page: 0, key: '', row: -1 });
   const body = element('tbody', { role: 'rowgroup' }), info = element('p', { class: 'hint', role: 'status' });
   const titles = (act ? [...columns, acts] : columns).map(name => element('th', { scope: 'col', role: 'columnheader' }, name));
   const head = element('thead', { role: 'rowgroup' }, element('tr', { role: 'row' }, titles));

@@ -28,6 +28,7 @@ const LOST = 'The office does not answer. It may or may not have your request. Y
 const BUSY = 'Too many requests came from your network. Nothing was done. Try again in a minute.';
 const PAUSES = [500, 1500, 4000, 8000], SLOW = 4000, PATIENCE = 40000;
 const rest = time => new Promise(done => { setTimeout(done, time); });
+const read = text => { try { return JSON.parse(text); } catch { return undefined; } };
 
 // One try: the answer, or null where none came.
 async function sent(method, path, body, speak) {
@@ -45,12 +46,8 @@ async function sent(method, path, body, speak) {
   }
 }
 
-const read = text => { try { return JSON.parse(text); } catch { return undefined; } };
-
-/**
- * What the office answers; a listing as its text. A request that gets no answer, or one of a proxy alone, is sent again as it was: a repeat has no second effect.
- * Throws `Refusal` where the office refuses, `Lost` where there is no answer after five tries, and `Gone` where the caller is gone.
- */
+/** What the office answers; a listing as its text. A request that gets no answer, or one of a proxy alone, is sent again as it was: a repeat has no second effect.
+ * Throws `Refusal` where the office refuses, `Lost` where there is no answer after five tries, and `Gone` where the caller is gone. */
 export async function ask(method, path, body) {
   const text = body === undefined || body instanceof ArrayBuffer ? body : JSON.stringify(body);
   const own = caller;

@@ -12,7 +12,9 @@ after(() => rmSync(folder, { recursive: true }));
 cpSync(new URL('../desk', import.meta.url), folder, { recursive: true });
 writeFileSync(`${folder}/package.json`, '{"type":"module"}');
 const load = name => import(`file://${folder}/${name}`);
-const forms = await load('forms.js'), errors = await load('errors.js'), cases = await load('cases.js');
+const forms = await load('forms.js'), errors = await load('errors.js'), cases = await load('cases.js'), times = await load('times.js');
+const page = read('desk/errors.html');
+errors.readErrors(page);
 
 const range = (lo, hi, treatment) => ({ lo, hi, treatment, note: '' });
 const PAGE = {
@@ -142,17 +144,56 @@ test('tokens, references and days', () => {
   assert.notEqual(forms.faultOf('token', 'short'), null);
   assert.deepEqual(forms.grantOf({ account: 'alice', kind: 'applicant', until: '2027-01-14' }, token), { account: 'alice', kind: 'applicant', token, until: 1799971200 });
   assert.equal(forms.grantOf({ until: '2999-12-31' }, token).until, 32503680000);
-  assert.equal(forms.dayOf(1799971199), '2027-01-14');
   assert.notEqual(forms.faultOf('until', ''), null);
 });
 
+test('days and moments, in UTC', () => {
+  assert.deepEqual([times.dayOf(1799971199), times.momentOf(1799971199)], ['2027-01-14', '2027-01-14 23:59']);
+  assert.deepEqual([times.dayOf(undefined), times.momentOf(undefined)], ['', '']);
+  assert.deepEqual([1, -1, 60].map(count => times.dayAfter(count, '2027-02-28')), ['2027-03-01', '2027-02-27', '2027-04-29']);
+  assert.equal(times.dayAfter(0), new Date().toISOString().slice(0, 10));
+  const wait = (submitted, now) => times.waitOf({ submitted }, now);
+  assert.equal(wait(1700006399, 1700006400), '2023-11-14, waits 1 day');
+  assert.equal(wait(1700006399, 1700006399), '2023-11-14, today');
+  assert.equal(wait(1700006399, 1700006400 + 11 * 86400), '2023-11-14, waits 12 days');
+  assert.equal(wait(1700006400, 1700006399), '2023-11-15, today');
+  assert.equal(wait(undefined, 1700006399), '');
+});
+
+test('requests with their times, the newest first, and the reference of the next', () => {
+  const rows = ['a', '2026-11-30-10', '2026-11-30-9', 'b'].map(reference => ({ reference, ask: {} }));
+  const known = [{ reference: '2026-11-30-9', submitted: 7 }, { reference: '2026-11-30-10', submitted: 7, decided: 9 }, { reference: 'b', submitted: 8 }];
+  const sorted = times.newestFirst(rows, known);
+  assert.deepEqual(sorted.map(({ reference }) => reference), ['b', '2026-11-30-10', '2026-11-30-9', 'a']);
+  assert.deepEqual(sorted.map(({ submitted, decided }) => [submitted, decided]), [[8, undefined], [7, 9], [7, undefined], [undefined, undefined]]);
+  const next = (...taken) => times.newReference('2026-11-30', taken.map(reference => ({ reference })));
+  assert.deepEqual([next(), next('2026-11-30-1', '2026-11-30-3', '2026-11-29-2'), next('2026-11-30-2')], ['2026-11-30-1', '2026-11-30-2', '2026-11-30-1']);
+  assert.equal(forms.faultOf('reference', next()), null);
+});
+
+test('acts of the transcripts are told in words, each kind', () => {
+  const lists = [...read('crates/reg_cli/transcripts/journal.txt').matchAll(/GET \/desk\/journal\/\S+\n< 200 (\[\{.*\])$/gm)].map(([, body]) => JSON.parse(body));
+  const acts = lists.flat(), told = new Map(acts.map(act => [act.kind, times.actInWords(act)]));
+  for (const act of acts) assert.doesNotMatch(Object.values(times.ACT).map(text => text(act)).join(' '), /undefined/, act.kind);
+  assert.deepEqual(Object.fromEntries(told), {
+    grant: 'Gave dave the token 76e2f0335d43', revoke: 'Revoked the token a011b0e796b3 of bob', define: 'Defined the registry flags', pool: 'Added the prefix 001A2B',
+    submit: 'Made the request a-3 of alice', withdraw: 'Withdrew b-1 of bob', decline: 'Declined a-2 of alice', assign: 'Assigned a-3 of alice to xan',
+    advise: 'Advised for a-3 of alice', approve: 'Approved e-9 of alice: value 9 of flags', private: 'Made the holder of block 8C1F640 private',
+    public: 'Made the holder of block 8C1F640 public', hold: 'Held value 9 of flags', release: 'Released value 9 of flags', appoint: 'Added the agent bob',
+    dismiss: 'Removed the agent bob',
+  });
+  assert.equal(times.actInWords(acts.find(({ block, kind }) => block && kind === 'approve')), 'Approved a-3 of alice: block 8C1F640');
+  assert.equal(times.actInWords({ kind: 'brandnew' }), 'brandnew');
+  assert.equal(times.ACT.Who({}), 'The operator');
+});
+
 test('what clerks list of tokens and waiting requests, and what they count', () => {
-  assert.equal(forms.endOf({ until: 1800000000 }, 1799999999), '2027-01-15');
-  assert.equal(forms.endOf({ until: 1800000000 }, 1800000000), 'Expired on 2027-01-15');
-  assert.equal(forms.endOf({ until: 1799971200 }, 0), '2027-01-14');
+  assert.equal(times.endOf({ until: 1800000000 }, 1799999999), '2027-01-15');
+  assert.equal(times.endOf({ until: 1800000000 }, 1800000000), 'Expired on 2027-01-15');
+  assert.equal(times.endOf({ until: 1799971200 }, 0), '2027-01-14');
   const answers = name => [...read(`crates/reg_cli/transcripts/${name}.txt`).matchAll(/^< 200 (\[\{.*\]|\{"agents".*\})$/gm)].map(([, body]) => JSON.parse(body));
   const [waiting] = answers('waiting').filter(rows => rows.some(({ advice }) => advice?.length === 2));
-  assert.deepEqual(waiting.map(forms.opinionsOf), ['', '', 'xan: for; yve: for', 'xan: no advice yet', '', '']);
+  assert.deepEqual(waiting.map(forms.opinionsOf), ['', 'xan: for; yve: for', '', '', '', 'xan: no advice yet']);
   const counts = answers('counts').filter(told => !Array.isArray(told));
   assert.ok(counts.length > 10);
   for (const told of counts) assert.deepEqual(Object.keys(forms.COUNTS).sort(), Object.keys(told));
@@ -250,20 +291,24 @@ test('others who want just this value, and the next that waits', () => {
   const rows = [waits('acme', code({ value: 2 })), waits('bob', code({ least: 'first-come-first-served' })), waits('cid', code({ value: 2 }), { state: 'declined' }),
     waits('dan', { ...SOME.draft, kind: 'early', value: 2 }), waits('eve', code({ value: 2, registry: 'other' })), waits('fay', { kind: 'block', size: 'MA-S' })];
   const rivals = row => cases.rivalsOf(row, HELD, rows).map(({ account }) => account);
-  assert.deepEqual(rivals(rows[0]), ['dan']);
-  assert.deepEqual(rivals(rows[1]), ['acme', 'dan']);
-  assert.deepEqual(rivals(rows[5]), []);
+  assert.deepEqual([0, 1, 3, 4, 5].map(place => rivals(rows[place])), [['acme', 'dan'], ['acme', 'bob', 'dan'], ['acme', 'dan'], [], []]);
   const next = row => cases.nextWaiting(rows, row)?.account;
   assert.deepEqual([next(rows[0]), next(rows[1]), next(rows[5]), next({ account: 'old', reference: 'o' })], ['bob', 'dan', 'acme', 'acme']);
   assert.equal(cases.nextWaiting(rows.slice(0, 1), rows[0]), undefined);
 });
 
-test('a list says how many others want the value that a request names', () => {
+test('a list says how many others want the value that a request names, and which came earlier', () => {
   const rows = [waits('acme', code({ value: 2 })), waits('bob', code({ least: 'first-come-first-served' })), waits('dan', { ...SOME.draft, kind: 'early', value: 2 }),
     waits('eve', code({ value: 2, registry: 'other' })), waits('fay', { kind: 'block', size: 'MA-S' }), waits('gil', code({ value: 2 })), waits('hal', { ...SOME.draft, kind: 'renew', value: 2 })];
   const two = '2 other requests want this value.';
   assert.deepEqual(rows.map(cases.rivalry(rows)), [two, '', two, '', '', two, '']);
-  assert.equal(cases.wanted(1), '1 other request wants this value.');
+  const said = known => { const all = rows.map((row, place) => ({ ...row, submitted: known[place] })); return all.map(cases.rivalry(all)).filter(Boolean); };
+  assert.deepEqual(said([1, 1, 1, 1, 1, 2, 2]), [`${two} This one came first.`, `${two} acme-1 of acme came earlier.`, `${two} acme-1 of acme came earlier.`]);
+  // (those that came before the office noted when come first, in an order of their own)
+  assert.deepEqual(said([undefined, 1, 1, 1, 1, 2, 2]), [`${two} This one came first.`, `${two} acme-1 of acme came earlier.`, `${two} acme-1 of acme came earlier.`]);
+  assert.deepEqual(said([undefined, undefined, undefined, 1, 1, 2, 2]), [two, two, `${two} acme-1 of acme came earlier.`]);
+  assert.equal(cases.wanted(rows[2], [rows[0], { ...rows[2], submitted: 1 }]), '1 other request wants this value. acme-1 of acme came earlier.');
+  assert.deepEqual([cases.wanted(rows[0], []), cases.wanted(rows[0], [rows[0], rows[2]])], ['', '1 other request wants this value.']);
 });
 
 test('the line for notes.csv, experts to choose from, and what expires next', () => {
@@ -333,19 +378,15 @@ test('range files are read, and their first faults found, as the office does', (
   assert.equal(forms.rangesOf('a,b\n').fault, 'header');
 });
 
-test('each error is a sentence, on the page of errors too', () => {
-  const page = read('desk/errors.html');
-  for (const [name, sentence] of Object.entries(errors.ERRORS)) {
-    assert.match(sentence, /^[A-Z].*\.$/);
-    assert.ok(page.includes(`<div id="${name}"><dt><code>${name}</code></dt><dd>${sentence.replaceAll('"', '&quot;')}</dd></div>`), name);
-    assert.ok(errors.inWords(name).length > 20);
-  }
-  const names = Object.keys(errors.ERRORS);
+test('each error is a sentence of the page of errors, in its order', () => {
+  const names = Object.keys(errors.ERRORS), lines = page.split('\n').filter(line => line.includes('<dt>'));
+  assert.deepEqual(lines, names.map(name => `<div id="${name}"><dt><code>${name}</code></dt><dd>${errors.inWords(name)}</dd></div>`));
+  for (const name of names) assert.match(errors.inWords(name), /^[A-Z].{20,}\.$/, name);
   assert.equal(names[names.indexOf('own') + 1], 'several');
-  assert.deepEqual([...page.matchAll(/<div id="(\w+)">/g)].map(([, name]) => name), names);
   assert.match(errors.inWords('field', 'digits'), /8 to 64/);
   assert.match(errors.inWords('brandnew'), /brandnew/);
   assert.match(errors.inWords('constructor'), /constructor/);
+  assert.equal(errors.inWords('field', 'day'), 'Choose a day of the years 2000 to 2999.');
 });
 
 test('each item that an error can name has a sentence', () => {

@@ -88,7 +88,7 @@ def restore_older(system):
     system.expect('systemctl start registry-publish 2>/dev/null || journalctl -u registry-publish -o cat -n 20 | grep -A 1 ^fault',
                   'fault: history, range 0-1 of newer was published, and is not in the office as it was')
     system.expect('ls -d /var/backups/registry/2*.of-$(basename $(cat older) | cut -c -20) | wc -l', '1')
-    system.expect('reg_cli check $(cat newer)/office.db', 'version 3, well kept, ..')
+    system.expect('reg_cli check $(cat newer)/office.db', 'version 4, well kept, ..')
     system.expect(f'sleep 1; {restore.format("newer")}', 'well kept, To publish again: systemctl start registry-publish.timer')
     system.expect(f'sleep 1; systemctl start registry-publish; curl -s {OFFICE}/registries | grep -c newer', '1')
 

@@ -75,7 +75,7 @@ import csv, sys
 print(*('|'.join((row[0], row[1], row[6])) for row in csv.reader(sys.stdin) if row[2] in ('Assigned', 'Temporary', 'Expired')), sep='\\n')
 " | diff - entries && wc -l <entries'''
 NEWEST = f'systemctl stop registry; reg_cli check {DATABASE} | head -n 2; systemctl start registry'
-LATER = 'sqlite3 later.db <office-1.sql; sqlite3 later.db "UPDATE office SET version = 4"; reg_cli check later.db 2>&1 | head -n 1'
+LATER = 'sqlite3 later.db <office-1.sql; sqlite3 later.db "UPDATE office SET version = 5"; reg_cli check later.db 2>&1 | head -n 1'
 
 # ---- What timers mail
 
@@ -138,7 +138,7 @@ AFTER = {('As a service', 2): [(KILLS, 'active'), (f'curl -s {OFFICE}/registries
                              (f'{WATCHED} | tail -n 1', 'The clock is wrong: the newest record of the site is of 2999-01-01T00:00:00Z.'), (ON_TIME, ''),
                              (DAMAGE, 'fault: not ours'), (f'{WATCHED} | sort -u', 'The office does not answer., fault: not ours'), (MENDED, '')],
          ('Backups', 1): [losses],
-         ('Upgrade', 0): [('systemctl start registry', ''), (SAME, '6'), (NEWEST, 'version 3, well kept'), (LATER, 'fault: version 4')],
+         ('Upgrade', 0): [('systemctl start registry', ''), (SAME, '6'), (NEWEST, 'version 4, well kept'), (LATER, 'fault: version 5')],
          ('Upgrade', 1): [(SAME, '6')]}
 
 

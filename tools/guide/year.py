@@ -30,8 +30,8 @@ OFTEN = '[Unit]\nStartLimitIntervalSec=0\n'
 SETUP = {'As a service': range(9), 'A proxy with TLS': [0, 1], 'Publishing': range(3), 'The desk in the browser': range(9), 'Monitoring': range(9)}
 # When the jobs of timers are run that are due then: the second on the first day of a month, and people send their requests before the last.
 MORNING, EVENING = ['04:30', '06:00'], '20:20'
-# The office's own file as the version before left it. It had no agents.
-OLDER = f'runuser -u registry -- sqlite3 {DATABASE} "DROP TABLE agents; UPDATE office SET version = 2"'
+# The office's own file as the version before left it. It had no journal.
+OLDER = f'runuser -u registry -- sqlite3 {DATABASE} "DROP TABLE journal; UPDATE office SET version = 3"'
 LOGS = 'journalctl -q --rotate; logrotate --force /etc/logrotate.d/nginx'
 HOOK = re.search(r'--deploy-hook "([^"]*)"', PAGE.read_text())[1]
 REACHED = re.search(r"`(curl [^`]*cannot be reached[^`]*)`", PAGE.read_text())[1]
@@ -297,7 +297,7 @@ class Year:
     def judge_copy(self):
         """The copy of the day is well kept and has what the office counts. Copies of a month are there."""
         copies = sorted(path.name for path in (self.root / COPIES).glob('2*'))
-        checked = self.expect(f'reg_cli check /{COPIES}/{copies[-1]}/office.db', 'version 3, well kept, ..')
+        checked = self.expect(f'reg_cli check /{COPIES}/{copies[-1]}/office.db', 'version 4, well kept, ..')
         counted = {word: int(count) for word, count in re.findall(r'^(\w+) (\d+)$', checked, re.M)}
         told = json.loads(self.expect(command('/desk/counts')))
         self.judge_same('counts', told, {word: count for word, count in counted.items() if word in told})
@@ -336,7 +336,7 @@ class Year:
         self.expect(f'for copy in /{COPIES}/2*; do reg_cli check $copy/office.db; done | grep -c "^well kept"', str(len([*(self.root / COPIES).glob('2*')])))
         checked, restored, drill = (line for line, _ in commands('Backups', 0))
         for path in ('/registries', '/listings/registries/bits', '/listings/registries/codes'):
-            self.expect(f'{checked}; {restored}', 'version 3, well kept, ..')
+            self.expect(f'{checked}; {restored}', 'version 4, well kept, ..')
             printed = self.expect(drill.replace('/registries)', f'{path})'))
             self.judge_same('the restored copy', printed, 'listening on 127.0.0.1:8090\n' + self.expect(f'curl -s {OFFICE}{path}'))
         self.judge_history()

@@ -83,6 +83,14 @@ class Served(subprocess.Popen):
         super().__exit__(*fault)
 
 
+def memory(process, name):
+    """The bytes of a process's memory that Linux counts under this name."""
+    for line in pathlib.Path(f'/proc/{process.pid}/status').read_text().splitlines():
+        if line.startswith(f'{name}:'):
+            return 1024 * int(line.split()[1])
+    sys.exit(f'Linux counts no {name}')
+
+
 @contextlib.contextmanager
 def served(program, file, *words, **options):
     """The port of an office that is served meanwhile."""

@@ -10,7 +10,7 @@ STATUS = "dpkg-query -W -f '${Version} ${Status}\\n' reg-cli"
 SERVED = f'curl -s {OFFICE}/registries'
 # Whether the service has the process that it had.
 SAME = f'[ "$({PROCESS})" = "$(cat process)" ] && systemctl is-active registry'
-INSTALL = 'dpkg -i reg-cli_3.0.0-{}_amd64.deb'
+INSTALL = 'dpkg -i reg-cli_4.0.0-{}_amd64.deb'
 # Installs a package that does not go over: prints the status, and why.
 REFUSED = f"{PROCESS} >process; {INSTALL} >said 2>&1; echo $?; grep '^    ' said | tr -s ' '"
 KEEP = f'mkdir kept; cp -p {DATABASE}* kept/'
@@ -25,10 +25,10 @@ DEMONSTRATION = '''reg_cli-demo >shown & demo=$!; for n in $(seq 200); do grep -
 curl -s -o /dev/null -w '%{http_code}\\n' "$(sed -n 's/^desk *//p' shown)"; kill -INT $demo; kill $demo; wait $demo; echo ended'''
 # Where there is no systemd, the package is the program alone.
 BARE = [('for name in sysusers tmpfiles; do mount --bind /dev/null /usr/bin/systemd-$name; done', ''), (INSTALL.format(1), '..'),
-        ('umount /usr/bin/systemd-sysusers /usr/bin/systemd-tmpfiles; reg_cli --version', 'reg_cli 3.0.0 (office version 3)'),
+        ('umount /usr/bin/systemd-sysusers /usr/bin/systemd-tmpfiles; reg_cli --version', 'reg_cli 4.0.0 (office version 4)'),
         ('id -u registry 2>/dev/null || echo nobody', 'nobody'), ('dpkg --purge reg-cli', '..')]
 INSTALLED = [
-    (INSTALL.format(1), '..'), (STATUS, '3.0.0-1 install ok installed'), (IN_USE, 'program'), ('reg_cli --version', 'reg_cli 3.0.0 (office version 3)'),
+    (INSTALL.format(1), '..'), (STATUS, '4.0.0-1 install ok installed'), (IN_USE, 'program'), ('reg_cli --version', 'reg_cli 4.0.0 (office version 4)'),
     (f'systemctl is-enabled {UNITS} || true', 'disabled, disabled, disabled, disabled'), ('systemctl is-active registry || true', 'inactive'),
     (RIGHTS, '700 registry /var/lib/registry, 700 registry /var/backups/registry, 755 registry /srv/www/registers, 755 root /usr/share/reg-cli/desk, '
              '644 root /etc/reg-cli/apply.txt'),
@@ -36,13 +36,13 @@ INSTALLED = [
     (f'systemd-analyze verify --man=no /lib/systemd/system/registry*.timer {" ".join(f"/lib/systemd/system/{unit}" for unit in UNITS.split())} 2>&1 | wc -l', '0'),
     ('systemd-analyze security --offline=true --no-pager /lib/systemd/system/registry.service | tail -n 1', '→ Overall exposure level for registry.service: 1..'),
     ('[ -e /usr/share/reg-cli/desk/index.html ] && cmp /usr/share/reg-cli/desk/apply.txt /usr/share/doc/reg-cli/docs/use/APPLYING.md && echo same', 'same')]
-UPGRADED = [(f'{PROCESS} >process; {SERVED} >before; {INSTALL.format(2)}', '..'), (STATUS, '3.0.0-2 install ok installed'), (IN_USE, 'program'),
+UPGRADED = [(f'{PROCESS} >process; {SERVED} >before; {INSTALL.format(2)}', '..'), (STATUS, '4.0.0-2 install ok installed'), (IN_USE, 'program'),
             (f'{SAME} || echo another', 'another'), ('systemctl is-active registry', 'active'), (f'{SERVED} | cmp - before && echo same', 'same'),
-            ('reg_cli check /var/backups/registry/before-3.0.0-2-*/office.db | head -n 2', 'version 3, well kept'),
+            ('reg_cli check /var/backups/registry/before-4.0.0-2-*/office.db | head -n 2', 'version 4, well kept'),
             ('cmp /usr/lib/reg-cli/former /usr/lib/reg-cli/program && echo same', 'same')]
-ILL_KEPT = [(REFUSED.format(3), '1,  fault: not ours,  a row of the table entries is malformed'), (STATUS, '3.0.0-3 install ok half-configured'),
-            (IN_USE, 'former'), (SAME, 'active'), (f'{SERVED} | cmp - before && echo same', 'same'), ('reg_cli --version', 'reg_cli 3.0.0 (office version 3)'),
-            (INSTALL.format(2), '..'), (IN_USE, 'program'), (STATUS, '3.0.0-2 install ok installed')]
+ILL_KEPT = [(REFUSED.format(3), '1,  fault: not ours,  a row of the table entries is malformed'), (STATUS, '4.0.0-3 install ok half-configured'),
+            (IN_USE, 'former'), (SAME, 'active'), (f'{SERVED} | cmp - before && echo same', 'same'), ('reg_cli --version', 'reg_cli 4.0.0 (office version 4)'),
+            (INSTALL.format(2), '..'), (IN_USE, 'program'), (STATUS, '4.0.0-2 install ok installed')]
 DAMAGED_SERVED = [(f'{KEEP}; for file in {DATABASE}*; do dd if=/dev/zero of=$file bs=4096 count=1 conv=notrunc status=none; done', ''),
                   (REFUSED.format(2), '1,  fault: not ours..'), (IN_USE, 'former'), (SAME, 'active'),
                   (f'systemctl stop registry; {MEND}; systemctl start registry; dpkg --configure reg-cli', '..'), (IN_USE, 'program'),
@@ -66,12 +66,12 @@ exec /usr/lib/reg-cli/former "$@"
 
 def refusing(package, folder):
     """The package under a later number, with a program that finds no office well kept, and does all else as the former one."""
-    inside, file = folder / 'refusing', folder / 'reg-cli_3.0.0-3_amd64.deb'
+    inside, file = folder / 'refusing', folder / 'reg-cli_4.0.0-3_amd64.deb'
     subprocess.run(['dpkg-deb', '--raw-extract', package, inside], check=True)
     (inside / 'usr/lib/reg-cli/program').write_text(NO_CHECK)
     for name in ('control', 'postinst'):
         path = inside / 'DEBIAN' / name
-        path.write_text(re.sub(r'\b3\.0\.0-2\b', '3.0.0-3', path.read_text()))
+        path.write_text(re.sub(r'\b4\.0\.0-2\b', '4.0.0-3', path.read_text()))
     subprocess.run(['dpkg-deb', '--root-owner-group', '--build', inside, file], stdout=subprocess.DEVNULL, check=True)
     return file
 

@@ -1,7 +1,7 @@
 """A day of an applicant, an expert and a clerk."""
 import re
 
-from people.compared import counted, same_tokens, same_waiting
+from people.compared import counted, newest_first, same_tokens, same_waiting
 from people.office import CLERK
 from people.person import judge
 from people.tasks import within
@@ -103,7 +103,7 @@ def requests(office, alice, token):
     told = office.ask('GET', '/requests', token)
     judge(sorted(row[0] for row in alice.rows('My requests')) == sorted(one['reference'] for one in told), 'the references are others')
     judge(sorted(one['ask']['kind'] for one in told) == ['block', 'code', 'code', 'code', 'early'], f'the office has {told}')
-    judge(all(row[2] == 'Waiting' for row in alice.rows('My requests')), 'not all are waiting')
+    judge(all(row[4] == 'Waiting' for row in alice.rows('My requests')), 'not all are waiting')
     twice(office, alice, token, told)
 
 
@@ -205,7 +205,7 @@ def decided(clerk, name):
 def results(office, alice, token, clerk):
     alice.go('Agents')
     alice.go('My requests')
-    shown = {row[0]: row[2:4] for row in alice.rows('My requests')}
+    shown = {row[0]: row[4:6] for row in alice.rows('My requests')}
     for one in office.ask('GET', '/requests', token):
         right = [{'approved': 'Approved', 'declined': 'Declined'}[one['state']], f'Reason: {one["reason"]}' if 'reason' in one else one['given']]
         judge(shown[one['reference']][0] == right[0] and right[1] in shown[one['reference']][1], f'the page says {shown[one["reference"]]} of {one}')
@@ -285,7 +285,8 @@ def agents(office, alice, tokens):
     alice.click('Read the requests of alice')
     alice.sees('Requests of alice')
     shown = [row[0] for row in alice.rows('Requests of alice')]
-    judge(shown == [one['reference'] for one in office.ask('GET', '/principals/alice/requests', tokens['bob'])], f'the agent is shown {shown}')
+    told = [office.ask('GET', f'/principals/alice/{what}', tokens['bob']) for what in ('requests', 'times')]
+    judge(shown == newest_first(*told) and all(row[2] for row in alice.rows('Requests of alice')), f'the agent is shown {shown}')
     alice.click(f'Details of {shown[-1]}')
     alice.sees(f'Request {shown[-1]} of alice')
     alice.click('Requests of alice')

@@ -55,7 +55,7 @@ def looks(office, clerk):
     judge([name for name, colour in colours if colour == GREEN] == ['Approve'], f'the colours are {colours}')
     judge([name for name, colour in colours if colour == RED] == ['Decline'], f'the colours are {colours}')
     headings = clerk.script('return [...document.querySelectorAll("main h3")].map(one => one.textContent)')
-    judge(sorted(headings) == ['Ask an expert', 'Decline', 'Experts'], f'the headings of a case are {headings}')
+    judge(sorted(headings) == ['Ask an expert', 'Decline', 'Experts', 'Time line'], f'the headings of a case are {headings}')
     judge(clerk.script(NAMES) == [], f'in a case names do not begin with what is seen: {clerk.script(NAMES)}')
     without_advice(office, clerk)
     clerk.go('Registries')
@@ -109,8 +109,8 @@ def sessions(person):
 
 
 def fits(person, name):
-    """At each width the page is no wider than the window, and tables have their roles: cards below 47rem, and a column of its own width from 56rem."""
-    for width in (320, 390, 641, 753, 768, 897):
+    """At each width the page is no wider than the window, and tables have their roles: cards up to 56rem, and a column of its own width from 64rem."""
+    for width in (320, 390, 641, 768, 896, 897, 1025):
         narrow(person, True, width)
         wide = person.script('return document.documentElement.scrollWidth')
         judge(wide <= width, f'{name} is {wide} pixels wide at {width}')
@@ -120,7 +120,7 @@ def fits(person, name):
 
 def by_name_and_role(clerk):
     """Each name begins with what is seen, and tables keep their roles on narrow screens."""
-    for section in ('Waiting', 'All requests', 'Due to expire', 'Registries', 'Prefixes', 'Tokens'):
+    for section in ('Waiting', 'All requests', 'Due to expire', 'Acts', 'Registries', 'Prefixes', 'Tokens'):
         clerk.go(section)
         judge(clerk.script(NAMES) == [], f'{section}: names do not begin with what is seen: {clerk.script(NAMES)}')
         fits(clerk, section)

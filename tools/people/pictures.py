@@ -49,7 +49,7 @@ def take_pictures(office, people, tokens, folder):
 
 
 def pictures_of_clerk(office, clerk, folder):
-    for section in ('Waiting', 'All requests', 'Due to expire', 'Registries', 'Prefixes', 'Tokens', 'Counts'):
+    for section in ('Waiting', 'All requests', 'Due to expire', 'Acts', 'Registries', 'Prefixes', 'Tokens', 'Counts'):
         clerk.go(section)
         pictures(clerk, folder, f'clerk-{section.lower().replace(" ", "-")}')
     clerk.go('Tokens')

@@ -35,13 +35,13 @@ def prepared(office):
     offices.ask(office.port, 'PUT', '/desk/registries/ports/9999', CLERK, RANGES)
     for account, kind in [('acme', 'applicant'), ('zephyr', 'applicant'), ('oceanic', 'applicant'), ('zz', 'applicant'), ('moduya', 'expert')]:
         office.grant(account, kind, token_of(account))
-    for account in ('acme', 'zephyr'):
-        asks(office, account, 'p-843', value=843)
+    asks(office, 'acme', 'p-843', value=843)
+    asks(office, 'acme', 'x-1', value=1000, specification='https://example.org/spec, 2nd edition')
+    asks(office, 'zephyr', 'p-843', value=843)
     for number in range(3):
         asks(office, 'oceanic', f'o-{number}', least='first-come-first-served')
     for number in range(10):
         asks(office, 'zz', f'z-{number}', value=700 + number)
-    asks(office, 'acme', 'x-1', value=1000, specification='https://example.org/spec, 2nd edition')
     for account in ('acme', 'zephyr'):
         asks(office, account, 'early', **EARLY, contact=None, least='standards-action')
         office.ask('PUT', f'/desk/approve/{account}/early', CLERK)
@@ -53,8 +53,9 @@ def in_lists(office, clerk):
     with within(clerk, 1, 'how many wait'):
         clerk.go('Waiting')
         clerk.sees(f'{len(waiting)} in all')
-    contested = [row[0] for row in clerk.rows('Waiting requests') if row[2].endswith('1 other request wants this value.')]
-    judge(contested == ['acme', 'zephyr'], f'contested in the list are the requests of {contested}')
+    contested = [(row[0], row[2].split('. ', 1)[1]) for row in clerk.rows('Waiting requests') if 'this value.' in row[2]]
+    said = [(account, f'1 other request wants this value. {which}') for account, which in (('acme', 'This one came first.'), ('zephyr', 'p-843 of acme came earlier.'))]
+    judge(contested == said, f'contested in the list are {contested}')
     search = clerk.named('input', 'Search: Waiting requests')
     for text, right in [('kind', 0), ('FIRST COME FIRST SERVED', sum(row['ask'].get('least') == 'first-come-first-served' for row in waiting)), ('oceanic', 3)]:
         search.clear()
@@ -92,14 +93,14 @@ def broken_texts(office, clerk):
 
 
 def clerks_tasks(office, clerk):
-    """What a clerk does, once `prepared` has run. The requests that wait are listed by account."""
+    """What a clerk does, once `prepared` has run. The requests that wait are listed as they came."""
     in_lists(office, clerk)
     broken_texts(office, clerk)
     clerk.go('Waiting')
     with within(clerk, 1, 'open a contested request'):
         clerk.click('Open p-843 of acme')
         clerk.sees('Approve gives acme value 843 of ports.')
-    clerk.sees('1 other request wants this value.')
+    clerk.sees('1 other request wants this value. This one came first. The first to be approved gets it.')
     with within(clerk, 2, 'the next decision'):
         clerk.click('Approve')
         clerk.click('Approve and open the next')
@@ -182,14 +183,15 @@ def too_early(office, clerk):
 
 def followed(office, clerk):
     """Where a row is gone, the focus comes to the one in its place."""
-    asks(office, 'zz', 'z-35', value=735)
+    for number in (35, 36):
+        asks(office, 'zz', f'z-{number}', value=700 + number)
     clerk.go('Waiting')
     clerk.click('Open z-35 of zz')
     clerk.sees('Approve gives zz')
     office.ask('DELETE', '/requests/z-35', token_of('zz'))
     clerk.click('Back to the list')
     name = clerk.until(lambda: clerk.script('return document.activeElement.getAttribute("aria-label")'), 'the focus')
-    judge(name == 'Open z-4 of zz', f'after a row is gone the focus is on {name}')
+    judge(name == 'Open z-36 of zz', f'after a row is gone the focus is on {name}')
 
 
 def noted(clerk):
@@ -227,7 +229,7 @@ def lost(office, clerk):
     asks(office, 'zz', 'late', value=3000)
     clerk.click('Open last of zephyr')
     clerk.sees('Approve gives zephyr value 3000 of ports.')
-    clerk.sees('2 other requests want this value.')
+    clerk.sees('2 other requests want this value. last of acme came earlier.')
     office.ask('PUT', '/desk/approve/acme/last', CLERK)
     clerk.click('Approve')
     clerk.click('Approve')

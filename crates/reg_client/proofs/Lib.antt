@@ -1,2 +1,6 @@
 pub mod Heads
 pub mod ReadPages
+pub mod Asked
+mod DueEntries
+pub mod Growing
+pub mod Ordered

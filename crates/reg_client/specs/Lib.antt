@@ -1,2 +1,6 @@
 pub mod Answers
 pub mod Reading
+pub mod Allocation
+pub mod Asking
+pub mod Laws
+pub mod Table

@@ -67,7 +67,7 @@ apart_places (e ∷ es) apart =
 -- ---- Places that ascend
 
 -- what is not less and does not tie is greater
-above : (r s : Ordering) → s ≡ ordering_reverse r → is_eq s ≡ false → is_lt r ≡ false → s ≡ Less
+pub above : (r s : Ordering) → s ≡ ordering_reverse r → is_eq s ≡ false → is_lt r ≡ false → s ≡ Less
 above Less s flips no_tie h = absurd (cc)
 above Equal s flips no_tie h = absurd (cc)
 above Greater s flips no_tie h = flips

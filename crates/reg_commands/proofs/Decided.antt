@@ -3,15 +3,17 @@ use Rattle.std.proofs.Common.{◌≡◌, Bool, false, Result, Ok, Err, refl, sym
 use Rattle.std.specs.Prelude.{IsErrAnd, IfOk, OnOk}
 use Rattle.std.proofs.lemmas.Result.{IfOk-at_ok, err_from_is_err_and}
 use Rattle.reg_core.specs.Answer.{Answer, Outcome, reply_of, change_of, change_by, by_rule}
+use Rattle.reg_core.specs.Journal.{recorded_if}
 use Rattle.reg_core.specs.Rules.{Follows}
 use Rattle.reg_core.specs.WellKept.{WellKept, CanApply}
-use Rattle.reg_core.specs.World.{World, applied_if}
+use Rattle.reg_core.specs.World.{World}
 use Rattle.reg_core.specs.declared.change.Change.{Change}
 use Rattle.reg_core.specs.declared.told.Told.{Told}
 use Rattle.reg_core.specs.declared.decide.Decision.{Decision}
 use Rattle.reg_core.specs.declared.decide.Decision.TheVariants.{Make, Same}
 use Rattle.reg_core.specs.declared.decide.Deny.{Deny}
 use Rattle.reg_core.specs.declared.decide.Deny.TheVariants as deny
+use Rattle.reg_core.specs.declared.journal.Stamp.{Stamp}
 use Rattle.reg_core.specs.declared.refusal.Refusal.{Refusal}
 use Rattle.reg_core.specs.declared.reply.Reply.TheVariants.{Accepted}
 use Rattle.reg_keeper.specs.Keeper.{GoesOn, Makes, Selects}
@@ -106,12 +108,12 @@ makes_fitting {rule = rule} decision decides follows =
 
 -- a command that the rule refuses is refused as it is answered
 pub performs_refused : {S : Type 0} {world : S → World} {Holds Sound : S → Type 0} {fails : Bool}
-    {old new : S} {result : Result Told Stop} {answer : World → Answer}
+    {stamp : Stamp} {old new : S} {result : Result Told Stop} {answer : World → Answer}
     (rule : Result Decision Refusal) (told : Decision → Told) (stop : Stop)
     → (Holds new → answer (world new) ≡ by_rule rule told) → (Holds new → world new ≡ world old)
     → GoesOn Holds Sound old new (MayStop false stop) → (Holds new → Refuses rule stop)
     → MayStop fails stop → IsErrAnd result (λ s. s ≡ stop)
-    → Performs world Holds Sound fails old new result answer
+    → Performs world Holds Sound fails stamp old new result answer
 performs_refused {result = result} {answer = answer} rule told stop answered same goes denied may
     stops =
     let p = err_from_is_err_and result stops in
@@ -127,41 +129,41 @@ performs_refused {result = result} {answer = answer} rule told stop answered sam
     })
 
 pub performs_denied : {S : Type 0} {world : S → World} {Holds Sound : S → Type 0} {fails : Bool}
-    {old new : S} {result : Result Told Stop} {answer : World → Answer}
+    {stamp : Stamp} {old new : S} {result : Result Told Stop} {answer : World → Answer}
     {rule : Result Decision Refusal} {told : Decision → Told} (deny : Deny)
     → Decides world Holds Sound old new answer rule told → Follows rule (Err deny)
     → IsErrAnd result (λ stop. stop ≡ stop_of deny)
-    → Performs world Holds Sound fails old new result answer
+    → Performs world Holds Sound fails stamp old new result answer
 performs_denied {fails = fails} {rule = rule} {told = told} deny decides follows stops =
     performs_refused rule told (stop_of deny) decides.answered decides.same (goes_on_anyway decides.premise)
     (λ h. denies rule deny follows) (may_stop fails deny) stops
 
 -- so is one that is decided without memory
 pub performs_declined : {S : Type 0} {world : S → World} {Holds Sound : S → Type 0} {fails : Bool}
-    {old new : S} {result : Result Told Stop} {answer : World → Answer}
+    {stamp : Stamp} {old new : S} {result : Result Told Stop} {answer : World → Answer}
     {rule : Result Decision Refusal} {told : Decision → Told} (refusal : Refusal)
     → Decides world Holds Sound old new answer rule told → rule ≡ Err refusal
     → IsErrAnd result (λ stop. stop ≡ Refused refusal)
-    → Performs world Holds Sound fails old new result answer
+    → Performs world Holds Sound fails stamp old new result answer
 performs_declined {rule = rule} {told = told} refusal decides is stops =
     performs_refused rule told (Refused refusal) decides.answered decides.same
     (goes_on_anyway decides.premise) (λ h. is) tt stops
 
 -- and one whose decision was carried out did what it is answered
 pub performs_found : {S T : Type 0} {world : S → World} {Holds Sound : S → Type 0} {fails : Bool}
-    {old mid new : S} {shown : Told} {answer : World → Answer} {x : T}
+    {stamp : Stamp} {old mid new : S} {shown : Told} {answer : World → Answer} {x : T}
     {rule : Result Decision Refusal} {told : Decision → Told} (decision : Decision)
     → Decides world Holds Sound old mid answer rule told → (Holds mid → rule ≡ Ok decision)
     → told decision ≡ shown
-    → Makes world Holds Sound fails mid new (Ok x) (λ w. applied_if w (change_by decision))
-    → Performs world Holds Sound fails old new (Ok shown) answer
-performs_found {world = world} {Holds = Holds} {old = old} {mid = mid} {answer = answer}
+    → Makes world Holds Sound fails mid new (Ok x) (λ w. recorded_if stamp w (change_by decision))
+    → Performs world Holds Sound fails stamp old new (Ok shown) answer
+performs_found {world = world} {Holds = Holds} {stamp = stamp} {old = old} {mid = mid} {answer = answer}
     {rule = rule} {told = told} decision decides is tells makes = record {
       told = λ h. ap reply_of (answer_is (makes.premise.before h)) ∙ ap Accepted tells;
       made = λ h.
           makes.made h
-          ∙ ap (λ w. applied_if w (change_by decision)) (decides.same (makes.premise.before h))
-          ∙ ap (λ a. applied_if (world old) (change_of a))
+          ∙ ap (λ w. recorded_if stamp w (change_by decision)) (decides.same (makes.premise.before h))
+          ∙ ap (λ a. recorded_if stamp (world old) (change_of a))
           (sym (answer_is (makes.premise.before h)));
       refused = λ h. tt;
       kept = λ h. tt;
@@ -177,12 +179,12 @@ performs_found {world = world} {Holds = Holds} {old = old} {mid = mid} {answer =
         sym (ap answer (decides.same h)) ∙ decides.answered h ∙ ap (λ r. by_rule r told) (is h)
 
 pub performs_decided : {S T : Type 0} {world : S → World} {Holds Sound : S → Type 0} {fails : Bool}
-    {old mid new : S} {shown : Told} {answer : World → Answer} {x : T}
+    {stamp : Stamp} {old mid new : S} {shown : Told} {answer : World → Answer} {x : T}
     {rule : Result Decision Refusal} {told : Decision → Told} (decision : Decision)
     → Decides world Holds Sound old mid answer rule told → Follows rule (Ok decision)
     → told decision ≡ shown
-    → Makes world Holds Sound fails mid new (Ok x) (λ w. applied_if w (change_by decision))
-    → Performs world Holds Sound fails old new (Ok shown) answer
+    → Makes world Holds Sound fails mid new (Ok x) (λ w. recorded_if stamp w (change_by decision))
+    → Performs world Holds Sound fails stamp old new (Ok shown) answer
 performs_decided {rule = rule} decision decides follows =
     performs_found decision decides (λ h. decided rule decision follows)
 
@@ -253,12 +255,12 @@ module _ {S T : Type 0} {world : S → World} {Holds Sound : S → Type 0} {fail
   }
 
   -- and a command that was stopped there is refused as it is answered, or met a fault
-  pub performs_stopped_at : {result : Result Told Stop} (stop : Stop)
+  pub performs_stopped_at : {stamp : Stamp} {result : Result Told Stop} (stop : Stop)
       → Rules world Holds mid answer (found (world mid)) told
       → Selects world Holds Sound fails old mid (Ok x) Gives
       → LooksUp world Holds Sound fails mid new (Err stop) found
       → IsErrAnd result (λ s. s ≡ stop)
-      → Performs world Holds Sound fails old new result answer
+      → Performs world Holds Sound fails stamp old new result answer
   performs_stopped_at stop rules selects finds stops =
       performs_refused (found (world mid)) told stop
       (λ h. ap answer (finds.same h) ∙ rules.answered (finds.premise.before h))

@@ -1,12 +1,13 @@
 -- What a caller who is admitted is answered over the content.
-use Rattle.std.specs.Prelude.{ℕ, List, Option, Some, None}
+use Rattle.std.specs.Prelude.{ℕ, List, map, Option, Some, None}
 use Rattle.std.specs.FinMap.{contains_key, get}
 use Rattle.reg_maps.specs.Maps.{only_if}
 use Rattle.reg_core.specs.Allowance.{◌>>=◌, or_refusal}
 use Rattle.reg_core.specs.Answer.{Answer, by_rule, own_answer, expert_answer, unchanged}
-use Rattle.reg_core.specs.Request.{request_row, request_rows}
+use Rattle.reg_core.specs.Request.{case_of, request_row, request_rows}
 use Rattle.reg_core.specs.Rules.{grant_rule}
 use Rattle.reg_core.specs.Step.{clerk_answer}
+use Rattle.reg_core.specs.Times.{times_of, times_row}
 use Rattle.reg_core.specs.View.{Personal, published, personal, requests_of}
 use Rattle.reg_core.specs.World.{World, RequestName, pending}
 use Rattle.reg_core.specs.declared.ask.Ask.{Ask}
@@ -15,10 +16,13 @@ use Rattle.reg_core.specs.declared.command.ApplicantCommand.{ApplicantCommand}
 use Rattle.reg_core.specs.declared.command.ApplicantCommand.TheVariants.{Own, OwnOne, Submit, Withdraw, Holdings, SetListing, SetAgent, Agents, Principals, PrincipalRows}
 use Rattle.reg_core.specs.declared.command.ClerkCommand.{ClerkCommand}
 use Rattle.reg_core.specs.declared.command.ExpertCommand.{ExpertCommand}
+use Rattle.reg_core.specs.declared.command.TimesCommand.{TimesCommand}
+use Rattle.reg_core.specs.declared.command.TimesCommand.TheVariants as times
 use Rattle.reg_core.specs.declared.told.Told.{Told}
-use Rattle.reg_core.specs.declared.told.Told.TheVariants.{Granted, Made, Row, Rows}
+use Rattle.reg_core.specs.declared.told.Told.TheVariants.{Granted, Made, Row, Rows, Times}
 use Rattle.reg_core.specs.declared.refusal.Refusal.TheVariants as no
 use Rattle.reg_core.specs.declared.request.Request.{Request}
+use Rattle.reg_core.specs.declared.request.RequestTimes.{RequestTimes}
 use Rattle.reg_commands.specs.Caller.{token_digest}
 use Rattle.reg_commands.specs.declared.admission.Caller.{Caller}
 
@@ -54,6 +58,20 @@ answer_to_account account Principals w =
 answer_to_account account (PrincipalRows principal) w = do
   rows ← or_refusal no.Principal (rows_of_principal account principal w)
   unchanged (Rows rows)
+
+-- when the request of a row came, and when it was decided
+abbrev pub row_of_times : World → Request → RequestTimes
+row_of_times w row =
+    let name : RequestName = (row.account, row.reference) in
+    times_row name (times_of w.journal name (case_of row))
+
+-- the times of its own requests; or of those of a principal, where the account is its agent
+abbrev pub answer_about_times : List ℕ → TimesCommand → World → Answer
+answer_about_times account times.Own w =
+    unchanged (Times (map (row_of_times w) (request_rows (requests_of account w))))
+answer_about_times account (times.Principal principal) w = do
+  rows ← or_refusal no.Principal (rows_of_principal account principal w)
+  unchanged (Times (map (row_of_times w) rows))
 
 -- what is told of a request that is made, or that is there already
 abbrev pub told_made : RequestName → Ask → Option Request → Told

@@ -4,12 +4,15 @@ use Rattle.std.specs.FinMap.{get}
 use Rattle.hex.specs.Hex.{encode_lower}
 use Rattle.sha2.specs.Sha256.{sha256}
 use Rattle.reg_core.specs.Allowance.{◌>>=◌}
-use Rattle.reg_core.specs.Answer.{admitted}
+use Rattle.reg_core.specs.Answer.{admitted, in_force}
+use Rattle.reg_core.specs.Journal.{stamp_of}
 use Rattle.reg_core.specs.Names.{is_token}
 use Rattle.reg_core.specs.Step.{Stepped, step}
 use Rattle.reg_core.specs.World.{World}
+use Rattle.reg_core.specs.declared.capability.Cap.{Cap}
 use Rattle.reg_core.specs.declared.capability.Kind.{Kind}
 use Rattle.reg_core.specs.declared.command.Command.{Command}
+use Rattle.reg_core.specs.declared.journal.Stamp.{Stamp}
 use Rattle.reg_core.specs.declared.refusal.Refusal.{Refusal}
 use Rattle.reg_core.specs.declared.refusal.Refusal.TheVariants as no
 use Rattle.reg_commands.specs.declared.admission.Caller.{Caller}
@@ -31,6 +34,15 @@ admission w None moment day kind = Err no.Token
 admission w (Some digest) moment day kind = do
   cap ← admitted (get w.caps digest) moment kind
   Ok (record { digest = digest; capability = cap; moment = moment; day = day })
+
+-- the capability of a caller, where it is valid at a moment
+abbrev pub valid_cap : World → Option (List ℕ) → ℕ → Result Cap Refusal
+valid_cap w None moment = Err no.Token
+valid_cap w (Some digest) moment = in_force (get w.caps digest) moment
+
+-- when a caller's command is given, and by whom
+abbrev pub stamp_by : Caller → Stamp
+stamp_by who = stamp_of (Some who.digest) (Some who.capability) who.moment
 
 -- the step of the office at a command that comes with this token, or with none
 abbrev pub step_by : World → Option (List ℕ) → ℕ → Command → Stepped

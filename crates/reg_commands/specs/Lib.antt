@@ -1,4 +1,6 @@
+pub mod Acts
 pub mod Answers
+pub mod Arrivals
 pub mod Caller
 pub mod Decisions
 pub mod Pages

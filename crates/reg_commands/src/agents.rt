@@ -1,6 +1,8 @@
 //! What an applicant may do about its agents and its principals, once admitted.
 ghost use Rattle.reg_core.specs.declared.command.ApplicantCommand.TheVariants as command;
+ghost use Rattle.reg_core.specs.declared.journal.Stamp.{Stamp};
 ghost use Rattle.reg_commands.specs.Answers.{answer_to_account};
+ghost use Rattle.reg_commands.specs.Caller.{stamp_by};
 ghost use Rattle.reg_commands.specs.Performs.{Performs};
 
 use crate::admission::Caller;
@@ -21,7 +23,8 @@ pub fn set_agent<K: Keeper>(
     agent: &Account,
     reads: bool,
 ) -> Result<Told, Stop>
-    ensures { Performs K.world K.Holds K.Sound K.FAILS keeper.old keeper.new result
+    ensures { Performs K.world K.Holds K.Sound K.FAILS (stamp_by caller.now)
+        keeper.old keeper.new result
         (answer_to_account caller.now.capability.account (command.SetAgent agent.now reads)) }
 {
     let account = &caller.capability.account;
@@ -34,16 +37,16 @@ pub fn set_agent<K: Keeper>(
 
 /// The applicant's agents.
 pub fn list_agents<K: Keeper>(keeper: &mut K, account: &Account) -> Result<Told, Stop>
-    ensures { Performs K.world K.Holds K.Sound K.FAILS keeper.old keeper.new result
-        (answer_to_account account.now command.Agents) }
+    ensures { (stamp : Stamp) → Performs K.world K.Holds K.Sound K.FAILS stamp
+        keeper.old keeper.new result (answer_to_account account.now command.Agents) }
 {
     Ok(Told::Accounts(keeper.agents(account)?))
 }
 
 /// The applicant's principals.
 pub fn list_principals<K: Keeper>(keeper: &mut K, account: &Account) -> Result<Told, Stop>
-    ensures { Performs K.world K.Holds K.Sound K.FAILS keeper.old keeper.new result
-        (answer_to_account account.now command.Principals) }
+    ensures { (stamp : Stamp) → Performs K.world K.Holds K.Sound K.FAILS stamp
+        keeper.old keeper.new result (answer_to_account account.now command.Principals) }
 {
     Ok(Told::Accounts(keeper.principals(account)?))
 }
@@ -54,7 +57,8 @@ pub fn list_principal_rows<K: Keeper>(
     account: &Account,
     principal: &Account,
 ) -> Result<Told, Stop>
-    ensures { Performs K.world K.Holds K.Sound K.FAILS keeper.old keeper.new result
+    ensures { (stamp : Stamp) → Performs K.world K.Holds K.Sound K.FAILS stamp
+        keeper.old keeper.new result
         (answer_to_account account.now (command.PrincipalRows principal.now)) }
 {
     let rows = keeper

@@ -8,7 +8,9 @@ ghost use Rattle.reg_core.specs.View.{published};
 ghost use Rattle.reg_core.specs.WellKept.{has_request_form};
 ghost use Rattle.reg_core.specs.World.{RequestName, pending as pending_case};
 ghost use Rattle.reg_core.specs.declared.command.ApplicantCommand.TheVariants as command;
+ghost use Rattle.reg_core.specs.declared.journal.Stamp.{Stamp};
 ghost use Rattle.reg_commands.specs.Answers.{answer_to_account, told_made};
+ghost use Rattle.reg_commands.specs.Caller.{stamp_by};
 ghost use Rattle.reg_commands.specs.Performs.{LooksUp, Performs};
 
 use crate::admission::Caller;
@@ -35,8 +37,8 @@ pub fn perform<K: Keeper>(
     caller: &Caller,
     command: &ApplicantCommand,
 ) -> Result<Told, Stop>
-    ensures { Performs K.world K.Holds K.Sound K.FAILS keeper.old keeper.new result
-        (answer_to_account caller.now.capability.account command.now) }
+    ensures { Performs K.world K.Holds K.Sound K.FAILS (stamp_by caller.now)
+        keeper.old keeper.new result (answer_to_account caller.now.capability.account command.now) }
 {
     let account = &caller.capability.account;
     match command {
@@ -59,15 +61,16 @@ pub fn perform<K: Keeper>(
 
 // The applicant's own requests.
 fn list_own<K: Keeper>(keeper: &mut K, account: &Account) -> Result<Told, Stop>
-    ensures { Performs K.world K.Holds K.Sound K.FAILS keeper.old keeper.new result
-        (answer_to_account account.now command.Own) }
+    ensures { (stamp : Stamp) → Performs K.world K.Holds K.Sound K.FAILS stamp
+        keeper.old keeper.new result (answer_to_account account.now command.Own) }
 {
     Ok(Told::Rows(keeper.own(account)?))
 }
 
 // One of the applicant's own requests.
 fn show_own<K: Keeper>(keeper: &mut K, account: &Account, reference: &Ref) -> Result<Told, Stop>
-    ensures { Performs K.world K.Holds K.Sound K.FAILS keeper.old keeper.new result
+    ensures { (stamp : Stamp) → Performs K.world K.Holds K.Sound K.FAILS stamp
+        keeper.old keeper.new result
         (answer_to_account account.now (command.OwnOne reference.now)) }
 {
     let request = keeper.own_one(account, reference)?.ok_or(Refusal::Request)?;
@@ -81,7 +84,8 @@ fn submit<K: Keeper>(
     reference: &Ref,
     ask: &Ask,
 ) -> Result<Told, Stop>
-    ensures { Performs K.world K.Holds K.Sound K.FAILS keeper.old keeper.new result
+    ensures { Performs K.world K.Holds K.Sound K.FAILS (stamp_by caller.now)
+        keeper.old keeper.new result
         (answer_to_account caller.now.capability.account (command.Submit reference.now ask.now)) }
 {
     let account = &caller.capability.account;
@@ -128,7 +132,8 @@ fn told_of(
 
 // Takes a request of the applicant's back.
 fn withdraw<K: Keeper>(keeper: &mut K, caller: &Caller, reference: &Ref) -> Result<Told, Stop>
-    ensures { Performs K.world K.Holds K.Sound K.FAILS keeper.old keeper.new result
+    ensures { Performs K.world K.Holds K.Sound K.FAILS (stamp_by caller.now)
+        keeper.old keeper.new result
         (answer_to_account caller.now.capability.account (command.Withdraw reference.now)) }
 {
     let account = &caller.capability.account;

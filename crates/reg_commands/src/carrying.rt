@@ -1,48 +1,53 @@
 //! Carrying out what was decided.
 ghost use Rattle.std.specs.Prelude.{◌≡◌, Ok, IfOk, OnOk, IsOk};
 ghost use Rattle.reg_core.specs.Answer.{change_by};
+ghost use Rattle.reg_core.specs.Journal.{recorded, recorded_if};
 ghost use Rattle.reg_core.specs.WellKept.{WellKept, CanApply};
-ghost use Rattle.reg_core.specs.World.{applied, applied_if};
 ghost use Rattle.reg_core.specs.declared.decide.Decision.TheVariants.{Same};
 ghost use Rattle.reg_keeper.specs.Keeper.{Makes};
+ghost use Rattle.reg_commands.specs.Caller.{stamp_by};
 ghost use Rattle.reg_commands.specs.Decisions.{CanMake, row_by};
 
+use crate::acts::acts_of;
 use crate::admission::Caller;
 use reg_core::change::Change;
 use reg_core::decide::Decision;
+use reg_core::journal::Stamp;
 use reg_core::request::{Request, State};
 use reg_keeper::keeper::{Fault, Keeper};
 use std::alloc::AllocError;
 
-/// Makes a change that fits every well kept world with the rows that it was decided over. All changes
-/// are made here, each with its caller at hand; the jobs that need no token have none.
-pub fn make<K: Keeper>(
-    keeper: &mut K,
-    _caller: Option<&Caller>,
-    change: Change,
-) -> Result<(), Fault>
+/// Makes a change that fits every well kept world with the rows that it was decided over, with its
+/// acts. All changes are made here, and all acts.
+pub fn make<K: Keeper>(keeper: &mut K, stamp: Stamp, change: Change) -> Result<(), Fault>
     requires { K.Holds keeper.old →
         WellKept (K.world keeper.old) → CanApply (K.world keeper.old) change }
     ensures { Makes K.world K.Holds K.Sound K.FAILS keeper.old keeper.new result
-        (λ w. applied w change) }
+        (λ w. recorded stamp w change) }
 {
-    keeper.apply(change)
+    match acts_of(keeper, stamp, &change) {
+        Ok(acts) => keeper.record(change, acts.as_slice()),
+        Err(fault) => {
+            drop(change);
+            Err(fault)
+        }
+    }
 }
 
 // Makes the change of a decision, if there is one; where there is none, the keeper is not asked.
 pub(crate) fn carry_out<K: Keeper>(
     keeper: &mut K,
-    caller: Option<&Caller>,
+    stamp: Stamp,
     decision: Decision,
 ) -> Result<(), Fault>
     requires { K.Holds keeper.old →
         WellKept (K.world keeper.old) → CanMake (K.world keeper.old) decision }
     ensures change { Makes K.world K.Holds K.Sound K.FAILS keeper.old keeper.new result
-        (λ w. applied_if w (change_by decision)) }
+        (λ w. recorded_if stamp w (change_by decision)) }
     ensures same { decision ≡ Same → result ≡ Ok tt }
 {
     match decision {
-        Decision::Make(change) => make(keeper, caller, change),
+        Decision::Make(change) => make(keeper, stamp, change),
         Decision::Same => Ok(()),
     }
 }
@@ -59,11 +64,11 @@ pub fn conclude<K: Keeper, T: Drop>(
         WellKept (K.world keeper.old) → CanMake (K.world keeper.old) decision) }
     ensures told { IfOk result (λ x. told ≡ Ok x) }
     ensures change { Makes K.world K.Holds K.Sound K.FAILS keeper.old keeper.new result
-        (λ w. applied_if w (change_by decision)) }
+        (λ w. recorded_if (stamp_by caller.now) w (change_by decision)) }
     ensures same { OnOk told (decision ≡ Same → IsOk result) }
 {
     let told = told?;
-    carry_out(keeper, Some(caller), decision)?;
+    carry_out(keeper, caller.stamp(), decision)?;
     Ok(told)
 }
 
@@ -79,7 +84,7 @@ pub fn conclude_on<K: Keeper>(
         WellKept (K.world keeper.old) → CanMake (K.world keeper.old) decision }
     ensures row { IfOk result (λ row. row ≡ row_by decision request) }
     ensures change { Makes K.world K.Holds K.Sound K.FAILS keeper.old keeper.new result
-        (λ w. applied_if w (change_by decision)) }
+        (λ w. recorded_if (stamp_by caller.now) w (change_by decision)) }
     ensures same { decision ≡ Same → result ≡ Ok request }
 {
     let row = row_after(request, &decision);

@@ -1,9 +1,11 @@
-//! What a clerk may do, once admitted: about capabilities, about requests at the desk, and about
-//! what is published at the registers.
+//! What a clerk may do, once admitted: about capabilities, about requests at the desk, about what is
+//! published at the registers, and about what was done.
 ghost use Rattle.reg_commands.specs.Answers.{answer_to_clerk};
+ghost use Rattle.reg_commands.specs.Caller.{stamp_by};
 ghost use Rattle.reg_commands.specs.Performs.{Performs};
 
 use crate::admission::Caller;
+use crate::journal::{list_actor, list_day, list_request};
 use crate::stop::Stop;
 use crate::{capabilities, counting, desk, registers};
 use reg_core::command::ClerkCommand;
@@ -18,12 +20,12 @@ pub fn perform<K: Keeper>(
     caller: &Caller,
     command: &ClerkCommand,
 ) -> Result<Told, Stop>
-    ensures { Performs K.world K.Holds K.Sound K.FAILS keeper.old keeper.new result
-        (answer_to_clerk caller.now command.now) }
+    ensures { Performs K.world K.Holds K.Sound K.FAILS (stamp_by caller.now)
+        keeper.old keeper.new result (answer_to_clerk caller.now command.now) }
 {
     match command {
         ClerkCommand::AllRequests => desk::list_all(keeper),
-        ClerkCommand::PendingRequests => desk::list_pending(keeper),
+        ClerkCommand::PendingRequests => desk::list_pending(alloc, keeper),
         ClerkCommand::OneRequest(account, reference) => desk::show_one(keeper, account, reference),
         ClerkCommand::AssignExpert(account, reference, expert) => {
             desk::assign(keeper, caller, account, reference, expert)
@@ -47,5 +49,8 @@ pub fn perform<K: Keeper>(
             capabilities::revoke_account(alloc, keeper, caller, account)
         }
         ClerkCommand::CountRows => counting::tell_counts(keeper, caller),
+        ClerkCommand::ActsOn(day) => list_day(keeper, *day),
+        ClerkCommand::ActsBy(account) => list_actor(keeper, account),
+        ClerkCommand::ActsAbout(account, reference) => list_request(keeper, account, reference),
     }
 }

@@ -6,6 +6,7 @@ ghost use Rattle.reg_core.specs.Holding.{listed_rows, masked_blocks};
 ghost use Rattle.reg_core.specs.declared.command.ClerkCommand.TheVariants.{CountRows};
 ghost use Rattle.reg_keeper.specs.Keeper.{Selects};
 ghost use Rattle.reg_commands.specs.Answers.{answer_to_clerk};
+ghost use Rattle.reg_commands.specs.Caller.{stamp_by};
 ghost use Rattle.reg_commands.specs.Performs.{Performs};
 
 use crate::admission::Caller;
@@ -18,8 +19,8 @@ use reg_keeper::keeper::{Fault, Keeper};
 
 /// How many rows of each kind there are, as a clerk is told it.
 pub fn tell_counts<K: Keeper>(keeper: &mut K, caller: &Caller) -> Result<Told, Stop>
-    ensures { Performs K.world K.Holds K.Sound K.FAILS keeper.old keeper.new result
-        (answer_to_clerk caller.now CountRows) }
+    ensures { Performs K.world K.Holds K.Sound K.FAILS (stamp_by caller.now)
+        keeper.old keeper.new result (answer_to_clerk caller.now CountRows) }
 {
     Ok(Told::Counts(count(keeper, caller.moment, caller.day)?))
 }

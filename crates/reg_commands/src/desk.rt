@@ -4,10 +4,12 @@ ghost use Rattle.reg_core.specs.Request.{is_pending as pending};
 ghost use Rattle.reg_core.specs.View.{published};
 ghost use Rattle.reg_core.specs.declared.command.ClerkCommand.TheVariants as command;
 ghost use Rattle.reg_commands.specs.Answers.{answer_to_clerk};
+ghost use Rattle.reg_commands.specs.Caller.{stamp_by};
 ghost use Rattle.reg_commands.specs.Decisions.{approval_of};
 ghost use Rattle.reg_commands.specs.Performs.{LooksUp, Performs};
 
 use crate::admission::Caller;
+use crate::arrivals::waiting;
 use crate::carrying::conclude_on;
 use crate::ground::ground_if;
 use crate::stop::Stop;
@@ -21,26 +23,28 @@ use reg_decisions::{decide_approve, decide_assign, decide_decline};
 use reg_early::day::Day;
 use reg_keeper::keeper::Keeper;
 use reg_ranges::formed::Formed;
+use std::alloc::Global;
 
 /// All requests.
 pub fn list_all<K: Keeper>(keeper: &mut K) -> Result<Told, Stop>
-    ensures { (clerk : Caller) → Performs K.world K.Holds K.Sound K.FAILS
+    ensures { (clerk : Caller) → Performs K.world K.Holds K.Sound K.FAILS (stamp_by clerk)
         keeper.old keeper.new result (answer_to_clerk clerk command.AllRequests) }
 {
     Ok(Told::Desks(keeper.all()?))
 }
 
-/// The requests that wait, with their experts and all advice on them.
-pub fn list_pending<K: Keeper>(keeper: &mut K) -> Result<Told, Stop>
-    ensures { (clerk : Caller) → Performs K.world K.Holds K.Sound K.FAILS
+/// The requests that wait, with their experts and all advice on them, and with the moments at which
+/// they came, in the order in which they came.
+pub fn list_pending<K: Keeper>(alloc: Global, keeper: &mut K) -> Result<Told, Stop>
+    ensures { (clerk : Caller) → Performs K.world K.Holds K.Sound K.FAILS (stamp_by clerk)
         keeper.old keeper.new result (answer_to_clerk clerk command.PendingRequests) }
 {
-    Ok(Told::Cases(keeper.pending()?))
+    Ok(Told::Waiting(waiting(alloc, keeper)?))
 }
 
 /// A request, with its experts and all advice on it.
 pub fn show_one<K: Keeper>(keeper: &mut K, account: &Account, reference: &Ref) -> Result<Told, Stop>
-    ensures { (clerk : Caller) → Performs K.world K.Holds K.Sound K.FAILS
+    ensures { (clerk : Caller) → Performs K.world K.Holds K.Sound K.FAILS (stamp_by clerk)
         keeper.old keeper.new result
         (answer_to_clerk clerk (command.OneRequest account.now reference.now)) }
 {
@@ -56,8 +60,8 @@ pub fn assign<K: Keeper>(
     reference: &Ref,
     expert: &Account,
 ) -> Result<Told, Stop>
-    ensures { Performs K.world K.Holds K.Sound K.FAILS keeper.old keeper.new result
-        (answer_to_clerk caller.now
+    ensures { Performs K.world K.Holds K.Sound K.FAILS (stamp_by caller.now)
+        keeper.old keeper.new result (answer_to_clerk caller.now
         (command.AssignExpert account.now reference.now expert.now)) }
 {
     let file = keeper.file(account, reference)?.ok_or(Refusal::Request)?;
@@ -73,7 +77,8 @@ pub fn approve<K: Keeper>(
     account: &Account,
     reference: &Ref,
 ) -> Result<Told, Stop>
-    ensures { Performs K.world K.Holds K.Sound K.FAILS keeper.old keeper.new result
+    ensures { Performs K.world K.Holds K.Sound K.FAILS (stamp_by caller.now)
+        keeper.old keeper.new result
         (answer_to_clerk caller.now (command.Approve account.now reference.now)) }
 {
     let file = keeper.file(account, reference)?.ok_or(Refusal::Request)?;
@@ -101,8 +106,8 @@ pub fn decline<K: Keeper>(
     reference: &Ref,
     reason: &Text,
 ) -> Result<Told, Stop>
-    ensures { Performs K.world K.Holds K.Sound K.FAILS keeper.old keeper.new result
-        (answer_to_clerk caller.now
+    ensures { Performs K.world K.Holds K.Sound K.FAILS (stamp_by caller.now)
+        keeper.old keeper.new result (answer_to_clerk caller.now
         (command.Decline account.now reference.now reason.now)) }
 {
     let request = keeper.own_one(account, reference)?.ok_or(Refusal::Request)?;

@@ -1,7 +1,9 @@
 //! What an expert may do, once admitted.
 ghost use Rattle.std.specs.Prelude.{◌≡◌, ◌↔◌, IfOk, IsOk, IsTrue};
 ghost use Rattle.reg_core.specs.declared.command.ExpertCommand.TheVariants as command;
+ghost use Rattle.reg_core.specs.declared.journal.Stamp.{Stamp};
 ghost use Rattle.reg_commands.specs.Answers.{answer_to_expert};
+ghost use Rattle.reg_commands.specs.Caller.{stamp_by};
 ghost use Rattle.reg_commands.specs.Performs.{Performs};
 ghost use Rattle.reg_commands.specs.Rows.{advised_row};
 
@@ -25,8 +27,8 @@ pub fn perform<K: Keeper>(
     caller: &Caller,
     command: &ExpertCommand,
 ) -> Result<Told, Stop>
-    ensures { Performs K.world K.Holds K.Sound K.FAILS keeper.old keeper.new result
-        (answer_to_expert caller.now.capability.account command.now) }
+    ensures { Performs K.world K.Holds K.Sound K.FAILS (stamp_by caller.now)
+        keeper.old keeper.new result (answer_to_expert caller.now.capability.account command.now) }
 {
     match command {
         ExpertCommand::Queue => list_queue(keeper, &caller.capability.account),
@@ -38,8 +40,8 @@ pub fn perform<K: Keeper>(
 
 // The requests that are queued to the expert.
 fn list_queue<K: Keeper>(keeper: &mut K, expert: &Account) -> Result<Told, Stop>
-    ensures { Performs K.world K.Holds K.Sound K.FAILS keeper.old keeper.new result
-        (answer_to_expert expert.now command.Queue) }
+    ensures { (stamp : Stamp) → Performs K.world K.Holds K.Sound K.FAILS stamp
+        keeper.old keeper.new result (answer_to_expert expert.now command.Queue) }
 {
     Ok(Told::Items(keeper.queue(expert)?))
 }
@@ -53,8 +55,8 @@ fn advise<K: Keeper>(
     reference: &Ref,
     advice: &Advice,
 ) -> Result<Told, Stop>
-    ensures { Performs K.world K.Holds K.Sound K.FAILS keeper.old keeper.new result
-        (answer_to_expert caller.now.capability.account
+    ensures { Performs K.world K.Holds K.Sound K.FAILS (stamp_by caller.now)
+        keeper.old keeper.new result (answer_to_expert caller.now.capability.account
         (command.Advise account.now reference.now advice.now)) }
 {
     let expert = &caller.capability.account;

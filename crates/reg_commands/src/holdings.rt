@@ -1,7 +1,9 @@
 //! What an applicant may do about the blocks that it holds, once admitted.
 ghost use Rattle.std.specs.Prelude.{◌≡◌};
 ghost use Rattle.reg_core.specs.declared.command.ApplicantCommand.TheVariants as command;
+ghost use Rattle.reg_core.specs.declared.journal.Stamp.{Stamp};
 ghost use Rattle.reg_commands.specs.Answers.{answer_to_account};
+ghost use Rattle.reg_commands.specs.Caller.{stamp_by};
 ghost use Rattle.reg_commands.specs.Performs.{Performs};
 ghost use Rattle.reg_commands.specs.Rows.{marked_row};
 
@@ -18,8 +20,8 @@ use reg_keeper::keeper::Keeper;
 
 /// The applicant's own blocks.
 pub fn list_holdings<K: Keeper>(keeper: &mut K, account: &Account) -> Result<Told, Stop>
-    ensures { Performs K.world K.Holds K.Sound K.FAILS keeper.old keeper.new result
-        (answer_to_account account.now command.Holdings) }
+    ensures { (stamp : Stamp) → Performs K.world K.Holds K.Sound K.FAILS stamp
+        keeper.old keeper.new result (answer_to_account account.now command.Holdings) }
 {
     Ok(Told::Holdings(keeper.holdings(account)?))
 }
@@ -31,8 +33,8 @@ pub fn set_listing<K: Keeper>(
     block: &Block,
     private: bool,
 ) -> Result<Told, Stop>
-    ensures { Performs K.world K.Holds K.Sound K.FAILS keeper.old keeper.new result
-        (answer_to_account caller.now.capability.account
+    ensures { Performs K.world K.Holds K.Sound K.FAILS (stamp_by caller.now)
+        keeper.old keeper.new result (answer_to_account caller.now.capability.account
         (command.SetListing block.now private)) }
 {
     let account = &caller.capability.account;

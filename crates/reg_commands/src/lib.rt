@@ -2,9 +2,11 @@
 //! it needs, what is decided over them, and the change that is made.
 #![tactic(auto)]
 
+mod acts;
 pub mod admission;
 mod agents;
 pub mod applicant;
+mod arrivals;
 pub mod capabilities;
 pub mod carrying;
 pub mod clerk;
@@ -12,8 +14,11 @@ pub mod counting;
 mod desk;
 mod digest;
 pub mod expert;
+mod gathering;
 mod ground;
 mod holdings;
+mod journal;
 pub mod public;
 mod registers;
 pub mod stop;
+pub mod times;

@@ -3,6 +3,7 @@ ghost use Rattle.std.specs.Prelude.{◌≡◌, map, IfOk};
 ghost use Rattle.reg_core.specs.Answer.{public_answer};
 ghost use Rattle.reg_core.specs.Page.{page_entries};
 ghost use Rattle.reg_core.specs.View.{published};
+ghost use Rattle.reg_core.specs.declared.journal.Stamp.{Stamp};
 ghost use Rattle.reg_keeper.specs.Keeper.{Selects};
 ghost use Rattle.reg_commands.specs.Pages.{page_on, shown_on};
 ghost use Rattle.reg_commands.specs.Performs.{LooksUp, Performs};
@@ -25,8 +26,8 @@ pub fn perform<K: Keeper>(
     today: Day,
     command: &PublicCommand,
 ) -> Result<Told, Stop>
-    ensures { Performs K.world K.Holds K.Sound K.FAILS keeper.old keeper.new result
-        (λ w. public_answer (published w) today command.now) }
+    ensures { (stamp : Stamp) → Performs K.world K.Holds K.Sound K.FAILS stamp
+        keeper.old keeper.new result (λ w. public_answer (published w) today command.now) }
 {
     Ok(match command {
         PublicCommand::Registries => Told::Names(keeper.names()?),

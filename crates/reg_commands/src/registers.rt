@@ -3,6 +3,7 @@
 ghost use Rattle.std.specs.Prelude.{◌≡◌};
 ghost use Rattle.reg_core.specs.declared.command.ClerkCommand.TheVariants.{Define, AddPool, SetHold};
 ghost use Rattle.reg_commands.specs.Answers.{answer_to_clerk};
+ghost use Rattle.reg_commands.specs.Caller.{stamp_by};
 ghost use Rattle.reg_commands.specs.Performs.{Performs};
 ghost use Rattle.reg_commands.specs.Rows.{held_row};
 
@@ -26,20 +27,20 @@ pub fn define<K: Keeper>(
     name: &Name,
     table: &RangeTable,
 ) -> Result<Told, Stop>
-    ensures { Performs K.world K.Holds K.Sound K.FAILS keeper.old keeper.new result
-        (answer_to_clerk caller.now (Define name.now table.now)) }
+    ensures { Performs K.world K.Holds K.Sound K.FAILS (stamp_by caller.now)
+        keeper.old keeper.new result (answer_to_clerk caller.now (Define name.now table.now)) }
 {
     let existing = keeper.ranges(name)?;
-    let decision = decide_define(existing.as_ref(), name, table)?;
     name.formed();
     table.formed();
+    let decision = decide_define(existing.as_ref(), name, table)?;
     Ok(Told::Defined(conclude(keeper, caller, Ok(*name), decision)?))
 }
 
 /// Adds a prefix to the pool.
 pub fn add_pool<K: Keeper>(keeper: &mut K, caller: &Caller, prefix: u32) -> Result<Told, Stop>
-    ensures { Performs K.world K.Holds K.Sound K.FAILS keeper.old keeper.new result
-        (answer_to_clerk caller.now (AddPool prefix)) }
+    ensures { Performs K.world K.Holds K.Sound K.FAILS (stamp_by caller.now)
+        keeper.old keeper.new result (answer_to_clerk caller.now (AddPool prefix)) }
 {
     let there = keeper.is_pooled(prefix)?;
     let decision = decide_pool(there, prefix)?;
@@ -54,8 +55,8 @@ pub fn set_hold<K: Keeper>(
     value: u32,
     held: bool,
 ) -> Result<Told, Stop>
-    ensures { Performs K.world K.Holds K.Sound K.FAILS keeper.old keeper.new result
-        (answer_to_clerk caller.now (SetHold name.now value held)) }
+    ensures { Performs K.world K.Holds K.Sound K.FAILS (stamp_by caller.now)
+        keeper.old keeper.new result (answer_to_clerk caller.now (SetHold name.now value held)) }
 {
     keeper.ranges(name)?.ok_or(Refusal::Registry)?;
     let row = keeper.entry(name, value)?.ok_or(Refusal::Entry)?;

@@ -29,7 +29,7 @@ use Rattle.reg_tables.specs.Values.{same_value}
 use Rattle.reg_statements.proofs.Office as laws
 use Rattle.reg_statements.proofs.Office.{whole_test}
 
-asked : (at : ℕ) (value here : Value) (row : Row) → column row at ≡ here
+pub asked : (at : ℕ) (value here : Value) (row : Row) → column row at ≡ here
     → has_all ((at, value) ∷ []) row ≡ same_value here value
 asked at value here row is = and-true _ ∙ ap (λ v. same_value v value) is
 

@@ -1,11 +1,11 @@
--- A write with another premise, and what two writes make together.
-use Rattle.std.proofs.Common.{◌≡◌, ◌∙◌, ap, Result}
+-- A write with another premise, and what two writes make together; a change as another.
+use Rattle.std.proofs.Common.{◌≡◌, ◌∙◌, ap, Ok, Result}
 use Rattle.sqlite.specs.Effect.{Database}
 use Rattle.sqlite.specs.State.{State}
 use Rattle.reg_core.specs.World.{World}
 use Rattle.reg_tables.proofs.MakeLemmas.{on_ok}
-use Rattle.reg_content.specs.Calls.{Steps, StepsAt, StepsIn}
-use Rattle.reg_statements.specs.Content.{IsStored, assembled, content_of, parts_of}
+use Rattle.reg_content.specs.Calls.{Alters, Steps, StepsAt, StepsIn}
+use Rattle.reg_statements.specs.Content.{IsStored, assembled, content_of, parts_of, world_in}
 use Rattle.reg_statements.specs.Parts.{Parts}
 
 -- as what it does to what else is seen
@@ -42,3 +42,26 @@ pub steps_in : {T E : Type 0} {a b : State} {result : Result T E} {F : Parts →
 steps_in {a = a} it meets = steps_by it (λ stored fits.
     let both = meets a.now stored fits in
     (both.0, λ done. ap assembled done ∙ both.1))
+
+-- one that went through, whatever is told of it
+pub steps_told : {T U E : Type 0} {a b : State} {x : T} {F : World → Type 0} {f : World → World}
+    (y : U) → Steps {T = T} {E = E} a b (Ok x) F f → Steps {T = U} {E = E} a b (Ok y) F f
+steps_told y it = record {
+  endures = it.endures;
+  kept = it.kept;
+  went = it.went;
+  tables = it.tables;
+  turns = it.turns;
+}
+
+-- a change, as another that makes the same of each office
+pub alters_as : {T E : Type 0} {a b : State} {result : Result T E} {f g : World → World}
+    → Alters a b result f → ((w : World) → f w ≡ g w) → Alters a b result g
+alters_as {a = a} {result = result} it same = record {
+  keeping = it.keeping;
+  endures = it.endures;
+  held = it.held;
+  on = it.on;
+  made = λ h. on_ok result (λ is. is ∙ same (world_in a)) (it.made h);
+  kept = it.kept;
+}

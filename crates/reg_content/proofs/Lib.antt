@@ -1,4 +1,5 @@
 pub mod Found
+pub mod ActRowsWritten
 pub mod Statements
 pub mod Looking
 pub mod EntryRowsAscending
@@ -6,6 +7,9 @@ pub mod MappedRows
 pub mod MarkedRows
 pub mod MinutedRows
 pub mod AskedRows
+pub mod AskedActs
+pub mod ActsListed
+pub mod ArrivalRows
 pub mod BlockRows
 pub mod BlockRowsListed
 pub mod BlockRowsFound
@@ -19,6 +23,7 @@ pub mod RequestRowsWritten
 pub mod Joining
 pub mod Fitting
 pub mod Revoked
+pub mod Journaled
 pub mod QueueRows
 pub mod JoinedRows
 pub mod QueuedRows

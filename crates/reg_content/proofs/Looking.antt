@@ -68,6 +68,14 @@ pub looks_made : {T U E : Type 0} {old new : State} {x : T} {y : U} {F : Parts �
     → ((p : Parts) → F p x → G (assembled p) y) → Looks {E = E} old new (Ok y) G
 looks_made {old = old} it gives = looks_by it (λ h. gives (parts_of old.now))
 
+-- and so of the office, by what the rows of its parts owe to one another
+pub looks_tied : {T U E : Type 0} {old new : State} {x : T} {y : U} {F : Parts → T → Type 0}
+    {G : World → U → Type 0} → IsKeeping old → LooksIn {E = E} old new (Ok x) F
+    → ((p : Parts) → AreTied p → F p x → G (assembled p) y) → Looks {E = E} old new (Ok y) G
+looks_tied {old = old} keeping it gives =
+    looks_by it (λ h is.
+    gives (parts_of old.now) (keeping.stored (stays_held it.stays h)).kept.tied is)
+
 -- a call that does nothing looks
 pub looks_still : {W T E : Type 0} {seen : Database → W} {s : State} {x : T}
     {Gives : W → T → Type 0} → IsKeeping s → ((w : W) → Gives w x)

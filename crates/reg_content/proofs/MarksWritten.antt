@@ -118,6 +118,7 @@ module _ (p : Parts) (ties : AreTied p) (hold : Hold) where
                 (λ q. (a : Registration) × (get p.entries q ≡ Some a) × IsSome a.term.expires) tt
                 old.holds (entry.bare, entry.there, expires);
             minutes = old.minutes;
+            acts = old.acts;
           },
         ),
         ap (λ m. record (assembled p) { entries = m }) (marked-add p.holds p.entries at),
@@ -133,6 +134,7 @@ mark_taken p place = (
     ranges = old.ranges;
     holds = λ q is. old.holds q (was_left place_keys p.holds place q is);
     minutes = old.minutes;
+    acts = old.acts;
   },
   ap (λ m. record (assembled p) { entries = m }) (marked-take p.holds p.entries place),
 )
@@ -157,6 +159,7 @@ module _ (p : Parts) (ties : AreTied p) (entry : Entry) where
               (λ t. no_mark (ap (contains_key p.holds) (sym (tied place_keys q place_of t)) ∙ is))
               (old.holds q is);
           minutes = old.minutes;
+          acts = old.acts;
         },
         ap (λ m. record (assembled p) { entries = m })
             (marked-insert p.holds p.entries place_of (registration_in (unheld entry))

@@ -121,6 +121,7 @@ module _ (p : Parts) (ties : AreTied p) (request : Request) where
                 let is_there = found.1 in
                 let moved : get p.requests q ≡ get p.requests at = ap (get p.requests) same in
                 absurd (cc)) found;
+            acts = old.acts;
           },
         ),
         ap (λ m. record (assembled p) { requests = m })
@@ -156,6 +157,7 @@ module _ (p : Parts) (ties : AreTied p) (row : Minute) where
             minutes = each_key name_keys p.minutes named
                 (λ q. (case : Case) × (get p.requests q ≡ Some case) × (is_renewal case.ask ≡ true))
                 row.minute old.minutes (request.bare, request.there, kind.0);
+            acts = old.acts;
           },
         ),
         ap (λ m. record (assembled p) { requests = m })
@@ -219,6 +221,7 @@ module _ (p : Parts) (ties : AreTied p) (name : RequestName) (state : State) whe
             ranges = old.ranges;
             holds = old.holds;
             minutes = λ q is. asks_on q (old.minutes q is);
+            acts = old.acts;
           },
         ),
         ap (λ m. record (assembled p) { requests = m })

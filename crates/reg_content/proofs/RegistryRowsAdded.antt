@@ -54,6 +54,7 @@ registry_added r db was none =
               still_in text_keys largest r.name r.max place.0 (tied.ranges place there);
           holds = tied.holds;
           minutes = tied.minutes;
+          acts = tied.acts;
         },
       ),
       ap (λ registries. record (content_of db) { registries = registries })
@@ -112,6 +113,7 @@ one_range r db was follows =
           ranges = each_key place_keys m place (λ p. IsSome (get largest p.0)) r.range tied.ranges there;
           holds = tied.holds;
           minutes = tied.minutes;
+          acts = tied.acts;
         },
       ),
       ap (λ registries. record (content_of db) { registries = registries })

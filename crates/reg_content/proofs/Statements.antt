@@ -17,6 +17,7 @@ use Rattle.reg_maps.specs.Maps.{same_text}
 use Rattle.reg_blocks.specs.Block.{SizedPrefix, first_address}
 use Rattle.reg_core.specs.Advice.{verdict_word}
 use Rattle.reg_core.specs.Holding.{with_mark}
+use Rattle.reg_core.specs.Journal.{is_about, is_by, is_on}
 use Rattle.reg_core.specs.Request.{has_state_form, is_pending, state_word, word_of}
 use Rattle.reg_core.specs.World.{Link, Place, RequestName, Seat, in_state, name_cmp}
 use Rattle.reg_core.specs.declared.request.State as request
@@ -37,6 +38,7 @@ use Rattle.reg_tables.proofs.GivenRows.{AddsGiven}
 use Rattle.reg_tables.proofs.InsertStatements as inserts
 use Rattle.reg_tables.proofs.Library.Casts.{cast_int, cast_null}
 use Rattle.reg_tables.proofs.PutStatements as puts
+use Rattle.reg_tables.proofs.Statements.{acts_of_actor, acts_of_day, acts_of_request, all_acts}
 use Rattle.reg_tables.proofs.Statements.{advice_by_key}
 use Rattle.reg_tables.proofs.Statements.{agent_by_key, agents_of_principal, principals_of_agent}
 use Rattle.reg_tables.proofs.Statements.{hold_by_key, holds_of_registry}
@@ -54,8 +56,10 @@ use Rattle.reg_statements.specs.Office as office
 use Rattle.reg_statements.specs.Parts.{TableDef}
 use Rattle.reg_statements.proofs.Defined.{by_all, by_first, by_key, key_has, passes_cells}
 use Rattle.reg_statements.proofs.Office as laws
+use Rattle.reg_content.proofs.AskedActs.{made_about, made_by, made_on}
 use Rattle.reg_content.proofs.AskedRows.{begins_at, held_by, read_by, waits}
 use Rattle.reg_content.proofs.BlockRows.{mark_read}
+use Rattle.reg_content.proofs.ActRowsWritten.{act_kept, act_long}
 use Rattle.reg_content.proofs.RequestRowsWritten as written
 
 -- ---- Of any table
@@ -313,6 +317,38 @@ pub takes_link : TakesRows office.agents texts.DELETE_AGENT.now
 takes_link = record {
   takes = edits.agent_deletes;
 }
+
+-- ---- Acts
+
+pub lists_acts : Chooses office.journal texts.SELECT_JOURNAL.now [] (λ number act. true)
+lists_acts = by_all office.journal laws.journal _ _ all_acts
+
+pub lists_acts_on : (day : ℕ)
+    → Chooses office.journal texts.SELECT_ACTS_ON.now (whole_value day ∷ [])
+    (λ number act. is_on day act)
+lists_acts_on day = by_cell office.journal _ 2 (whole_value day) _ acts_of_day (made_on day)
+
+pub lists_acts_by : (account : List ℕ)
+    → Chooses office.journal texts.SELECT_ACTS_BY.now (Text account ∷ [])
+    (λ number act. is_by account act)
+lists_acts_by account = by_cell office.journal _ 4 (Text account) _ acts_of_actor (made_by account)
+
+pub lists_acts_about : (account reference : List ℕ)
+    → Chooses office.journal texts.SELECT_ACTS_ABOUT.now (Text account ∷ Text reference ∷ [])
+    (λ number act. is_about (account, reference) act)
+lists_acts_about account reference = record {
+  tests = _;
+  order = _;
+  selects = acts_of_request;
+  agree = λ row n is.
+      passes_cells ((7, 0) ∷ (8, 1) ∷ []) (Text account ∷ Text reference ∷ []) row
+      ∙ made_about account reference row n is;
+}
+
+pub adds_act : InsertsRows office.journal texts.INSERT_JOURNAL.now
+adds_act =
+    adding inserts.adds_acts (λ a. act_long a.act.deed a refl)
+    (λ a. act_kept a.number a.act.stamp.moment a.act.stamp.by a.act.deed)
 
 -- ---- Blocks
 

@@ -1,4 +1,5 @@
 pub mod Calls
+pub mod Arrivals
 pub mod Seats
 pub mod Registries
 pub mod Marks

@@ -1,9 +1,10 @@
 //! Changes, each in one transaction.
-ghost use Rattle.std.specs.Prelude.{◌≡◌, false, true, IfErr, OnErr, OnOk};
+ghost use Rattle.std.specs.Prelude.{◌≡◌, ◌+◌, [], false, true, IfErr, IfOk, OnErr, OnOk, length};
 ghost use Rattle.sqlite.specs.Held.{state};
 ghost use Rattle.sqlite.specs.State.{HasCleanDisk, Survives};
 ghost use Rattle.reg_core.specs.WellKept.{WellKept, CanApply};
 ghost use Rattle.reg_core.specs.World.{World, applied};
+ghost use Rattle.reg_keeper.specs.Keeper.{applied_with};
 ghost use Rattle.reg_tables.specs.Connection.{Holds};
 ghost use Rattle.reg_content.specs.Calls.{Alters, IsCommitted, IsKeeping, IsUncommitted, IsUndone, Steps};
 ghost use Rattle.reg_content.specs.Changing.{ChangeFits, writes_row};
@@ -14,12 +15,14 @@ use crate::blocks::set_private;
 use crate::caps::{add_cap, take_cap, take_caps};
 use crate::give::{give_block, give_value, submit};
 use crate::holds::set_hold;
+use crate::journal::add_acts;
 use crate::links::set_agent;
 use crate::pool::add_prefix;
 use crate::queue::add_seat;
 use crate::registries::add_registry;
 use crate::requests::set_state;
 use reg_core::change::Change;
+use reg_core::journal::Act;
 use reg_keeper::keeper::Fault;
 use reg_statements::write::fault;
 use reg_tables::reports::Reports;
@@ -47,6 +50,59 @@ pub fn apply<S: Reports>(
     make(alloc, &mut tx, change)?;
     commit(tx)?;
     Ok(())
+}
+
+/// Makes a change whole and adds its acts behind the last one, whose number is told, or does neither. It
+/// tells the number of the last act then. Where a number is no longer one of 32 bits, it is a fault of
+/// the store.
+pub fn record<S: Reports>(
+    alloc: Global,
+    conn: &mut Connection<S>,
+    change: &Change,
+    acts: &[Act],
+    last: u32,
+) -> Result<u32, Fault>
+    requires keeping { IsKeeping (state S.Store conn.old) }
+    requires kept { Holds (state S.Store conn.old)
+        → WellKept (world_in (state S.Store conn.old)) }
+    requires fits { Holds (state S.Store conn.old)
+        → CanApply (world_in (state S.Store conn.old)) change.now }
+    requires last { Holds (state S.Store conn.old)
+        → last ≡ length (world_in (state S.Store conn.old)).journal }
+    ensures alters { Alters (state S.Store conn.old) (state S.Store conn.new) result
+        (λ w. applied_with acts.now w change.now) }
+    ensures last { IfOk result (λ number. number ≡ last + length acts.now) }
+{
+    if acts.is_empty() {
+        apply(alloc, conn, change)?;
+        return Ok(last);
+    }
+    let mut tx = conn.transaction();
+    let number = make_with(alloc, &mut tx, change, acts, last)?;
+    commit(tx)?;
+    Ok(number)
+}
+
+/// Makes a change to what a transaction sees, and adds its acts, of which there is one at least.
+fn make_with<S: Reports>(
+    alloc: Global,
+    tx: &mut Transaction<'_, S>,
+    change: &Change,
+    acts: &[Act],
+    last: u32,
+) -> Result<u32, Fault>
+    requires { acts.now ≡ [] → ⊥ }
+    ensures same_reference { tx.new.conn.ghost_name ≡ tx.old.conn.ghost_name }
+    ensures steps { Steps (state S.Store tx.old.conn.now) (state S.Store tx.new.conn.now) result
+        (λ (w : World). ChangeFits change.now w × (last ≡ length w.journal))
+        (λ (w : World). applied_with acts.now w change.now) }
+    ensures last { IfOk result (λ number. number ≡ last + length acts.now) }
+{
+    if !writes_row(change) {
+        return add_acts(tx, acts, last);
+    }
+    make(alloc, tx, change)?;
+    add_acts(tx, acts, last)
 }
 
 /// Whether a change writes to a row: all do, but that which takes away the capabilities at no digest.

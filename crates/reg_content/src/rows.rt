@@ -6,6 +6,7 @@ ghost use Rattle.reg_core.specs.World.{Link as LinkName, Place, RequestName, Sea
 ghost use Rattle.reg_core.specs.declared.advice.Advice.{Advice as AdviceValue};
 ghost use Rattle.reg_core.specs.declared.capability.Cap.{Cap};
 ghost use Rattle.reg_core.specs.declared.holding.Holder.{Holder};
+ghost use Rattle.reg_core.specs.declared.journal.Act.{Act};
 ghost use Rattle.reg_core.specs.declared.request.Case.{Case};
 ghost use Rattle.reg_core.specs.declared.entry.Registration.{Registration};
 ghost use Rattle.reg_statements.specs.Office as office;
@@ -15,6 +16,7 @@ use crate::kept::Kept;
 use reg_core::entry::Entry;
 use reg_core::holding::Holding;
 use reg_core::request::Request;
+use reg_records::acts::NumberedAct;
 use reg_records::advice::ExpertAdvice;
 use reg_records::caps::Grant;
 use reg_records::holds::Hold;
@@ -187,6 +189,20 @@ impl Kept for Link {
     ghost table = { office.agents };
 
     ghost defined = { laws.agents };
+
+    ghost reads = { refl };
+
+    ghost compares = { refl };
+}
+
+impl Kept for NumberedAct {
+    ghost Key = { ℕ };
+
+    ghost Value = { Act };
+
+    ghost table = { office.journal };
+
+    ghost defined = { laws.journal };
 
     ghost reads = { refl };
 

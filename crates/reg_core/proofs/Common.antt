@@ -12,7 +12,7 @@ pub use Rattle.reg_core.specs.declared.reply.Reply.TheVariants.{Accepted, Refuse
 pub use Rattle.std.proofs.lemmas.Bool.Decides.{nat_tests}
 pub use Rattle.std.specs.Cmp.Derive.{both_true}
 pub use Rattle.reg_core.proofs.Queues.{IsQueued, SameOthers, found_queued, get-queue_of, others_after_insert, others_after_update, principal_rows_same, queue_advised, queue_same, queued_found}
-pub use Rattle.reg_core.proofs.Links.{agent_list, link_is, link_stays, own_agent, own_principal, own_principal_rows, principal_list}
+pub use Rattle.reg_core.proofs.Links.{agent_list, link_is, link_stays, own_agent, own_principal, own_principal_rows, own_principal_times, principal_list}
 pub use Rattle.reg_core.proofs.Checks.{all_met, all_met_early, least_policy, not_some, opened, own_is, table_partition, value_policy, was_some, went_on}
 pub use Rattle.reg_maps.proofs.MapLaws.{All-entries, Contains-entries, Contains-keys, Contains-map, IsKeyOrder, ascending-entries, ascending-keys, entries-select, get-at_insert, get-at_remove, get-chosen, get-inserted, get-removed, get-select, get-update, get-updated, insert_keeps, number_keys, pair_keys, same_at, select-insert_same, text_keys, tied, update_keeps}
 pub use Rattle.reg_maps.specs.Maps.{keyed, only_if, same_text, select, text_cmp, update}
@@ -41,15 +41,17 @@ pub use Rattle.reg_early.specs.Terms.{early_term, held_term, is_spent, may_be_he
 pub use Rattle.reg_early.specs.declared.evidence.EarlyEvidence.{EarlyEvidence}
 pub use Rattle.reg_early.specs.declared.term.Term.{Term}
 pub use Rattle.reg_core.proofs.KeyOrders.{block_keys, link_keys, name_keys, place_keys, seat_keys}
+pub use Rattle.reg_core.proofs.Arrivals.{arrival_keys, find-arrived, get-by_arrival}
 pub use Rattle.reg_core.specs.Advice.{has_advice_form, is_advised, is_among, is_given, verdict_word}
 pub use Rattle.reg_core.specs.Allowance.{Ground, allowance_on, allowed, allowed_on, entry_asked, entry_asked_early, entry_kept, ground_of, holding_asked, is_met, is_met_early, may_renew, may_settle, needs_advice, open_policy, or_refusal, own_entry, policy_for, value_for, value_ground}
-pub use Rattle.reg_core.specs.Answer.{Answer, Outcome, admitted, answer, answer_at, as_kind, by_rule, case_by, change_by, change_of, desk_row, expert_answer, item, made_row, own_answer, own_row, public_answer, reply_of, unchanged}
+pub use Rattle.reg_core.specs.Answer.{Answer, Outcome, admitted, answer, answer_at, as_kind, by_rule, case_by, change_by, change_of, desk_row, expert_answer, item, made_row, own_answer, own_row, public_answer, reply_of, times_answer, token_answer, unchanged}
 pub use Rattle.reg_core.specs.Ask.{has_ask_form, has_block_form, has_code_form, has_early_ask_form, has_evidence_form, has_note_form, has_permanence_form, has_renewal_form, has_rfc_form, has_want_form, registry_of, same_ask, same_size}
 pub use Rattle.reg_core.specs.Award.{Allowance, Award, AwardedEntry, awarded_entry, entry_on, given_in, holding_from, new_holding, renewed}
 pub use Rattle.reg_core.specs.BlocksGiven.{IsDueIn}
 pub use Rattle.reg_core.specs.CapRows.{CapPlace, begins_with, by_account, cap_list, cap_place, cap_place_cmp, cap_row, cap_rows, caps_that, is_of}
 pub use Rattle.reg_core.specs.Capability.{has_cap_form, last_until, same_cap, same_kind}
-pub use Rattle.reg_core.specs.Command.{about, has_command_form, kind_of}
+pub use Rattle.reg_core.specs.Arrivals.{arrival, arrival_cmp, arrival_number, by_arrival, waiting_file, waiting_list}
+pub use Rattle.reg_core.specs.Command.{about, asks_for_times, has_command_form, needs_capability}
 pub use Rattle.reg_core.specs.Counting.{counts, entries_in, entry_counts, plus}
 pub use Rattle.reg_core.specs.EarlyAllocations.{MovesTerm}
 pub use Rattle.reg_core.specs.Entry.{entry_row, has_day_form, page_entry, registration_in, with_hold}
@@ -57,6 +59,7 @@ pub use Rattle.reg_core.specs.File.{experts_of, file, name_of, opinions_of, same
 pub use Rattle.reg_core.specs.FirstRefusals.{Applies, IsAbove, IsNotEarly, IsShut, Lacks, UnderPolicy, line_of, want_of}
 pub use Rattle.reg_core.specs.Holding.{ShownHolding, holder_in, holding_row, holding_rows, listed_rows, masked, masked_blocks, with_mark}
 pub use Rattle.reg_core.specs.Item.{item_name}
+pub use Rattle.reg_core.specs.Journal.{act_by, acts_if, acts_in_order, acts_of, acts_where, deed_about, is_about, is_by, is_name_of, is_on, deeds_of, recorded, recorded_if, stamp_of, with_acts}
 pub use Rattle.reg_core.specs.Laws.{GivesDigests, IsAdvised, IsApproved, IsDone, IsOfAsk, IsRenewedIn, StillAsks, StillGiven, StillStands, TakesJust, TwoWorlds, clerk_cap, founded_world, is_refused}
 pub use Rattle.reg_core.specs.LeastFree.{values_in}
 pub use Rattle.reg_core.specs.Link.{agent_rows, has_link_form, principal_names}
@@ -70,10 +73,11 @@ pub use Rattle.reg_core.specs.Registry.{has_table_form}
 pub use Rattle.reg_core.specs.Request.{case_of, has_state_form, is_pending, read_state, request_row, request_rows, state_word}
 pub use Rattle.reg_core.specs.Rules.{advise_rule, agent_rule, all_rule, approve_rule, assign_rule, change_to_give, decline_rule, define_rule, give_rule, grant_rule, has_token, hold_rule, link_rule, mark_rule, new_advice_rule, new_hold_rule, one_rule, pool_rule, private_rule, revoke_account_rule, revoke_digits_rule, revoke_rule, submit_rule, withdraw_rule}
 pub use Rattle.reg_core.specs.Run.{Event, have_forms, run, step_of, world_after}
-pub use Rattle.reg_core.specs.Step.{Stepped, acts_as_clerk, answer_to, clerk_answer, desk_by, is_clerk, step}
-pub use Rattle.reg_core.specs.Striking.{AreAlikeTo, HasNoneUnseen, ShowSame, StagesAreOfRun, UnseenLeaveNoTrace, reply_without}
+pub use Rattle.reg_core.specs.Step.{Stepped, acts_as_clerk, answer_to, carried, clerk_answer, desk_by, is_clerk, stamp_in, step}
+pub use Rattle.reg_core.specs.Striking.{AreAlikeTo, HasNoneUnseen, ShowSame, StagesAreOfRun, UnseenLeaveNoTrace, HasNoneUnseenActs, acts_without, is_seen, lists_acts, reply_without}
+pub use Rattle.reg_core.specs.Times.{Times, decides, last_moment, submits, times_of, times_of_requests_by, times_row, times_rows}
 pub use Rattle.reg_core.specs.Unseen.{Stage, is_hidden, is_outside, is_unseen, reveals_if, speaks_for, stage, stages, stays_in, struck}
-pub use Rattle.reg_core.specs.View.{Personal, Queued, agents_of, as_queued, cap_at, entries_of, holdings_of, personal, principal_rows_of, principals_of, published, queue_of, queued_to, requests_by, requests_of, view_of, with_personal}
+pub use Rattle.reg_core.specs.View.{OwnTimes, Personal, Queued, agents_of, as_queued, cap_at, entries_of, holdings_of, own_times, personal, principal_rows_of, principals_of, published, queue_of, queued_to, requests_by, requests_of, times_by, times_seen, view_by_now, view_of, with_personal}
 pub use Rattle.reg_core.specs.WellKept.{CanApply, WellKept, has_entry_form, has_grant_form, has_holding_form, has_registry_form, has_request_form, has_seat_form, is_held_by, is_open_at, is_registered_at, is_registered_to, is_size_asked, stands_in}
 pub use Rattle.reg_core.specs.World.{Link, Place, RequestName, Seat, World, applied, applied_if, empty_world, in_state, link_cmp, name_cmp, pending, place_cmp, seat_cmp, without}
 pub use Rattle.reg_core.specs.declared.advice.Advice.{Advice}
@@ -94,6 +98,7 @@ pub use Rattle.reg_core.specs.declared.command.ClerkCommand.{ClerkCommand}
 pub use Rattle.reg_core.specs.declared.command.Command.{Command}
 pub use Rattle.reg_core.specs.declared.command.ExpertCommand.{ExpertCommand}
 pub use Rattle.reg_core.specs.declared.command.PublicCommand.{PublicCommand}
+pub use Rattle.reg_core.specs.declared.command.TimesCommand.{TimesCommand}
 pub use Rattle.reg_core.specs.declared.decide.Decision.{Decision}
 pub use Rattle.reg_core.specs.declared.entry.Entry.{Entry}
 pub use Rattle.reg_core.specs.declared.entry.PageEntry.{PageEntry}
@@ -101,6 +106,9 @@ pub use Rattle.reg_core.specs.declared.entry.Registration.{Registration}
 pub use Rattle.reg_core.specs.declared.holding.Holder.{Holder}
 pub use Rattle.reg_core.specs.declared.holding.Holding.{Holding}
 pub use Rattle.reg_core.specs.declared.item.Item.{Item}
+pub use Rattle.reg_core.specs.declared.journal.Act.{Act}
+pub use Rattle.reg_core.specs.declared.journal.Deed.{Deed}
+pub use Rattle.reg_core.specs.declared.journal.Stamp.{Stamp}
 pub use Rattle.reg_core.specs.declared.refusal.Refusal.{Refusal}
 pub use Rattle.reg_core.specs.declared.request.Case.{Case}
 pub use Rattle.reg_core.specs.declared.request.Given.{Given}

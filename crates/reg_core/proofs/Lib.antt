@@ -1,7 +1,9 @@
+pub mod FirstDigits
 pub mod Places
 pub mod EntriesInRange
 pub mod Cases
 pub mod KeyOrders
+pub mod Arrivals
 pub mod WordsReadBack
 pub mod SamenessIsDecided
 pub mod Links
@@ -18,3 +20,4 @@ pub mod Allowances
 pub mod Chosen
 pub mod Outcomes
 pub mod Fitting
+pub mod Journals

@@ -11,12 +11,13 @@ use Rattle.std.specs.Ordering.{eq_by_cmp, ordering_then}
 use Rattle.std.proofs.lemmas.Cmp.{tied_itself}
 use Rattle.std.proofs.lemmas.List.Elements.{All-map, recursion_from_All}
 use Rattle.std.proofs.lemmas.Slice.Eq.{bytes_eq-Decides}
-use Rattle.reg_maps.specs.Maps.{text_cmp, same_text, only_if}
+use Rattle.reg_maps.specs.Maps.{text_cmp, same_text, only_if, select}
 use Rattle.reg_maps.proofs.KeySets.{is_inserted}
 use Rattle.reg_maps.proofs.MapLaws.{get-chosen, text_keys, same_at, get-at_insert, get-removed, get-select, All-entries, Contains-map, Contains-keys, ascending-keys}
 use Rattle.reg_core.specs.Link.{agent_rows, principal_names}
 use Rattle.reg_core.specs.Lists.{AccountList}
-use Rattle.reg_core.specs.View.{agents_of, principals_of, principal_rows_of, requests_by, requests_of}
+use Rattle.reg_core.specs.Times.{times_of, times_of_requests_by}
+use Rattle.reg_core.specs.View.{agents_of, own_times, principals_of, principal_rows_of, requests_by, requests_of, times_by}
 use Rattle.reg_core.specs.World.{World, Link, RequestName, link_cmp, applied}
 use Rattle.reg_core.specs.declared.change.Change.TheVariants.{SetAgent}
 use Rattle.reg_core.specs.declared.request.Case.{Case}
@@ -71,32 +72,39 @@ own_principal account principal w =
     ∙ kept_anyway (same_text account account) (get w.agents (principal, account))
     (same_text-itself account)
 
--- and among the requests of its principals those of each of them
-pub own_principal_rows : (account principal : List ℕ) (w : World)
-    → contains_key w.agents (principal, account) ≡ true
-    → requests_by principal (principal_rows_of account w) ≡ requests_of principal w
-own_principal_rows account principal w there = same_at name_keys _ _ (λ name.
-    get-select name_keys (λ name case. only_if (same_text name.0 principal) case)
-    (principal_rows_of account w) name
-    ∙ ap (option_and_then (λ case. only_if (same_text name.0 principal) case))
-    (get-select name_keys
-    (λ name case. only_if (contains_key w.agents (name.0, account)) case) w.requests name)
+-- and among what is said of the requests of its principals what is said of those of each of them
+pub of_principal : {X : Type 0} (said : RequestName → Case → X) (account principal : List ℕ)
+    (w : World) → contains_key w.agents (principal, account) ≡ true
+    → select (λ (name : RequestName) (x : X). only_if (same_text name.0 principal) x)
+    (select (λ (name : RequestName) (case : Case).
+    only_if (contains_key w.agents (name.0, account)) (said name case)) w.requests)
+    ≡ select (λ (name : RequestName) (case : Case).
+    only_if (same_text name.0 principal) (said name case)) w.requests
+of_principal {X} said account principal w there = same_at name_keys _ _ (λ name.
+    get-select name_keys (λ (name : RequestName) (x : X). only_if (same_text name.0 principal) x)
+    (select (λ (name : RequestName) (case : Case).
+    only_if (contains_key w.agents (name.0, account)) (said name case)) w.requests) name
+    ∙ ap (option_and_then (λ (x : X). only_if (same_text name.0 principal) x))
+    (get-select name_keys (λ (name : RequestName) (case : Case).
+    only_if (contains_key w.agents (name.0, account)) (said name case)) w.requests name)
     ∙ at name (get w.requests name)
-    ∙ sym (get-select name_keys (λ name case. only_if (same_text name.0 principal) case)
-    w.requests name))
+    ∙ sym (get-select name_keys (λ (name : RequestName) (case : Case).
+    only_if (same_text name.0 principal) (said name case)) w.requests name))
   where
     at : (name : RequestName) (o : Option Case)
-        → option_and_then (λ case. only_if (same_text name.0 principal) case)
-        (option_and_then (λ case. only_if (contains_key w.agents (name.0, account)) case) o)
-        ≡ option_and_then (λ case. only_if (same_text name.0 principal) case) o
+        → option_and_then (λ (x : X). only_if (same_text name.0 principal) x)
+        (option_and_then (λ (case : Case).
+        only_if (contains_key w.agents (name.0, account)) (said name case)) o)
+        ≡ option_and_then (λ (case : Case).
+        only_if (same_text name.0 principal) (said name case)) o
     at name None = refl
     at name (Some case) =
         by (same_text name.0 principal) (contains_key w.agents (name.0, account)) refl refl
       where
         by : (same reads : Bool) → same_text name.0 principal ≡ same
             → contains_key w.agents (name.0, account) ≡ reads
-            → option_and_then (λ case. only_if same case) (only_if reads case)
-            ≡ only_if same case
+            → option_and_then (λ (x : X). only_if same x) (only_if reads (said name case))
+            ≡ only_if same (said name case)
         by same true s r = refl
         by false false s r = refl
         by true false s r =
@@ -104,6 +112,19 @@ own_principal_rows account principal w there = same_at name_keys _ _ (λ name.
             ap (λ p. contains_key w.agents (p, account)) ((bytes_eq-Decides name.0 principal).0 s)
             ∙ there in
             absurd (cc)
+
+-- so the requests of each principal are among them, and their times
+pub own_principal_rows : (account principal : List ℕ) (w : World)
+    → contains_key w.agents (principal, account) ≡ true
+    → requests_by principal (principal_rows_of account w) ≡ requests_of principal w
+own_principal_rows = of_principal (λ name case. case)
+
+pub own_principal_times : (account principal : List ℕ) (w : World)
+    → contains_key w.agents (principal, account) ≡ true
+    → times_of_requests_by principal (own_times account w).principals
+    ≡ times_by (λ applicant. same_text applicant principal) w
+own_principal_times account principal w =
+    of_principal (times_of w.journal) account principal w
 
 -- ---- In which order
 

@@ -1,5 +1,5 @@
 -- What a caller is answered, as a function of what it sees.
-use Rattle.std.specs.Prelude.{ℕ, nat_le, List, Option, Some, None, Result, Ok, Err, if◌then◌else◌}
+use Rattle.std.specs.Prelude.{ℕ, nat_le, List, Option, Some, None, Result, Ok, Err, if◌then◌else◌, option_map}
 use Rattle.std.specs.FinMap.{get, contains_key, keys}
 use Rattle.reg_early.specs.Moment.{is_in_clock, utc_day}
 use Rattle.reg_core.specs.Allowance.{◌>>=◌, or_refusal, allowed}
@@ -10,7 +10,8 @@ use Rattle.reg_core.specs.Page.{page}
 use Rattle.reg_core.specs.Queue.{queue_row, queue_rows, with_advice}
 use Rattle.reg_core.specs.Request.{request_row, request_rows, after}
 use Rattle.reg_core.specs.Rules.{submit_rule, withdraw_rule, private_rule, agent_rule, advise_rule}
-use Rattle.reg_core.specs.View.{Published, Queued, Personal, View, requests_by}
+use Rattle.reg_core.specs.Times.{times_of_requests_by, times_rows}
+use Rattle.reg_core.specs.View.{OwnTimes, Published, Queued, Personal, View, requests_by}
 use Rattle.reg_core.specs.World.{RequestName, pending}
 use Rattle.reg_core.specs.declared.ask.Ask.{Ask}
 use Rattle.reg_core.specs.declared.capability.Cap.{Cap}
@@ -18,13 +19,15 @@ use Rattle.reg_core.specs.declared.capability.Kind.{Kind}
 use Rattle.reg_core.specs.declared.capability.Kind.TheVariants as kind
 use Rattle.reg_core.specs.declared.change.Change.{Change}
 use Rattle.reg_core.specs.declared.command.Command.{Command}
-use Rattle.reg_core.specs.declared.command.Command.TheVariants.{Public, Applicant, Expert, Clerk}
+use Rattle.reg_core.specs.declared.command.Command.TheVariants.{Public, Token, Applicant, Times, Expert, Clerk}
 use Rattle.reg_core.specs.declared.command.ApplicantCommand.{ApplicantCommand}
 use Rattle.reg_core.specs.declared.command.ApplicantCommand.TheVariants.{Own, OwnOne, Submit, Withdraw, Holdings, SetListing, SetAgent, Agents, Principals, PrincipalRows}
 use Rattle.reg_core.specs.declared.command.ExpertCommand.{ExpertCommand}
 use Rattle.reg_core.specs.declared.command.ExpertCommand.TheVariants.{Queue, Advise}
 use Rattle.reg_core.specs.declared.command.PublicCommand.{PublicCommand}
 use Rattle.reg_core.specs.declared.command.PublicCommand.TheVariants.{Registries, Registry, RegistryCsv, PoolList, BlocksCsv}
+use Rattle.reg_core.specs.declared.command.TimesCommand.{TimesCommand}
+use Rattle.reg_core.specs.declared.command.TimesCommand.TheVariants as times
 use Rattle.reg_core.specs.declared.told.Told.{Told}
 use Rattle.reg_core.specs.declared.told.Told.TheVariants as tells
 use Rattle.reg_core.specs.declared.decide.Decision.{Decision}
@@ -113,6 +116,18 @@ as_kind kind (Some me) moment f = do
   cap ← admitted (Some me.0) moment kind
   f me.0.account me.1
 
+-- ---- Anybody with a valid token
+
+-- the capability, where it is valid at a moment
+abbrev pub in_force : Option Cap → ℕ → Result Cap Refusal
+in_force None moment = Err no.Token
+in_force (Some cap) moment = if nat_le cap.until moment then Err no.Token else Ok cap
+
+abbrev pub token_answer : Option (Cap × Personal) → ℕ → Answer
+token_answer me moment = do
+  cap ← in_force (option_map (λ (of : Cap × Personal). of.0) me) moment
+  unchanged (tells.InUse cap)
+
 -- ---- An applicant
 
 -- what is told of a request that its applicant makes, or made before
@@ -147,6 +162,14 @@ own_answer p account my (Submit reference ask) =
     by_rule (submit_rule (allowed p account ask) (account, reference) ask existing)
     (λ decision. made_row (account, reference) ask existing)
 
+-- the times of its own requests; or of those of a principal
+abbrev pub times_answer : List ℕ → Personal → Option OwnTimes → TimesCommand → Answer
+times_answer account my None command = Err no.Token
+times_answer account my (Some seen) times.Own = unchanged (tells.Times (times_rows seen.own))
+times_answer account my (Some seen) (times.Principal principal) = do
+  link ← or_refusal no.Principal (get my.principals (principal, account))
+  unchanged (tells.Times (times_rows (times_of_requests_by principal seen.principals)))
+
 -- ---- An expert
 
 -- a queued request, as its expert sees it
@@ -166,8 +189,11 @@ expert_answer account my (Advise applicant reference advice) = do
 -- kind there, since a clerk is answered over the whole world; told is its reply
 abbrev pub answer_at : View → ℕ → Command → Answer
 answer_at v moment (Public command) = public_answer v.published (utc_day moment) command
+answer_at v moment Token = token_answer v.me moment
 answer_at v moment (Applicant command) =
     as_kind kind.Applicant v.me moment (λ account my. own_answer v.published account my command)
+answer_at v moment (Times command) =
+    as_kind kind.Applicant v.me moment (λ account my. times_answer account my v.times command)
 answer_at v moment (Expert command) =
     as_kind kind.Expert v.me moment (λ account my. expert_answer account my command)
 answer_at v moment (Clerk command) = as_kind kind.Clerk v.me moment (λ account my. Err no.Kind)

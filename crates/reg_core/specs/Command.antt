@@ -1,6 +1,7 @@
 -- What is so of each command by itself: whose it is, which request it is about, and whether it has
 -- its form.
-use Rattle.std.specs.Prelude.{Bool, true, ◌&&◌, ◌^◌, nat_lt, List, ℕ, Option, Some, None, option_map}
+use Rattle.std.specs.Prelude.{Bool, true, false, ◌&&◌, ◌^◌, nat_lt, List, ℕ, Option, Some, None, option_map}
+use Rattle.reg_early.specs.Forms.{is_day}
 use Rattle.reg_blocks.specs.Block.{is_block}
 use Rattle.reg_ranges.specs.Texts.{is_text}
 use Rattle.reg_core.specs.Names.{is_name, is_token, is_digits}
@@ -13,18 +14,31 @@ use Rattle.reg_core.specs.declared.capability.Cap.{Cap}
 use Rattle.reg_core.specs.declared.capability.Kind.{Kind}
 use Rattle.reg_core.specs.declared.capability.Kind.TheVariants as kind
 use Rattle.reg_core.specs.declared.command.Command.{Command}
-use Rattle.reg_core.specs.declared.command.Command.TheVariants.{Public, Applicant, Expert, Clerk}
+use Rattle.reg_core.specs.declared.command.Command.TheVariants.{Public, Token, Applicant, Times, Expert, Clerk}
 use Rattle.reg_core.specs.declared.command.PublicCommand.TheVariants.{Registries, Registry, RegistryCsv, PoolList, BlocksCsv}
 use Rattle.reg_core.specs.declared.command.ApplicantCommand.TheVariants.{Own, OwnOne, Submit, Withdraw, Holdings, SetListing, SetAgent, Agents, Principals, PrincipalRows}
 use Rattle.reg_core.specs.declared.command.ExpertCommand.TheVariants.{Queue, Advise}
-use Rattle.reg_core.specs.declared.command.ClerkCommand.TheVariants.{AllRequests, OneRequest, AssignExpert, Approve, Decline, SetHold, Define, AddPool, Grant, Revoke, PendingRequests, AllCapabilities, RevokeDigits, RevokeAccount, CountRows}
+use Rattle.reg_core.specs.declared.command.TimesCommand.TheVariants as times
+use Rattle.reg_core.specs.declared.command.ClerkCommand.TheVariants.{AllRequests, OneRequest, AssignExpert, Approve, Decline, SetHold, Define, AddPool, Grant, Revoke, PendingRequests, AllCapabilities, RevokeDigits, RevokeAccount, CountRows, ActsOn, ActsBy, ActsAbout}
 
--- the kind of capability that a command needs; none where it is anybody's
+-- the kind of capability that a command needs; none where it needs none, or any will do
 abbrev pub kind_of : Command → Option Kind
 kind_of (Public command) = None
+kind_of Token = None
 kind_of (Applicant command) = Some kind.Applicant
+kind_of (Times command) = Some kind.Applicant
 kind_of (Expert command) = Some kind.Expert
 kind_of (Clerk command) = Some kind.Clerk
+
+-- whether it needs a capability
+abbrev pub needs_capability : Command → Bool
+needs_capability (Public command) = false
+needs_capability command = true
+
+-- whether it asks when requests came
+abbrev pub asks_for_times : Command → Bool
+asks_for_times (Times command) = true
+asks_for_times command = false
 
 -- a request of the caller's account, if the caller has a capability
 abbrev pub own_name : Option Cap → List ℕ → Option RequestName
@@ -38,6 +52,7 @@ about by (Public (Registry name)) = None
 about by (Public (RegistryCsv name)) = None
 about by (Public PoolList) = None
 about by (Public BlocksCsv) = None
+about by Token = None
 about by (Applicant Own) = None
 about by (Applicant (OwnOne reference)) = own_name by reference
 about by (Applicant (Submit reference ask)) = own_name by reference
@@ -48,6 +63,7 @@ about by (Applicant (SetAgent agent reads)) = None
 about by (Applicant Agents) = None
 about by (Applicant Principals) = None
 about by (Applicant (PrincipalRows principal)) = None
+about by (Times command) = None
 about by (Expert Queue) = None
 about by (Expert (Advise account reference advice)) = Some (account, reference)
 about by (Clerk AllRequests) = None
@@ -65,6 +81,9 @@ about by (Clerk AllCapabilities) = None
 about by (Clerk (RevokeDigits digits)) = None
 about by (Clerk (RevokeAccount account)) = None
 about by (Clerk CountRows) = None
+about by (Clerk (ActsOn day)) = None
+about by (Clerk (ActsBy account)) = None
+about by (Clerk (ActsAbout account reference)) = Some (account, reference)
 
 -- its texts and numbers have their forms; whether a number may be in the pool is no matter of
 -- form: the rule decides it
@@ -74,6 +93,7 @@ has_command_form (Public (Registry name)) = is_name name
 has_command_form (Public (RegistryCsv name)) = is_name name
 has_command_form (Public PoolList) = true
 has_command_form (Public BlocksCsv) = true
+has_command_form Token = true
 has_command_form (Applicant Own) = true
 has_command_form (Applicant (OwnOne reference)) = is_name reference
 has_command_form (Applicant (Submit reference ask)) = is_name reference && has_ask_form ask
@@ -84,6 +104,8 @@ has_command_form (Applicant (SetAgent agent reads)) = is_name agent
 has_command_form (Applicant Agents) = true
 has_command_form (Applicant Principals) = true
 has_command_form (Applicant (PrincipalRows principal)) = is_name principal
+has_command_form (Times times.Own) = true
+has_command_form (Times (times.Principal principal)) = is_name principal
 has_command_form (Expert Queue) = true
 has_command_form (Expert (Advise account reference advice)) =
     is_name account && is_name reference && has_advice_form advice
@@ -104,3 +126,6 @@ has_command_form (Clerk AllCapabilities) = true
 has_command_form (Clerk (RevokeDigits digits)) = is_digits digits
 has_command_form (Clerk (RevokeAccount account)) = is_name account
 has_command_form (Clerk CountRows) = true
+has_command_form (Clerk (ActsOn day)) = is_day day
+has_command_form (Clerk (ActsBy account)) = is_name account
+has_command_form (Clerk (ActsAbout account reference)) = is_name account && is_name reference

@@ -9,6 +9,7 @@ abbrev pub segment_name : Segment → List ℕ
 segment_name in_path.Account = codes "account"
 segment_name in_path.Agent = codes "agent"
 segment_name in_path.Block = codes "block"
+segment_name in_path.Day = codes "day"
 segment_name in_path.Digits = codes "digits"
 segment_name in_path.Expert = codes "expert"
 segment_name in_path.Max = codes "max"

@@ -14,35 +14,36 @@ use Rattle.reg_ranges.specs.Tables.{Table}
 use Rattle.reg_core.specs.CapRows.{begins_with, is_of, cap_row, caps_that}
 use Rattle.reg_core.specs.Capability.{last_until}
 use Rattle.reg_core.specs.Counting.{counts}
-use Rattle.reg_core.specs.Command.{kind_of, has_command_form}
-use Rattle.reg_core.specs.Lists.{CapList, HaveGone, PendingList, Shows, BlockList, IsRow, IsOwnRow, IsFile, IsItem, OwnList, HasHoldingOf, HoldingList, QueueList, AccountList, ShowsMark, SaidOfAgent}
+use Rattle.reg_core.specs.Command.{asks_for_times, needs_capability, has_command_form}
+use Rattle.reg_core.specs.Lists.{CapList, HaveGone, WaitingList, TimesList, Shows, BlockList, IsRow, IsOwnRow, IsFile, IsItem, OwnList, HasHoldingOf, HoldingList, QueueList, AccountList, ShowsMark, SaidOfAgent}
+use Rattle.reg_core.specs.Journal.{acts_where, is_about, is_by, is_on, recorded, stamp_of_job}
 use Rattle.reg_core.specs.Names.{is_token, is_digest}
 use Rattle.reg_core.specs.Request.{is_pending, request_rows}
 use Rattle.reg_core.specs.Rules.{change_to_give}
 use Rattle.reg_core.specs.Run.{Event, have_forms, world_after}
 use Rattle.reg_core.specs.Step.{answer_to, step}
-use Rattle.reg_core.specs.View.{published, cap_at, view_of}
+use Rattle.reg_core.specs.View.{published, cap_at, view_of, view_by_now}
 use Rattle.reg_core.specs.WellKept.{WellKept, CanApply}
-use Rattle.reg_core.specs.World.{World, Place, RequestName, empty_world, applied}
+use Rattle.reg_core.specs.World.{World, Place, RequestName, empty_world}
 use Rattle.reg_core.specs.declared.advice.Advice.{Advice}
 use Rattle.reg_core.specs.declared.advice.Verdict.TheVariants.{For}
 use Rattle.reg_core.specs.declared.ask.Ask.{Ask}
 use Rattle.reg_core.specs.declared.ask.Ask.TheVariants.{Code, Early, Renew, Permanent, Block}
 use Rattle.reg_core.specs.declared.capability.Cap.{Cap}
 use Rattle.reg_core.specs.declared.capability.CapRow.{CapRow}
-use Rattle.reg_core.specs.declared.capability.Kind.{Kind}
 use Rattle.reg_core.specs.declared.capability.Kind.TheVariants as kind
 use Rattle.reg_core.specs.declared.change.Change.{Change}
 use Rattle.reg_core.specs.declared.change.Change.TheVariants.{Grant as GrantIt}
 use Rattle.reg_core.specs.declared.command.ClerkCommand.{ClerkCommand}
 use Rattle.reg_core.specs.declared.command.Command.{Command}
-use Rattle.reg_core.specs.declared.command.Command.TheVariants.{Public, Applicant, Expert, Clerk}
+use Rattle.reg_core.specs.declared.command.Command.TheVariants.{Public, Token, Applicant, Times, Expert, Clerk}
+use Rattle.reg_core.specs.declared.command.TimesCommand.TheVariants as times
 use Rattle.reg_core.specs.declared.command.ApplicantCommand.TheVariants.{Own, OwnOne, Submit, Withdraw, Holdings as OwnHoldings, SetListing, SetAgent, Agents, Principals, PrincipalRows}
 use Rattle.reg_core.specs.declared.command.ExpertCommand.TheVariants.{Queue, Advise}
-use Rattle.reg_core.specs.declared.command.ClerkCommand.TheVariants.{AllRequests, OneRequest, AssignExpert, Approve, Decline, SetHold, Define, AddPool, Grant, Revoke, PendingRequests, AllCapabilities, RevokeDigits, RevokeAccount, CountRows}
+use Rattle.reg_core.specs.declared.command.ClerkCommand.TheVariants.{AllRequests, OneRequest, AssignExpert, Approve, Decline, SetHold, Define, AddPool, Grant, Revoke, PendingRequests, AllCapabilities, RevokeDigits, RevokeAccount, CountRows, ActsOn, ActsBy, ActsAbout}
 use Rattle.reg_core.specs.declared.command.PublicCommand.TheVariants.{Registries, Registry, RegistryCsv, PoolList, BlocksCsv}
 use Rattle.reg_core.specs.declared.told.Told.{Told}
-use Rattle.reg_core.specs.declared.told.Told.TheVariants.{Names, Page, Sheet, Pool, Blocks, Made, Row, Rows, Held, Holdings, Agent, Accounts, Item, Items, Desk, Desks, Filed, Marked, Defined, Pooled, Granted, Revoked, Cases, Capabilities, Counts}
+use Rattle.reg_core.specs.declared.told.Told.TheVariants.{Names, Page, Sheet, Pool, Blocks, Made, Row, Rows, Times as TimesOf, Held, Holdings, Agent, Accounts, Item, Items, Desk, Desks, Filed, Marked, Defined, Pooled, Granted, InUse, Revoked, Waiting, Capabilities, Counts, Acts, ActsAbout as ActsOf}
 use Rattle.reg_core.specs.declared.holding.Holder.{Holder}
 use Rattle.reg_core.specs.declared.refusal.Refusal.{Refusal}
 use Rattle.reg_core.specs.declared.reply.Reply.{Reply}
@@ -81,6 +82,24 @@ TwoWorlds digest_of =
     → WellKept w → WellKept v → IsNoClerk w caller
     → view_of w caller ≡ view_of v caller → AreAlike digest_of w v caller moment command
 
+-- the caller is answered alike in both worlds, and then sees the same by now in both
+pub record AreAlikeByNow (digest_of : List ℕ → List ℕ) (w v : World) (caller : Option (List ℕ))
+    (moment : ℕ) (command : Command) : Type 0 where
+  pub replies : (step digest_of w caller moment command).reply
+      ≡ (step digest_of v caller moment command).reply
+  pub views : view_by_now (step digest_of w caller moment command).world caller
+      ≡ view_by_now (step digest_of v caller moment command).world caller
+
+-- the view without times is enough for that, for each command that asks for no times: two well kept
+-- worlds that show a caller who is no clerk the same by now answer it alike, and then show it the same
+-- by now
+abbrev pub TwoWorldsByNow : (List ℕ → List ℕ) → Type 0
+TwoWorldsByNow digest_of =
+    (w v : World) (caller : Option (List ℕ)) (moment : ℕ) (command : Command)
+    → WellKept w → WellKept v → IsNoClerk w caller
+    → asks_for_times command ≡ false → view_by_now w caller ≡ view_by_now v caller
+    → AreAlikeByNow digest_of w v caller moment command
+
 -- ---- Well kept
 
 -- what a step changes fits the world that it changes
@@ -112,6 +131,7 @@ IsDone digest_of w by moment (Public (RegistryCsv name)) (Sheet page) =
 IsDone digest_of w by moment (Public PoolList) (Pool prefixes) = prefixes ≡ keys w.pool
 IsDone digest_of w by moment (Public BlocksCsv) (Blocks rows) =
     BlockList w rows
+IsDone digest_of w by moment Token (InUse cap) = by ≡ Some cap
 IsDone digest_of w by moment (Applicant Own) (Rows rows) =
     (cap : Cap) × (by ≡ Some cap) × OwnList w cap.account rows
 IsDone digest_of w by moment (Applicant (OwnOne reference)) (Row row) = IsOwnRow w by reference row
@@ -137,6 +157,11 @@ IsDone digest_of w by moment (Applicant Principals) (Accounts names) =
 IsDone digest_of w by moment (Applicant (PrincipalRows principal)) (Rows rows) =
     (cap : Cap) × (by ≡ Some cap) × (contains_key w.agents (principal, cap.account) ≡ true)
     × OwnList w principal rows
+IsDone digest_of w by moment (Times times.Own) (TimesOf rows) =
+    (cap : Cap) × (by ≡ Some cap) × TimesList w cap.account rows
+IsDone digest_of w by moment (Times (times.Principal principal)) (TimesOf rows) =
+    (cap : Cap) × (by ≡ Some cap) × (contains_key w.agents (principal, cap.account) ≡ true)
+    × TimesList w principal rows
 IsDone digest_of w by moment (Expert Queue) (Items rows) =
     (cap : Cap) × (by ≡ Some cap) × QueueList w cap.account rows
 IsDone digest_of w by moment (Expert (Advise account reference advice)) (Item row) =
@@ -160,7 +185,7 @@ IsDone digest_of w by moment (Clerk (AddPool prefix)) (Pooled given) =
 IsDone digest_of w by moment (Clerk (Grant token cap)) (Granted given) =
     (given ≡ cap) × (get w.caps (digest_of token) ≡ Some cap)
 IsDone digest_of w by moment (Clerk (Revoke token)) Revoked = get w.caps (digest_of token) ≡ None
-IsDone digest_of w by moment (Clerk PendingRequests) (Cases files) = PendingList w files
+IsDone digest_of w by moment (Clerk PendingRequests) (Waiting files) = WaitingList w files
 IsDone digest_of w by moment (Clerk AllCapabilities) (Capabilities rows) = CapList w rows
 IsDone digest_of w by moment (Clerk (RevokeDigits digits)) (Capabilities rows) =
     HaveGone w (begins_with digits) rows
@@ -168,6 +193,12 @@ IsDone digest_of w by moment (Clerk (RevokeAccount account)) (Capabilities rows)
     HaveGone w (is_of account) rows
 IsDone digest_of w by moment (Clerk CountRows) (Counts given) =
     given ≡ counts moment (utc_day moment) w
+IsDone digest_of w by moment (Clerk (ActsOn day)) (Acts acts) = acts ≡ acts_where (is_on day) w
+IsDone digest_of w by moment (Clerk (ActsBy account)) (Acts acts) =
+    acts ≡ acts_where (is_by account) w
+IsDone digest_of w by moment (Clerk (ActsAbout account reference)) (ActsOf acts) =
+    IsSome (get w.requests (account, reference))
+    × (acts ≡ acts_where (is_about (account, reference)) w)
 IsDone digest_of w by moment command told = ⊥
 
 -- a refusal says nothing of the world
@@ -267,9 +298,9 @@ pub record IsStillValid (w v : World) (caller : Option (List ℕ)) (moment : ℕ
   pub valid : moment < after.until
 
 -- the caller may still act as it did, where that needs a capability
-abbrev pub MayRepeat : World → World → Option (List ℕ) → ℕ → Option Kind → Type 0
-MayRepeat w v caller moment None = Unit {0}
-MayRepeat w v caller moment (Some kind) = IsStillValid w v caller moment
+abbrev pub MayRepeat : World → World → Option (List ℕ) → ℕ → Bool → Type 0
+MayRepeat w v caller moment false = Unit {0}
+MayRepeat w v caller moment true = IsStillValid w v caller moment
 
 -- a command that was accepted and is given again as the next step is accepted, and changes nothing
 abbrev pub RepeatsActOnce : (List ℕ → List ℕ) → Type 0
@@ -277,7 +308,7 @@ RepeatsActOnce digest_of =
     (w : World) (caller : Option (List ℕ)) (first second : ℕ) (command : Command)
     → let v = (step digest_of w caller first command).world in
     is_refused (step digest_of w caller first command).reply ≡ false → is_in_clock second ≡ true
-    → MayRepeat w v caller second (kind_of command)
+    → MayRepeat w v caller second (needs_capability command)
     → (is_refused (step digest_of v caller second command).reply ≡ false)
     × ((step digest_of v caller second command).world ≡ v)
 
@@ -373,14 +404,14 @@ pub record TakesJust (old new : FinMap text_cmp Cap) (chosen : CapRow → Bool) 
   pub none : (digest : List ℕ) → get old digest ≡ None → get new digest ≡ None
 
 -- a clerk who is told of capabilities that have gone after such a command took just these, and nothing
--- else changes; the token in use keeps its capability
+-- else changes but the journal; the token in use keeps its capability
 abbrev pub TookJust : (List ℕ → List ℕ) → World → Option (List ℕ) → ℕ → ClerkCommand
     → (CapRow → Bool) → List CapRow → Type 0
 TookJust digest_of w caller moment command chosen rows =
     let after = step digest_of w caller moment (Clerk command) in
     after.reply ≡ Accepted (Capabilities rows)
     → TakesJust w.caps after.world.caps chosen rows
-    × (after.world ≡ record w { caps = after.world.caps })
+    × (after.world ≡ record w { caps = after.world.caps; journal = after.world.journal })
     × (cap_at after.world caller ≡ cap_at w caller)
 
 -- a clerk who names a token by digits takes away no more than the one capability whose digest begins
@@ -446,9 +477,9 @@ DecidesSame {A} same = (a b : A) → IsTrue (same a b) ↔ (a ≡ b)
 abbrev pub clerk_cap : Cap
 clerk_cap = record { account = codes "clerk"; kind = kind.Clerk; until = last_until }
 
--- the world of a new office, whose first clerk has a token with this digest
+-- the world of a new office, whose first clerk has a token with this digest, without a moment
 abbrev pub founded_world : List ℕ → World
-founded_world digest = applied empty_world (GrantIt digest clerk_cap)
+founded_world digest = recorded (stamp_of_job None) empty_world (GrantIt digest clerk_cap)
 
 abbrev pub FirstWorldsAreWellKept : Type 0
 FirstWorldsAreWellKept =

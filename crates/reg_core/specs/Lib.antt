@@ -12,6 +12,9 @@ pub mod Request
 pub mod Minutes
 pub mod Link
 pub mod File
+pub mod Journal
+pub mod Times
+pub mod Arrivals
 pub mod View
 pub mod Queue
 pub mod CapRows
@@ -31,9 +34,12 @@ pub mod Run
 pub mod Unseen
 pub mod Striking
 pub mod Laws
+pub mod JournalLaws
 pub mod MayBeGiven
 pub mod BlocksGiven
 pub mod EarlyAllocations
 pub mod Agents
 pub mod Item
+pub mod ActKind
+pub mod DeedParts
 pub mod WireRefusal

@@ -5,6 +5,7 @@ use Rattle.std.specs.List.Sorted.{IsStrictlySortedBy, IsStrictlyIncreasing}
 use Rattle.reg_maps.specs.Maps.{text_cmp}
 use Rattle.reg_blocks.specs.Block.{SizedPrefix, block_cmp}
 use Rattle.reg_early.specs.declared.term.Status.TheVariants as status
+use Rattle.reg_core.specs.Arrivals.{arrival_cmp}
 use Rattle.reg_core.specs.CapRows.{cap_place, cap_place_cmp, cap_row}
 use Rattle.reg_core.specs.Entry.{page_entry}
 use Rattle.reg_core.specs.File.{experts_of, name_of, opinions_of}
@@ -12,13 +13,15 @@ use Rattle.reg_core.specs.Holding.{holder_in, holding_row, holding_rows, listed_
 use Rattle.reg_core.specs.Page.{page_entries}
 use Rattle.reg_core.specs.Queue.{queue_rows}
 use Rattle.reg_core.specs.Request.{case_of, is_pending, request_rows, word_of}
+use Rattle.reg_core.specs.Times.{last_moment, submits, times_of, times_row}
 use Rattle.reg_core.specs.View.{published, requests_of, holdings_of, queue_of}
-use Rattle.reg_core.specs.World.{World, name_cmp}
+use Rattle.reg_core.specs.World.{World, RequestName, name_cmp}
 use Rattle.reg_core.specs.declared.capability.Cap.{Cap}
 use Rattle.reg_core.specs.declared.capability.CapRow.{CapRow}
 use Rattle.reg_core.specs.declared.entry.PageEntry.{PageEntry}
 use Rattle.reg_core.specs.declared.entry.Registration.{Registration}
 use Rattle.reg_core.specs.declared.case_file.CaseFile.{CaseFile}
+use Rattle.reg_core.specs.declared.case_file.WaitingFile.{WaitingFile}
 use Rattle.reg_core.specs.declared.holding.Holder.{Holder}
 use Rattle.reg_core.specs.declared.holding.Holding.{Holding}
 use Rattle.reg_core.specs.declared.holding.Listed.{Listed}
@@ -26,6 +29,7 @@ use Rattle.reg_core.specs.declared.page.Page.{Page as PageOf}
 use Rattle.reg_core.specs.declared.queue.QueueRow.{QueueRow}
 use Rattle.reg_core.specs.declared.request.Case.{Case}
 use Rattle.reg_core.specs.declared.request.Request.{Request}
+use Rattle.reg_core.specs.declared.request.RequestTimes.{RequestTimes}
 
 -- ---- Registers
 
@@ -149,6 +153,24 @@ pub record OwnList (w : World) (account : List ℕ) (rows : List Request) : Type
   -- they ascend by reference, so no request has two
   pub ascending : IsStrictlySortedBy name_cmp (map (λ row. (row.account, row.reference)) rows)
 
+-- the row says of a request of the account when it came and when it was decided
+abbrev pub HasTimesOf : World → List ℕ → RequestTimes → Type 0
+HasTimesOf w account row =
+    let name : RequestName = (row.account, row.reference) in
+    (row.account ≡ account) × (case : Case) × (get w.requests name ≡ Some case)
+    × (row ≡ times_row name (times_of w.journal name case))
+
+-- the rows are the times of an account's requests
+pub record TimesList (w : World) (account : List ℕ) (rows : List RequestTimes) : Type 0 where
+  -- each is of a request of the account
+  pub own : All (HasTimesOf w account) rows
+  -- each request of the account has its row among them
+  pub every : (reference : List ℕ) (case : Case)
+      → get w.requests (account, reference) ≡ Some case
+      → Contains rows (times_row (account, reference) (times_of w.journal (account, reference) case))
+  -- they ascend by reference, so no request has two
+  pub ascending : IsStrictlySortedBy name_cmp (map (λ row. (row.account, row.reference)) rows)
+
 -- the block of the row has its holder
 abbrev pub HasHolding : World → Holding → Type 0
 HasHolding w row = get w.blocks row.block ≡ Some (holder_in row)
@@ -184,22 +206,25 @@ pub record QueueList (w : World) (expert : List ℕ) (rows : List QueueRow) : Ty
 
 -- ---- What a clerk lists
 
--- the file is of a request that waits
-abbrev pub IsWaiting : World → CaseFile → Type 0
-IsWaiting w file =
-    IsFile w file.request.account file.request.reference file
-    × (is_pending file.request.state ≡ true)
+-- the file is of a request that waits, with the moment at which it came
+abbrev pub IsWaiting : World → WaitingFile → Type 0
+IsWaiting w waiting =
+    IsFile w waiting.file.request.account waiting.file.request.reference waiting.file
+    × (is_pending waiting.file.request.state ≡ true)
+    × (waiting.submitted ≡ last_moment (submits (name_of waiting.file)) w.journal)
 
 -- the files are those of the requests that wait
-pub record PendingList (w : World) (files : List CaseFile) : Type 0 where
+pub record WaitingList (w : World) (files : List WaitingFile) : Type 0 where
   -- each is of a request that waits
   pub only : All (IsWaiting w) files
   -- each request that waits has its file among them
   pub every : (account reference : List ℕ) (case : Case)
       → get w.requests (account, reference) ≡ Some case → is_pending case.state ≡ true
-      → (file : CaseFile) × Contains files file × IsFile w account reference file
-  -- they ascend by account and reference, so no request has two
-  pub ascending : IsStrictlySortedBy name_cmp (map name_of files)
+      → (waiting : WaitingFile) × Contains files waiting
+      × IsFile w account reference waiting.file
+  -- they are in the order in which they came, so no request has two
+  pub ascending : IsStrictlySortedBy (arrival_cmp w.journal)
+      (map (λ (waiting : WaitingFile). name_of waiting.file) files)
 
 -- the rows are all capabilities
 pub record CapList (w : World) (rows : List CapRow) : Type 0 where

@@ -1,6 +1,6 @@
 -- The forms of names: which lists of bytes are an account, a reference, a registry's name, a
 -- token, a digest.
-use Rattle.std.specs.Prelude.{◌≡◌, ◌≤◌, ℕ, Bool, true, ◌||◌, ◌==◌, nat_le, ◌-◌, ◌++◌, List, length, replicate}
+use Rattle.std.specs.Prelude.{◌≡◌, ◌≤◌, ℕ, Bool, true, ◌||◌, ◌==◌, nat_le, ◌-◌, ◌++◌, List, length, replicate, take}
 use Rattle.std.specs.List.{list_all}
 use Rattle.std.specs.Str.{IsAscii}
 use Rattle.std.specs.Cmp.{first_so, second_so}
@@ -46,6 +46,13 @@ is_digest s = is_run is_digest_byte 64 64 s
 abbrev pub is_digits : List ℕ → Bool
 is_digits s = is_run is_digest_byte 8 64 s
 
+-- the first 12 digits of a digest; and those of this one
+abbrev pub is_first_digits : List ℕ → Bool
+is_first_digits s = is_run is_digest_byte 12 12 s
+
+abbrev pub first_digits : List ℕ → List ℕ
+first_digits digest = take 12 digest
+
 -- a name in so many bytes, with zeros after it
 abbrev pub in_place : ℕ → List ℕ → List ℕ
 in_place room s = s ++ replicate (room - length s) 0
@@ -62,6 +69,9 @@ ascii_digest s h = ascii_run is_digest_byte 64 64 (λ b h. grind (arith, nat_tes
 
 pub ascii_digits : (s : List ℕ) → is_digits s ≡ true → IsAscii s
 ascii_digits s h = ascii_run is_digest_byte 8 64 (λ b h. grind (arith, nat_tests)) s h
+
+pub ascii_first_digits : (s : List ℕ) → is_first_digits s ≡ true → IsAscii s
+ascii_first_digits s h = ascii_run is_digest_byte 12 12 (λ b h. grind (arith, nat_tests)) s h
 
 -- each form is of no more bytes than it says
 short_run : (kind : ℕ → Bool) (low high : ℕ) (s : List ℕ)
@@ -84,6 +94,9 @@ short_digest s h = short_run is_digest_byte 64 64 s h
 pub short_digits : (s : List ℕ) → is_digits s ≡ true → length s ≤ 64
 short_digits s h = short_run is_digest_byte 8 64 s h
 
+pub short_first_digits : (s : List ℕ) → is_first_digits s ≡ true → length s ≤ 12
+short_first_digits s h = short_run is_digest_byte 12 12 s h
+
 -- one byte counts the bytes of each
 pub counted_name : 32 ≤ 255
 counted_name = grind (arith)
@@ -93,3 +106,6 @@ counted_token = grind (arith)
 
 pub counted_digest : 64 ≤ 255
 counted_digest = grind (arith)
+
+pub counted_first_digits : 12 ≤ 255
+counted_first_digits = grind (arith)

@@ -4,18 +4,21 @@ use Rattle.std.specs.FinMap.{get}
 use Rattle.std.specs.List.{AllZip}
 use Rattle.reg_maps.specs.Maps.{same_text}
 use Rattle.reg_core.specs.File.{name_of}
+use Rattle.reg_core.specs.Journal.{deed_about}
 use Rattle.reg_core.specs.Run.{Event, run, world_after}
-use Rattle.reg_core.specs.Unseen.{Stage, stages, is_unseen, kept_stages, struck}
+use Rattle.reg_core.specs.Unseen.{Stage, stages, is_hidden, is_unseen, kept_stages, struck}
 use Rattle.reg_core.specs.View.{published, cap_at, view_of}
 use Rattle.reg_core.specs.World.{World, RequestName}
 use Rattle.reg_core.specs.declared.capability.Cap.{Cap}
-use Rattle.reg_core.specs.declared.case_file.CaseFile.{CaseFile}
+use Rattle.reg_core.specs.declared.case_file.WaitingFile.{WaitingFile}
+use Rattle.reg_core.specs.declared.journal.Act.{Act}
 use Rattle.reg_core.specs.declared.told.Told.{Told}
 use Rattle.reg_core.specs.declared.told.Told.TheVariants as tells
 use Rattle.reg_core.specs.declared.queue.QueueRow.{QueueRow}
 use Rattle.reg_core.specs.declared.reply.Reply.{Reply}
 use Rattle.reg_core.specs.declared.reply.Reply.TheVariants.{Accepted, Refused}
 use Rattle.reg_core.specs.declared.request.Request.{Request}
+use Rattle.reg_core.specs.declared.request.RequestTimes.{RequestTimes}
 
 -- ---- Two worlds that show an account the same
 
@@ -39,8 +42,8 @@ abbrev pub is_others : List ℕ → Option Cap → Bool
 is_others account None = false
 is_others account (Some cap) = not (same_text cap.account account)
 
--- what is told lists all requests, or those that another account made, is assigned to, or may read as
--- an agent
+-- what is told lists all requests, or acts, or what another account made, is assigned to, or may read
+-- as an agent
 abbrev pub lists_others : List ℕ → Option Cap → Told → Bool
 lists_others account cap (tells.Names names) = false
 lists_others account cap (tells.Page page) = false
@@ -50,6 +53,7 @@ lists_others account cap (tells.Blocks rows) = false
 lists_others account cap (tells.Made row) = false
 lists_others account cap (tells.Row row) = false
 lists_others account cap (tells.Rows rows) = is_others account cap
+lists_others account cap (tells.Times rows) = is_others account cap
 lists_others account cap (tells.Held row) = false
 lists_others account cap (tells.Holdings rows) = false
 lists_others account cap (tells.Agent agent reads) = false
@@ -63,10 +67,13 @@ lists_others account cap (tells.Marked entry) = false
 lists_others account cap (tells.Defined name) = false
 lists_others account cap (tells.Pooled prefix) = false
 lists_others account cap (tells.Granted given) = false
+lists_others account cap (tells.InUse given) = false
 lists_others account cap tells.Revoked = false
-lists_others account cap (tells.Cases files) = true
+lists_others account cap (tells.Waiting files) = true
 lists_others account cap (tells.Capabilities rows) = false
 lists_others account cap (tells.Counts counts) = false
+lists_others account cap (tells.Acts acts) = true
+lists_others account cap (tells.ActsAbout acts) = false
 
 -- a refusal lists nothing
 abbrev pub reply_lists_others : List ℕ → Option Cap → Reply → Bool
@@ -80,8 +87,18 @@ requests_without unseen rows = filter (λ row. not (unseen (row.account, row.ref
 abbrev pub queue_without : (RequestName → Bool) → List QueueRow → List QueueRow
 queue_without unseen rows = filter (λ row. not (unseen (row.account, row.reference))) rows
 
-abbrev pub files_without : (RequestName → Bool) → List CaseFile → List CaseFile
-files_without unseen files = filter (λ file. not (unseen (name_of file))) files
+abbrev pub times_without : (RequestName → Bool) → List RequestTimes → List RequestTimes
+times_without unseen rows = filter (λ row. not (unseen (row.account, row.reference))) rows
+
+abbrev pub files_without : (RequestName → Bool) → List WaitingFile → List WaitingFile
+files_without unseen files = filter (λ waiting. not (unseen (name_of waiting.file))) files
+
+-- the act was about no such request; and the acts without those that were
+abbrev pub is_seen : (RequestName → Bool) → Act → Bool
+is_seen unseen act = not (is_hidden unseen (deed_about act.deed))
+
+abbrev pub acts_without : (RequestName → Bool) → List Act → List Act
+acts_without unseen acts = filter (is_seen unseen) acts
 
 -- what is told without the rows of unseen requests, where it lists requests
 abbrev pub told_without : (RequestName → Bool) → Told → Told
@@ -93,6 +110,7 @@ told_without unseen (tells.Blocks rows) = tells.Blocks rows
 told_without unseen (tells.Made row) = tells.Made row
 told_without unseen (tells.Row row) = tells.Row row
 told_without unseen (tells.Rows rows) = tells.Rows (requests_without unseen rows)
+told_without unseen (tells.Times rows) = tells.Times (times_without unseen rows)
 told_without unseen (tells.Held row) = tells.Held row
 told_without unseen (tells.Holdings rows) = tells.Holdings rows
 told_without unseen (tells.Agent agent reads) = tells.Agent agent reads
@@ -106,10 +124,13 @@ told_without unseen (tells.Marked entry) = tells.Marked entry
 told_without unseen (tells.Defined name) = tells.Defined name
 told_without unseen (tells.Pooled prefix) = tells.Pooled prefix
 told_without unseen (tells.Granted cap) = tells.Granted cap
+told_without unseen (tells.InUse cap) = tells.InUse cap
 told_without unseen tells.Revoked = tells.Revoked
-told_without unseen (tells.Cases files) = tells.Cases (files_without unseen files)
+told_without unseen (tells.Waiting files) = tells.Waiting (files_without unseen files)
 told_without unseen (tells.Capabilities rows) = tells.Capabilities rows
 told_without unseen (tells.Counts counts) = tells.Counts counts
+told_without unseen (tells.Acts acts) = tells.Acts (acts_without unseen acts)
+told_without unseen (tells.ActsAbout acts) = tells.ActsAbout acts
 
 abbrev pub reply_without : (RequestName → Bool) → Reply → Reply
 reply_without unseen (Accepted told) = Accepted (told_without unseen told)
@@ -121,10 +142,25 @@ reply_without unseen (Refused refusal) = Refused refusal
 abbrev pub HasNoneUnseen : (RequestName → Bool) → World → Type 0
 HasNoneUnseen unseen w = (name : RequestName) → unseen name ≡ true → get w.requests name ≡ None
 
+-- no act is about one of them
+abbrev pub HasNoneUnseenActs : (RequestName → Bool) → World → Type 0
+HasNoneUnseenActs unseen w = acts_without unseen w.journal ≡ w.journal
+
+-- the reply lists acts of a day, or of an account
+abbrev pub lists_acts : Reply → Bool
+lists_acts (Accepted (tells.Acts acts)) = true
+lists_acts reply = false
+
+-- so a reply of this world lists nothing of them
+abbrev pub ListsNoneUnseen : (RequestName → Bool) → World → Reply → Type 0
+ListsNoneUnseen unseen w reply =
+    HasNoneUnseen unseen w × (lists_acts reply ≡ true → HasNoneUnseenActs unseen w)
+
 -- an event in two runs, the second of which is struck: before and after it both worlds show the
--- account the same, and it is answered alike; an answer that lists requests of others may differ
--- in rows of unseen requests, and in nothing else; the second run leaves unseen requests as they
--- were, and where none is there, it lists all rows of the first run but theirs
+-- account the same, and it is answered alike; an answer that lists requests of others, or acts, may
+-- differ in rows of unseen requests, and in nothing else; the second run leaves unseen requests as
+-- they were, and where none is there, and no act about one, it lists all rows of the first run but
+-- theirs; the journals of both are the same once the acts about unseen requests are left out of both
 pub record AreAlikeTo (account : List ℕ) (unseen : RequestName → Bool) (s t : Stage) : Type 0 where
   pub event : s.event ≡ t.event
   pub before : ShowSame account s.before t.before
@@ -134,7 +170,8 @@ pub record AreAlikeTo (account : List ℕ) (unseen : RequestName → Bool) (s t 
   pub rows : reply_without unseen s.reply ≡ reply_without unseen t.reply
   pub untouched : (name : RequestName) → unseen name ≡ true
       → get t.after.requests name ≡ get t.before.requests name
-  pub without : HasNoneUnseen unseen t.before → t.reply ≡ reply_without unseen s.reply
+  pub without : ListsNoneUnseen unseen t.before t.reply → t.reply ≡ reply_without unseen s.reply
+  pub journals : acts_without unseen s.after.journal ≡ acts_without unseen t.after.journal
 
 -- the run of the list without the events about unseen requests is alike at each event that is
 -- left, and at the end
@@ -145,6 +182,10 @@ pub record IsStruckAlike (digest_of : List ℕ → List ℕ) (account : List ℕ
       (stages digest_of w (struck digest_of account w events))
   pub end : ShowSame account (world_after digest_of w events)
       (world_after digest_of w (struck digest_of account w events))
+  pub journals : acts_without (is_unseen digest_of account w events)
+      (world_after digest_of w events).journal
+      ≡ acts_without (is_unseen digest_of account w events)
+      (world_after digest_of w (struck digest_of account w events)).journal
 
 -- requests of others that an account never sees, and that are given nothing, leave no trace in
 -- what it is shown, nor in the published registers; from every world, well kept or not, and for

@@ -1,5 +1,5 @@
 -- What is published, and what one caller sees.
-use Rattle.std.specs.Prelude.{ℕ, List, Option, option_map, option_and_then}
+use Rattle.std.specs.Prelude.{ℕ, Bool, List, Option, option_map, option_and_then}
 use Rattle.std.specs.FinMap.{FinMap, get, contains_key}
 use Rattle.std.specs.FinSet.{FinSet}
 use Rattle.std.specs.Ordering.{nat_cmp}
@@ -8,6 +8,7 @@ use Rattle.reg_blocks.specs.Block.{block_cmp}
 use Rattle.reg_ranges.specs.Tables.{Table}
 use Rattle.reg_core.specs.Holding.{ShownHolding, masked_blocks}
 use Rattle.reg_core.specs.Request.{word_of}
+use Rattle.reg_core.specs.Times.{Times, times_of}
 use Rattle.reg_core.specs.World.{World, RequestName, name_cmp, place_cmp, link_cmp}
 use Rattle.reg_core.specs.declared.advice.Advice.{Advice}
 use Rattle.reg_core.specs.declared.ask.Ask.{Ask}
@@ -101,9 +102,31 @@ personal account w = record {
   principal_rows = principal_rows_of account w;
 }
 
--- what one caller sees: the published registers, its capability, if there is one at its digest, and
--- all that is that account's own
+-- when the requests of these applicants came, and when they were decided
+abbrev pub times_by : (List ℕ → Bool) → World → FinMap name_cmp Times
+times_by of w =
+    select (λ name case. only_if (of name.0) (times_of w.journal name case)) w.requests
+
+-- the times of an account's own requests, and of those of all whose agent the account is
+pub record OwnTimes : Type 0 where
+  pub own : FinMap name_cmp Times
+  pub principals : FinMap name_cmp Times
+
+abbrev pub own_times : List ℕ → World → OwnTimes
+own_times account w = record {
+  own = times_by (λ applicant. same_text applicant account) w;
+  principals = times_by (λ applicant. contains_key w.agents (applicant, account)) w;
+}
+
+-- what one caller sees: the published registers, its capability, if there is one at its digest, all
+-- that is that account's own, and the times of its requests and of those of its principals
 pub record View : Type 0 where
+  pub published : Published
+  pub me : Option (Cap × Personal)
+  pub times : Option OwnTimes
+
+-- what it sees of the office as it stands now, without times
+pub record ViewByNow : Type 0 where
   pub published : Published
   pub me : Option (Cap × Personal)
 
@@ -114,8 +137,21 @@ cap_at w caller = option_and_then (get w.caps) caller
 abbrev pub with_personal : World → Cap → Cap × Personal
 with_personal w cap = (cap, personal cap.account w)
 
+-- the times that a caller sees
+abbrev pub times_seen : World → Option (List ℕ) → Option OwnTimes
+times_seen w caller = option_map (λ (cap : Cap). own_times cap.account w) (cap_at w caller)
+
 -- what a caller sees: the published registers, its own capability, and its account's own requests,
--- blocks, queue, agents and principals, and the requests of its principals
+-- blocks, queue, agents and principals, and the requests of its principals; and of these requests,
+-- and of its own, when they came and were decided
 abbrev pub view_of : World → Option (List ℕ) → View
-view_of w caller =
+view_of w caller = record {
+  published = published w;
+  me = option_map (with_personal w) (cap_at w caller);
+  times = times_seen w caller;
+}
+
+-- the same without the times
+abbrev pub view_by_now : World → Option (List ℕ) → ViewByNow
+view_by_now w caller =
     record { published = published w; me = option_map (with_personal w) (cap_at w caller) }

@@ -21,6 +21,7 @@ use Rattle.reg_core.specs.declared.request.State.TheVariants.{Pending, Approved}
 use Rattle.reg_core.specs.declared.request.Given.TheVariants.{Value, Block}
 use Rattle.reg_core.specs.declared.entry.Registration.{Registration}
 use Rattle.reg_core.specs.declared.holding.Holder.{Holder}
+use Rattle.reg_core.specs.declared.journal.Act.{Act}
 
 -- a request's name: its applicant's account and the applicant's reference
 abbrev pub RequestName : Type 0
@@ -57,8 +58,8 @@ with_link false link links = remove links link
 
 -- capabilities by the digests of their tokens, registries by their names, entries by registry and
 -- value, requests by their names; which request is assigned to which expert, and the advice that
--- each gave; the prefixes that blocks are cut from, and the blocks that were given; and which
--- account may read the requests of which
+-- each gave; the prefixes that blocks are cut from, and the blocks that were given; which account may
+-- read the requests of which; and the journal, the acts of the changes that were made, the latest first
 pub record World : Type 0 where
   pub caps : FinMap text_cmp Cap
   pub registries : FinMap text_cmp Table
@@ -69,6 +70,7 @@ pub record World : Type 0 where
   pub pool : FinSet nat_cmp
   pub blocks : FinMap block_cmp Holder
   pub agents : FinSet link_cmp
+  pub journal : List Act
 
 -- no row at all
 abbrev pub empty_world : World
@@ -83,6 +85,7 @@ empty_world =
       pool = map.empty;
       blocks = map.empty;
       agents = map.empty;
+      journal = [];
     }
 
 -- a request that waits for the office
@@ -102,7 +105,8 @@ abbrev pub without : List (List ℕ) → FinMap text_cmp Cap → FinMap text_cmp
 without [] caps = caps
 without (digest ∷ digests) caps = without digests (remove caps digest)
 
--- the world after a change: one row added, replaced or taken away, all other rows the same; several
+-- the world after a change, before its acts: one row added, replaced or taken away, all other rows
+-- and the journal the same; several
 -- capabilities can be taken away at once; a value or a block that is given changes two rows, its
 -- request and its entry or holder. The entry is put
 -- at its place, in the place of one that stands there

@@ -39,3 +39,11 @@ impl CaseFile {
         self.clone()
     }
 }
+
+/// A request that waits, with all that the desk has of it, and with the moment at which it came.
+#[derive(Drop)]
+pub struct WaitingFile {
+    /// In seconds since 1970-01-01T00:00:00Z; none where no act says so.
+    pub submitted: Option<u64>,
+    pub file: CaseFile,
+}

@@ -7,6 +7,7 @@ use crate::ask::Ask;
 use crate::capability::{Cap, Kind};
 use crate::text::{Account, Digits, Name, Ref, Text, Token};
 use reg_blocks::block::Block;
+use reg_early::day::Day;
 use reg_ranges::table::RangeTable;
 
 /// What a caller asks the office to do, by whose command it is.
@@ -14,7 +15,11 @@ use reg_ranges::table::RangeTable;
 pub enum Command {
     /// Anybody's, with any token or none.
     Public(PublicCommand),
+    /// Looks at the capability of its own token: that of anybody with a valid token.
+    Token,
     Applicant(ApplicantCommand),
+    /// An applicant's: says of requests when they came, and when they were decided.
+    Times(TimesCommand),
     Expert(ExpertCommand),
     Clerk(ClerkCommand),
 }
@@ -61,6 +66,15 @@ pub enum ApplicantCommand {
     PrincipalRows(Account),
 }
 
+/// Of which requests an applicant asks when they came, and when they were decided.
+#[derive(Clone, Copy)]
+pub enum TimesCommand {
+    /// Of its own.
+    Own,
+    /// Of those of a principal.
+    Principal(Account),
+}
+
 /// What an expert may ask, of the requests that are queued to its account.
 #[derive(Drop)]
 pub enum ExpertCommand {
@@ -104,16 +118,23 @@ pub enum ClerkCommand {
     RevokeAccount(Account),
     /// Counts the rows of each kind, requests apart.
     CountRows,
+    /// Lists the acts of a day.
+    ActsOn(Day),
+    /// Lists the acts that an account made.
+    ActsBy(Account),
+    /// Lists the acts about a request.
+    ActsAbout(Account, Ref),
 }
 
 impl Command {
-    /// Whose command it is: the kind of capability that it needs, or none where it is anybody's.
+    /// Whose command it is: the kind of capability that it needs, or none where it needs none or any
+    /// will do.
     pub fn kind(&self) -> Option<Kind>
         ensures { result ≡ kind_of self.now }
     {
         match self {
-            Command::Public(_) => None,
-            Command::Applicant(_) => Some(Kind::Applicant),
+            Command::Public(_) | Command::Token => None,
+            Command::Applicant(_) | Command::Times(_) => Some(Kind::Applicant),
             Command::Expert(_) => Some(Kind::Expert),
             Command::Clerk(_) => Some(Kind::Clerk),
         }

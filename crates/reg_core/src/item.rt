@@ -94,6 +94,8 @@ pub enum Segment {
     Account,
     Agent,
     Block,
+    /// A day, as `2026-11-30`.
+    Day,
     /// The first digits of a token's digest.
     Digits,
     Expert,
@@ -113,6 +115,7 @@ impl Segment {
             Segment::Account => "account",
             Segment::Agent => "agent",
             Segment::Block => "block",
+            Segment::Day => "day",
             Segment::Digits => "digits",
             Segment::Expert => "expert",
             Segment::Max => "max",

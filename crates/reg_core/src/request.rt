@@ -71,6 +71,17 @@ impl StateWord {
     }
 }
 
+/// When a request came, and when it was decided: approved, declined or withdrawn. Moments are in
+/// seconds since 1970-01-01T00:00:00Z, and none where no act says so.
+#[derive(Clone, Copy)]
+pub struct RequestTimes {
+    pub account: Account,
+    pub reference: Ref,
+    pub submitted: Option<u64>,
+    /// None while the request waits.
+    pub decided: Option<u64>,
+}
+
 /// A request without its name: what is asked for, and where it stands.
 #[derive(Drop, PartialEq, Eq)]
 pub struct Case {

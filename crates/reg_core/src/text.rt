@@ -8,7 +8,7 @@ ghost use Rattle.std.specs.Ordering.{nat_cmp};
 ghost use Rattle.std.specs.List.{list_all};
 ghost use Rattle.std.specs.Str.{IsAscii};
 ghost use Rattle.reg_ranges.specs.Texts.{read_text};
-ghost use Rattle.reg_core.specs.Names.{is_name_byte as name_byte, is_token_byte as token_byte, is_digest_byte as digest_byte, is_name as name, is_token, is_digest, is_digits, ascii_name, ascii_token, ascii_digest, ascii_digits, in_place, short_name, short_token, short_digest, short_digits, counted_name, counted_token, counted_digest};
+ghost use Rattle.reg_core.specs.Names.{is_name_byte as name_byte, is_token_byte as token_byte, is_digest_byte as digest_byte, is_name as name, is_token, is_digest, is_digits, is_first_digits, first_digits as digits_of, ascii_name, ascii_token, ascii_digest, ascii_digits, ascii_first_digits, in_place, short_name, short_token, short_digest, short_digits, short_first_digits, counted_name, counted_token, counted_digest, counted_first_digits};
 
 use reg_ranges::formed::Formed;
 pub use reg_ranges::text::Text;
@@ -31,6 +31,9 @@ pub const DIGEST_BYTES: usize = 64;
 
 /// The fewest digits of a digest by which a clerk names a token.
 pub const LEAST_DIGITS: usize = 8;
+
+/// The first digits of a digest by which the journal names a token.
+pub const FIRST_DIGITS: usize = 12;
 
 /// Which bytes a kind of name may have, which are at most `N`.
 pub trait Form<const N: usize> {
@@ -261,6 +264,23 @@ impl Form<DIGEST_BYTES> for DigitsForm {
     }
 }
 
+/// 12 lower-case hexadecimal digits: the first of a digest, by which the journal names a token.
+pub struct FirstDigitsForm;
+
+impl Form<FIRST_DIGITS> for FirstDigitsForm {
+    ghost fits = { is_first_digits };
+
+    ghost ascii = { ascii_first_digits };
+
+    ghost short = { short_first_digits };
+
+    ghost counted = { counted_first_digits };
+
+    fn accepts(bytes: &[u8]) -> bool {
+        bytes.len() == FIRST_DIGITS && all_digest_bytes(bytes)
+    }
+}
+
 /// An applicant's, an expert's or a clerk's account.
 pub type Account = Word<NameForm<AccountKind>, MOST_NAME_BYTES>;
 
@@ -278,6 +298,16 @@ pub type Digest = Word<DigestForm, DIGEST_BYTES>;
 
 /// The first digits of a token's digest.
 pub type Digits = Word<DigitsForm, DIGEST_BYTES>;
+
+/// The first 12 digits of a token's digest.
+pub type FirstDigits = Word<FirstDigitsForm, FIRST_DIGITS>;
+
+/// The first digits of a digest.
+pub fn first_digits(digest: &Digest) -> FirstDigits
+    ensures { result ≡ digits_of digest.now }
+{
+    FirstDigits::read(&digest.as_bytes()[..FIRST_DIGITS]).unwrap()
+}
 
 fn is_name(bytes: &[u8]) -> bool
     ensures { result ≡ name bytes.now }

@@ -1,12 +1,13 @@
 //! What the caller of an accepted command is told.
 use crate::capability::{Cap, CapRow};
-use crate::case_file::CaseFile;
+use crate::case_file::{CaseFile, WaitingFile};
 use crate::counts::Counts;
 use crate::entry::PageEntry;
 use crate::holding::{Holding, Listed};
+use crate::journal::Act;
 use crate::page::Page;
 use crate::queue::QueueRow;
-use crate::request::Request;
+use crate::request::{Request, RequestTimes};
 use crate::rows::Rows;
 use crate::text::{Account, Name};
 use reg_blocks::pool::Pool;
@@ -29,6 +30,8 @@ pub enum Told {
     Row(Request),
     /// The caller's requests, by reference.
     Rows(Rows<Request>),
+    /// When requests came, and when they were decided, by reference.
+    Times(Rows<RequestTimes>),
     /// A block that the caller holds.
     Held(Holding),
     /// The blocks that the caller holds, by first address.
@@ -56,14 +59,20 @@ pub enum Told {
     Pooled(u32),
     /// The capability that a token now has.
     Granted(Cap),
+    /// The capability of the caller's own token.
+    InUse(Cap),
     /// The token has no capability now.
     Revoked,
-    /// The requests that wait, with all that the desk has of them, by account and reference.
-    Cases(Rows<CaseFile>),
+    /// The requests that wait, with all that the desk has of them, in the order in which they came.
+    Waiting(Rows<WaitingFile>),
     /// Capabilities, by account and digest: all, or those that a clerk took away just now.
     Capabilities(Rows<CapRow>),
     /// How many rows of each kind there are, requests apart.
     Counts(Counts),
+    /// Acts, oldest first.
+    Acts(Rows<Act>),
+    /// The acts about the one request that was asked for, oldest first.
+    ActsAbout(Rows<Act>),
 }
 
 // Not derived: what a crate above owes where it lets go what a caller is told is proved here, once.
@@ -71,14 +80,15 @@ impl Drop for Told {
     fn drop(self) {
         match self {
             Told::Page(_) | Told::Sheet(_) | Told::Pool(_) | Told::Blocks(_) => {}
-            Told::Made(_) | Told::Row(_) | Told::Rows(_) => {}
+            Told::Made(_) | Told::Row(_) | Told::Rows(_) | Told::Times(_) => {}
             Told::Held(_) | Told::Holdings(_) => {}
             Told::Agent(_, _) | Told::Names(_) | Told::Accounts(_) => {}
             Told::Item(_) | Told::Items(_) => {}
             Told::Desk(_) | Told::Desks(_) | Told::Filed(_) => {}
             Told::Marked(_) | Told::Defined(_) | Told::Pooled(_) => {}
-            Told::Granted(_) | Told::Revoked => {}
-            Told::Cases(_) | Told::Capabilities(_) | Told::Counts(_) => {}
+            Told::Granted(_) | Told::InUse(_) | Told::Revoked => {}
+            Told::Waiting(_) | Told::Capabilities(_) | Told::Counts(_) => {}
+            Told::Acts(_) | Told::ActsAbout(_) => {}
         }
     }
 }

@@ -7,4 +7,7 @@ pub mod DayTexts
 pub mod MomentsHaveDays
 pub mod TermsHaveDays
 pub mod TermsInWords
+pub mod Dates
+pub mod DaysReadBack
+pub mod DaysRead
 mod KnownDays

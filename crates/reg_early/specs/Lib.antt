@@ -1,6 +1,7 @@
 pub use Rattle.reg_ranges.specs.Requirements
 pub mod Calendar
 pub mod DayText
+pub mod DayReading
 pub mod EarlyRequirements
 pub mod Forms
 pub mod Laws

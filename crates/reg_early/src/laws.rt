@@ -1,4 +1,5 @@
 //! Laws of the calendar and of terms. Each function does nothing; what it ensures is the law.
+ghost use Rattle.reg_early.specs.DayReading.{DaysReadBack};
 ghost use Rattle.reg_early.specs.Laws.{DaysAreDates, CalendarIsJiffs, YearAfterIsTheSameDate, MomentsHaveDays, TermsHaveDays, StatusesFollowTheExpiry, EarlyTermsLastAYear, RenewalsLastAYear, SettledTermsAreForGood};
 
 /// Each day from 2000-01-01 to 9999-12-31 has one date, and each date of these years is that of one
@@ -10,6 +11,11 @@ pub fn days_and_dates_are_one_to_one()
 /// jiff has the same calendar on each of these days.
 pub fn calendar_is_jiffs()
     ensures { CalendarIsJiffs }
+{}
+
+/// The text of a day is read as that day.
+pub fn days_read_back()
+    ensures { DaysReadBack }
 {}
 
 /// The year after a day is the same date of the next year. After 29 February comes 28 February, and

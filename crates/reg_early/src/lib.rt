@@ -4,6 +4,7 @@
 
 mod civil;
 pub mod day;
+pub mod day_reading;
 pub mod evidence;
 pub mod laws;
 pub mod requirements;

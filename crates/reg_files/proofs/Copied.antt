@@ -3,7 +3,7 @@ use Rattle.std.proofs.Common.{◌≡◌, ℕ, ℤ, List, Option, Result, Ok, Err
 use Rattle.std.specs.Prelude.{⊤, IfErr, OnOk}
 use Rattle.reg_tables.specs.Version.{number_of}
 use Rattle.reg_tables.specs.declared.version.Version.{Version}
-use Rattle.reg_tables.specs.declared.version.Version.TheVariants.{First, Second, Third}
+use Rattle.reg_tables.specs.declared.version.Version.TheVariants.{First, Second, Third, Fourth}
 use Rattle.reg_program.specs.Copying.{PrintsCopied}
 use Rattle.reg_program.specs.declared.faults.Undone.{Undone}
 
@@ -12,6 +12,7 @@ pub kept_number : (version : Version) → to_z w64 (of_z w64 (number_of version)
 kept_number First = refl
 kept_number Second = refl
 kept_number Third = refl
+kept_number Fourth = refl
 
 -- the line of a copy of which more was known
 pub told_less : (done : Result ⊤ Undone) (P Q : ℤ → ℕ → Type 0) (had has : Option (List ℕ))

@@ -1,3 +1,4 @@
 pub mod Access
 pub mod Copies
+pub mod Journal
 pub mod Laws

@@ -6,7 +6,9 @@ ghost use Rattle.reg_disk.specs.Disk.{replaces};
 ghost use Rattle.reg_disk.specs.Names.{names_by};
 ghost use Rattle.reg_program.specs.Copying.{IsUncopied, PrintsCopied};
 ghost use Rattle.reg_files.specs.Copies.{CopyIsTold, IsNotCopied, CopyIsPut, IsSeenAlone, IsToldOfSome, IsUnput, TellsCount};
+ghost use Rattle.reg_files.specs.Journal.{AreActsOfSome, AreActsTaken};
 
+use crate::journal::tell_acts_of;
 use crate::originals::{Originals, SystemOriginals};
 use crate::targets::{SystemPlaces, Targets};
 use reg_disk::disk::Disk;
@@ -28,6 +30,8 @@ pub struct FileCopies;
 impl Copies for FileCopies {
     ghost Copied = { λ _ _ _. IsToldOfSome };
 
+    ghost Recorded = { λ _ _. AreActsOfSome };
+
     fn copy<W: Write>(
         &self,
         rt: &HostRuntime,
@@ -40,6 +44,20 @@ impl Copies for FileCopies {
             places: SystemPlaces { rt },
         };
         copies.copy(rt, path, folder, output)
+    }
+
+    fn tell_acts<W: Write>(
+        &self,
+        rt: &HostRuntime,
+        path: &str,
+        noted: &Option<String>,
+        output: &mut W,
+    ) -> Result<(), Undone> {
+        let copies = CopiesIn {
+            originals: SystemOriginals { rt },
+            places: SystemPlaces { rt },
+        };
+        copies.tell_acts(rt, path, noted, output)
     }
 }
 
@@ -57,6 +75,8 @@ impl<O: Originals, P: Targets> Copies for CopiesIn<O, P> {
         CopyIsTold (P.Opened copies.places path folder) P.Given.Tells P.Given.done
         (O.Taken copies.originals path) version requests };
 
+    ghost Recorded = { λ copies path. AreActsTaken (O.Taken copies.originals path) };
+
     fn copy<W: Write>(
         &self,
         rt: &HostRuntime,
@@ -72,6 +92,16 @@ impl<O: Originals, P: Targets> Copies for CopiesIn<O, P> {
             folder,
             output,
         )
+    }
+
+    fn tell_acts<W: Write>(
+        &self,
+        rt: &HostRuntime,
+        path: &str,
+        noted: &Option<String>,
+        output: &mut W,
+    ) -> Result<(), Undone> {
+        tell_acts_of(rt.alloc(), &self.originals, path, noted, output)
     }
 }
 
@@ -190,7 +220,7 @@ fn put_look<S: Alter, D: Disk, W: Write>(
     copy_in(alloc, &mut look.keeper, version, disk, names, bytes, output)
 }
 
-// Lets a copy go, over any store too.
-fn let_go<S: Alter + Drop>(look: Look<S>) {
+/// Lets a copy go, over any store too.
+pub(crate) fn let_go<S: Alter + Drop>(look: Look<S>) {
     drop(look);
 }

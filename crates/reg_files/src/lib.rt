@@ -1,9 +1,14 @@
 //! Offices in files of SQLite.
 #![tactic(auto)]
 
+ghost use Rattle.std.specs.Prelude.{◌≢◌, IfOk};
+ghost use Rattle.reg_program.specs.declared.faults.JobFailure.TheVariants as job_failure;
+ghost use Rattle.reg_program.specs.declared.faults.Undone.TheVariants.{Fault};
+
 mod access;
 pub mod copies;
 pub mod front;
+pub mod journal;
 pub mod laws;
 pub mod originals;
 pub mod performing;
@@ -179,7 +184,9 @@ fn refused<S: Alter + Drop, L: Drop>(fault: OpenFault, left: Left<S, L>) -> Undo
 }
 
 // Why a job finds no office, with the reason for people.
-fn explained(alloc: Global, trouble: Trouble) -> Result<Undone, AllocError> {
+fn explained(alloc: Global, trouble: Trouble) -> Result<Undone, AllocError>
+    ensures { IfOk result (λ why. why ≢ Fault job_failure.Journal) }
+{
     let why = format!(in alloc; "{trouble}")?;
     Ok(Undone::Explained(failure(trouble.fault()), why))
 }

@@ -1,5 +1,7 @@
 //! Where the originals of copies are.
-ghost use Rattle.std.specs.Prelude.{IfOk, MatchResult};
+ghost use Rattle.std.specs.Prelude.{◌≢◌, IfErr, IfOk, MatchResult};
+ghost use Rattle.reg_program.specs.declared.faults.JobFailure.TheVariants.{Journal};
+ghost use Rattle.reg_program.specs.declared.faults.Undone.TheVariants.{Fault};
 ghost use Rattle.reg_files.specs.Copies.{IsSeenAlone};
 
 use crate::explained;
@@ -23,7 +25,8 @@ pub trait Originals {
     /// not well kept; with `Busy` where it was changed each time that it was read.
     fn take(&self, path: &str) -> Result<Snapshot, Undone>
         ensures taken { MatchResult result (Taken self.now path.now) (Untaken self.now path.now) }
-        ensures seen { IfOk result IsSeenAlone };
+        ensures seen { IfOk result IsSeenAlone }
+        ensures untold { IfErr result (λ why. why ≢ Fault Journal) };
 }
 
 /// The files of the system. Which of them is read no contract can say.

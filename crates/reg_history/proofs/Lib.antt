@@ -1,3 +1,4 @@
+mod ActTexts
 mod Beginnings
 pub mod Changed
 mod Coming

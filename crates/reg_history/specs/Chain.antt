@@ -31,18 +31,27 @@ change_fields (Term registry value standing) =
 abbrev pub record_fields : List ℕ → HistoryRecord → List (List ℕ)
 record_fields number r = number ∷ r.moment ∷ change_fields r.change
 
--- the bytes of a record up to and including the comma before its digest
-abbrev pub front : ℕ → HistoryRecord → List ℕ
-front number r =
-    row_body default_writer (record_fields (decimal number) r) ++ codes ","
+-- the bytes of a record of these fields, up to and including the comma before its digest
+abbrev pub front_of : List (List ℕ) → List ℕ
+front_of fields = row_body default_writer fields ++ codes ","
 
 -- its digest: of the digits of the record before, and these bytes
-abbrev pub digest : List ℕ → ℕ → HistoryRecord → List ℕ
-digest before number r = encode_lower (sha256 (before ++ front number r))
+abbrev pub digest_of : List ℕ → List (List ℕ) → List ℕ
+digest_of before fields = encode_lower (sha256 (before ++ front_of fields))
 
--- all bytes of a record
+-- all its bytes
+abbrev pub line_of : List ℕ → List (List ℕ) → List ℕ
+line_of before fields = front_of fields ++ (digest_of before fields ++ codes "\n")
+
+-- the same of a record of this number
+abbrev pub front : ℕ → HistoryRecord → List ℕ
+front number r = front_of (record_fields (decimal number) r)
+
+abbrev pub digest : List ℕ → ℕ → HistoryRecord → List ℕ
+digest before number r = digest_of before (record_fields (decimal number) r)
+
 abbrev pub line : List ℕ → ℕ → HistoryRecord → List ℕ
-line before number r = front number r ++ (digest before number r ++ codes "\n")
+line before number r = line_of before (record_fields (decimal number) r)
 
 -- changes that are published at a moment
 abbrev pub at : List ℕ → List PublishedChange → List HistoryRecord

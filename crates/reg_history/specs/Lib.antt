@@ -1,3 +1,4 @@
+pub mod Acts
 pub mod Chain
 pub mod History
 pub mod Laws

@@ -3,7 +3,7 @@ ghost use Rattle.std.specs.Prelude.{◌≡◌, ◌↔◌, ◌<◌, ◌++◌, ◌
 ghost use Rattle.hex.specs.Hex.{encode_lower};
 ghost use Rattle.sha2.specs.Sha256.{sha256};
 ghost use Rattle.csv.specs.Writing.{default_writer, row_body};
-ghost use Rattle.reg_history.specs.Chain.{HasDigest, digest, last_digest, line, record_of};
+ghost use Rattle.reg_history.specs.Chain.{HasDigest, digest, digest_of, last_digest, line, line_of, record_of};
 ghost use Rattle.reg_history.specs.Noted.{some_begins};
 ghost use Rattle.reg_history.specs.Texts.{texts_of};
 
@@ -41,8 +41,32 @@ impl RecordLine {
     {
         let number = format!(in alloc; "{number}")?;
         let texts = Texts::of(number.as_str(), moment.as_str(), change);
-        let mut bytes = front(alloc, texts)?;
-        let digest = digest_of(before, bytes.as_slice());
+        let front = front(alloc, texts)?;
+        RecordLine::behind(before, front)
+    }
+
+    /// The record of these fields, of which there are two at least, by the digits of the digest before it.
+    /// Only want of memory is an error.
+    pub fn of_fields(alloc: Global, before: &[u8], fields: &[&[u8]]) -> Result<Self, AllocError>
+        requires { 1 < length fields.now }
+        ensures bytes { IfOk result (λ l. l.bytes.items
+            ≡ line_of before.now (map (λ f. f.now) fields.now)) }
+        ensures digest { IfOk result (λ l. l.digest
+            ≡ digest_of before.now (map (λ f. f.now) fields.now)) }
+    {
+        let front = front_of(alloc, fields)?;
+        RecordLine::behind(before, front)
+    }
+
+    // The record whose bytes up to its digest are these.
+    fn behind(before: &[u8], front: Vec<u8>) -> Result<Self, AllocError>
+        ensures bytes { IfOk result (λ l. l.bytes.items
+            ≡ front.items ++ (encode_lower (sha256 (before.now ++ front.items)) ++ codes "\n")) }
+        ensures digest { IfOk result (λ l. l.digest
+            ≡ encode_lower (sha256 (before.now ++ front.items))) }
+    {
+        let mut bytes = front;
+        let digest = hash_of(before, bytes.as_slice());
         bytes.extend_from_slice(&digest)?;
         bytes.push(b'\n')?;
         Ok(RecordLine { bytes, digest })
@@ -116,7 +140,7 @@ fn is_same(digest: &[u8; DIGITS], digits: &[u8]) -> bool
 }
 
 // The digest of a record, by that of the record before and by its own bytes up to the comma.
-fn digest_of(before: &[u8], front: &[u8]) -> [u8; DIGITS]
+fn hash_of(before: &[u8], front: &[u8]) -> [u8; DIGITS]
     ensures { result ≡ encode_lower (sha256 (before.now ++ front.now)) }
 {
     let mut hasher = Sha256::new();

@@ -2,6 +2,7 @@
 //! published, how it is read back, and what was lost since.
 #![tactic(auto)]
 
+pub mod acts;
 pub mod chain;
 mod fields;
 pub mod history;

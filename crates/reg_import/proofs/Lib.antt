@@ -1,5 +1,8 @@
-pub mod Dates
-pub mod DaysReadBack
 pub mod LineTexts
 pub mod Places
 pub mod Registers
+pub mod RowFacts
+pub mod Steps
+pub mod Filings
+pub mod Allowed
+pub mod Made

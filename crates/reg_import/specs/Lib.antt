@@ -1,6 +1,7 @@
 pub mod Columns
-pub mod Days
+pub mod Years
 pub mod Faults
 pub mod Lines
 pub mod Rows
 pub mod Scripts
+pub mod Imported

@@ -14,7 +14,7 @@ use Rattle.reg_core.specs.declared.ask.Want.TheVariants.{Value}
 use Rattle.reg_core.specs.declared.capability.Kind.{Kind}
 use Rattle.reg_core.specs.declared.capability.Kind.TheVariants.{Applicant, Expert}
 use Rattle.reg_print.specs.Trees.Ask.{ask_tree}
-use Rattle.reg_import.specs.Days.{midnight}
+use Rattle.reg_early.specs.DayReading.{midnight}
 use Rattle.reg_import.specs.declared.entry.EarlyStanding.{EarlyStanding}
 use Rattle.reg_import.specs.declared.entry.ListedEntry.{ListedEntry}
 use Rattle.reg_import.specs.declared.entry.ListedStanding.{ListedStanding}

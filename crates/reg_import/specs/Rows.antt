@@ -11,6 +11,7 @@ use Rattle.reg_ranges.specs.declared.evidence.Evidence.{Evidence}
 use Rattle.reg_ranges.specs.declared.evidence.Item.{Item as EvidenceItem}
 use Rattle.reg_ranges.specs.declared.policy.Policy.{Policy}
 use Rattle.reg_early.specs.Calendar.{year_after}
+use Rattle.reg_early.specs.DayReading.{read_day}
 use Rattle.reg_early.specs.EarlyRequirements.{early_unmet}
 use Rattle.reg_early.specs.declared.evidence.EarlyEvidence.{EarlyEvidence}
 use Rattle.reg_early.specs.declared.term.Status.TheVariants as term
@@ -19,7 +20,7 @@ use Rattle.reg_print.specs.Listing.{status_word}
 use Rattle.reg_print.specs.declared.listing.rows.RowStatus.{RowStatus}
 use Rattle.reg_print.specs.declared.listing.rows.RowStatus.TheVariants as status
 use Rattle.reg_import.specs.Columns.{field_in}
-use Rattle.reg_import.specs.Days.{read_day, year_before}
+use Rattle.reg_import.specs.Years.{year_before}
 use Rattle.reg_import.specs.Faults.{◌>>=◌}
 use Rattle.reg_import.specs.declared.column.Column.{Column}
 use Rattle.reg_import.specs.declared.column.Column.TheVariants as column
@@ -176,9 +177,11 @@ standing_in row kind.ForGood policy first assignee =
 
 -- ---- Entries
 
+-- the value of a row, or that it has not its form
 abbrev pub value_in : CellsOfRow → Result ℕ ImportRowFault
 value_in row = formed (read_number (row column.Value)) column.Value
 
+-- the policy of a row, or that it is none
 abbrev pub policy_in : CellsOfRow → Result Policy ImportRowFault
 policy_in row = formed (read_policy (row column.Policy)) column.Policy
 
@@ -214,6 +217,7 @@ entry_in import kind row = do
 
 -- ---- Status
 
+-- this is the word of a status
 abbrev pub is_word_of : List ℕ → RowStatus → Bool
 is_word_of word status = bytes_eq word (status_word status)
 
@@ -241,6 +245,7 @@ kind_in row =
 
 -- ---- Rows
 
+-- the entry of a row whose values have one of this kind, or its first fault; none where they have none
 abbrev pub entry_if : Import → CellsOfRow → Option EntryKind → Result (Option ListedEntry) ImportRowFault
 entry_if import row None = Ok None
 entry_if import row (Some kind) = entry_in import kind row >>= (λ entry. Ok (Some entry))

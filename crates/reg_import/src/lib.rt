@@ -2,7 +2,6 @@
 #![tactic(auto)]
 
 pub mod column;
-pub mod day_reading;
 pub mod entry;
 mod errands;
 mod evidence;
@@ -14,3 +13,4 @@ pub mod lines;
 mod marks;
 mod records;
 mod row;
+mod years;

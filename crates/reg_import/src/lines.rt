@@ -3,7 +3,6 @@ ghost use Rattle.std.specs.Prelude.{◌≡◌, ◌+◌, ◌<◌, ◌^◌, ◌++�
 ghost use Rattle.std.specs.String.{string_bytes};
 ghost use Rattle.reg_import.specs.Lines.{advice_line, approval_line, asking_text, assignment_line, entry_ask, entry_filing, entry_lines, filing_lines, filing_view, grant_line, hold_line, hold_lines, later_lines, line_text, lines_text, renewal_filing, renewal_lines, review_if, review_lines, submission_line, token_for};
 
-use crate::day_reading::midnight;
 use crate::entry::{EarlyStanding, ListedEntry, ListedStanding};
 use crate::errands::{
     advice_text, approval_text, assignment_text, grant_text, hold_text, submission_text,
@@ -14,6 +13,7 @@ use reg_core::ask::{Ask, CodeAsk, EarlyAsk, RenewalAsk, Want};
 use reg_core::capability::Kind;
 use reg_core::text::Account;
 use reg_early::day::Day;
+use reg_early::day_reading::midnight;
 use reg_ranges::requirements::needs_expert;
 use std::alloc::{AllocError, Global};
 

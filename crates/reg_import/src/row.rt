@@ -6,14 +6,15 @@ ghost use Rattle.reg_import.specs.Faults.{IsFaultOfImport};
 ghost use Rattle.reg_import.specs.Rows.{assignee_in, early_in, entry_in, expires_in, first_in, for_good_in, is_met, kind_in, may_renew, policy_in, is_early, is_vacant, is_word_of, renewal_for, row_in, standing_in, value_in};
 
 use crate::column::Column;
-use crate::day_reading::{read_day, year_before};
 use crate::entry::{EarlyStanding, EntryKind, ListedEntry, ListedStanding};
 use crate::evidence::{early_evidence_in, evidence_in};
 use crate::fault::ImportRowFault;
 use crate::fields::{RowFields, held_in, stands_in, text_in};
 use crate::import::Import;
+use crate::years::year_before;
 use reg_core::text::Account;
 use reg_early::day::{Day, year_after};
+use reg_early::day_reading::read_day;
 use reg_early::requirements::early_missing;
 use reg_early::term;
 use reg_print::listing::rows::RowStatus;

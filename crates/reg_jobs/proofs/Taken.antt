@@ -19,7 +19,7 @@ use Rattle.clap.specs.declared.builder.action.ArgAction.TheVariants.{Set}
 use Rattle.clap.specs.declared.builder.value_parser.Reading.TheVariants.{WithoutMinus}
 use Rattle.clap.specs.declared.builder.value_parser.ValueParser.TheVariants.{Signed}
 use Rattle.reg_jobs.specs.Asking.{HasJob, HasNumber, HasText, MayHaveNumber}
-use Rattle.reg_jobs.specs.CommandLine.{check_app, clerk_rule, connections_rule, copy_app, define_app, due_app, expert_rule, flag_rule, import_app, init_app, last_place_rule, listing_app, office_app, option_rule, place_rule, port_rule, publish_app, request_app, revoke_app, script_app, serve_app, tokens_app, verify_app, within_rule}
+use Rattle.reg_jobs.specs.CommandLine.{check_app, clerk_rule, connections_rule, copy_app, define_app, due_app, expert_rule, flag_rule, import_app, init_app, journal_app, last_place_rule, listing_app, office_app, option_rule, place_rule, port_rule, publish_app, request_app, revoke_app, script_app, serve_app, tokens_app, verify_app, within_rule}
 use Rattle.reg_jobs.proofs.Walks.{Each, Keeps, KeepsDefault, found_holds, leaf_holds, no_faults, none_keeps}
 use Rattle.reg_jobs.proofs.Uses.{default_row_with, flag_keeps, help_keeps, row_with, set_keeps, value_keeps}
 use Rattle.reg_jobs.proofs.Stops.{StopsElsewhere, walk_stops}
@@ -314,6 +314,14 @@ verify_gives words none =
     ) refl words none in
     text_given _ _ held.0 (held.1.0 refl)
 
+journal_gives : GivesJob (sub_of journal_app)
+journal_gives words none =
+    let held = leaf_rows (sub_of journal_app) (
+      file_keeps,
+      (option_keeps (codes "digest") refl refl refl, (help_flag_keeps, tt)),
+    ) refl words none in
+    text_given _ _ held.0 (held.1.0 refl)
+
 due_gives : GivesJob (sub_of due_app)
 due_gives words none =
     let held = leaf_rows (sub_of due_app) (
@@ -379,7 +387,7 @@ each_gives =
     (also serve_app serve_gives (also request_app request_gives (also define_app define_gives
     (also listing_app listing_gives (also due_app due_gives (also publish_app publish_gives
     (also verify_app verify_gives (also check_app check_gives (also copy_app copy_gives
-    (also tokens_app tokens_gives (also revoke_app revoke_gives help)))))))))))))
+    (also journal_app journal_gives (also tokens_app tokens_gives (also revoke_app revoke_gives help))))))))))))))
 
 -- words that a command takes enter a subcommand that gives a job
 app_gives : (a : App) (words : List Text) → a.top.subcommand_required ≡ true → a.top.disable_help_subcommand ≡ false → Each GivesJobUnlessHelp a.subs

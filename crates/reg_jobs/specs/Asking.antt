@@ -1,6 +1,7 @@
 -- What the words of a command line ask for, as the library `clap` reads them.
 use Rattle.std.specs.Prelude.{◌≡◌, ◌⊎◌, ◌≤◌, ◌++◌, ⊤, ℕ, Bool, true, false, [], List, Option, Some, None}
-use Rattle.std.specs.Prelude.{codes, is_some, option_map, pos}
+use Rattle.std.specs.Prelude.{◌&&◌, ◌||◌, codes, is_some, length, nat_le, option_map, pos}
+use Rattle.std.specs.List.{list_all}
 use Rattle.std.specs.Option.{option_map_or}
 use Rattle.std.specs.Str.{bytes_eq}
 use Rattle.std.specs.String.{string_bytes}
@@ -11,7 +12,7 @@ use Rattle.clap.specs.declared.error.kind.ErrorKind.TheVariants.{DisplayHelp, Di
 use Rattle.reg_jobs.specs.CommandLine.{office_app}
 use Rattle.reg_jobs.specs.declared.jobs.Job.{Job}
 use Rattle.reg_jobs.specs.declared.jobs.Job.TheVariants.{Script, Import, Init, Serve, Request, Define}
-use Rattle.reg_jobs.specs.declared.jobs.Job.TheVariants.{Listing, Due, Publish, Verify, Check, Copy, Tokens, Revoke}
+use Rattle.reg_jobs.specs.declared.jobs.Job.TheVariants.{Listing, Due, Publish, Verify, Check, Copy, Journal, Tokens, Revoke}
 use Rattle.reg_jobs.specs.declared.jobs.Job.TheVariants.{Version, Help}
 use Rattle.reg_jobs.specs.declared.jobs.Which.{Which}
 use Rattle.reg_jobs.specs.declared.jobs.Which.TheVariants.{Digest, Account}
@@ -63,6 +64,26 @@ abbrev pub IsMisplaced : List Row → Type 0
 IsMisplaced rows = (source : Text) × IsArgumentOf (codes "SOURCE") rows source
     × (IsTokenFor source (first_of (codes "token") rows) → ⊥)
 
+-- 16 to 64 of the digits of a digest, 0 to 9 and a to f
+abbrev pub is_of_digest : ℕ → Bool
+is_of_digest byte = (nat_le 48 byte && nat_le byte 57) || (nat_le 97 byte && nat_le byte 102)
+
+abbrev pub are_noted : Text → Bool
+are_noted digits =
+    nat_le 16 (length digits) && (nat_le (length digits) 64 && list_all is_of_digest digits)
+
+-- no digits are said, or such; and others are
+abbrev pub MayBeNoted : Option Text → Type 0
+MayBeNoted None = ⊤
+MayBeNoted (Some digits) = are_noted digits ≡ true
+
+abbrev pub IsNoneNoted : Option Text → Type 0
+IsNoneNoted None = ⊥
+IsNoneNoted (Some digits) = are_noted digits ≡ false
+
+abbrev pub IsMisnoted : List Row → Type 0
+IsMisnoted rows = IsNoneNoted (first_of (codes "digest") rows)
+
 -- the job of this name, with the values of its arguments
 abbrev pub IsJobOf : Text → List Row → Job → Type 0
 IsJobOf name rows (Script clerk file) =
@@ -112,6 +133,10 @@ IsJobOf name rows (Check file) =
 IsJobOf name rows (Copy file folder) =
     (name ≡ codes "copy") × IsArgumentOf (codes "FILE") rows (string_bytes file)
     × IsArgumentOf (codes "FOLDER") rows (string_bytes folder)
+IsJobOf name rows (Journal file digest) =
+    (name ≡ codes "journal") × IsArgumentOf (codes "FILE") rows (string_bytes file)
+    × (first_of (codes "digest") rows ≡ option_map string_bytes digest)
+    × MayBeNoted (option_map string_bytes digest)
 IsJobOf name rows (Tokens source token) =
     (name ≡ codes "tokens") × IsArgumentOf (codes "SOURCE") rows (string_bytes source)
     × (first_of (codes "token") rows ≡ option_map string_bytes token)
@@ -169,8 +194,9 @@ HasKeepingJob name rows =
     Where (bytes_eq name (codes "check")) (HasText (codes "FILE") rows)
     (Where (bytes_eq name (codes "copy"))
     (HasText (codes "FILE") rows × HasText (codes "FOLDER") rows)
+    (Where (bytes_eq name (codes "journal")) (HasText (codes "FILE") rows)
     (Where (bytes_eq name (codes "tokens")) (HasText (codes "SOURCE") rows)
-    (Where (bytes_eq name (codes "revoke")) (HasText (codes "SOURCE") rows) ⊥)))
+    (Where (bytes_eq name (codes "revoke")) (HasText (codes "SOURCE") rows) ⊥))))
 
 -- there is a job of this name among those that tell others what is published or look after an
 -- office, and the values that it needs are there
@@ -204,11 +230,12 @@ HasJob name rows =
     (HasTellingJob name rows)))))))
 
 -- the words of `tokens` say a token where none is wanted, or none where one is; or so do those of
--- `revoke`, or they do not say which
+-- `revoke`, or they do not say which; or those of `journal` say a digest by other digits
 abbrev pub IsUnclearJob : Text → List Row → Type 0
 IsUnclearJob name rows =
     ((name ≡ codes "tokens") × IsMisplaced rows)
-    ⊎ ((name ≡ codes "revoke") × (IsMisplaced rows ⊎ IsUnclear rows))
+    ⊎ (((name ≡ codes "revoke") × (IsMisplaced rows ⊎ IsUnclear rows))
+    ⊎ ((name ≡ codes "journal") × IsMisnoted rows))
 
 -- the words are taken, name a job, and it is this one; or they ask for help, or for the version, and
 -- that is printed
@@ -219,7 +246,7 @@ WordsAsk words job =
     ⊎ ((kind : ErrorKind) × IsAskedBy job kind × IsAmong kind (fault_of office_app words))
 
 -- the words are refused, by a fault other than that they ask for help or for the version; or they are
--- taken, and ask for capabilities, and not clearly for which
+-- taken, and ask for capabilities, and not clearly for which, or for a journal with such a digest
 abbrev pub WordsAreRefused : List Text → Type 0
 WordsAreRefused words =
     ((fault : ErrorKind) × IsAmong fault (fault_of office_app words) × IsNoQuestion fault)

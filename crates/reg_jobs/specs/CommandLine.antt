@@ -103,6 +103,9 @@ check_app = file_app (codes "check")
 abbrev pub copy_app : App
 copy_app = with_rule (file_app (codes "copy")) (place_rule (codes "FOLDER"))
 
+abbrev pub journal_app : App
+journal_app = with_rule (file_app (codes "journal")) (option_rule (codes "digest"))
+
 abbrev pub tokens_app : App
 tokens_app = with_rule (source_app (codes "tokens")) (option_rule (codes "token"))
 
@@ -150,5 +153,5 @@ telling_app =
 
 abbrev pub office_app : App
 office_app =
-    with_subcommand (with_subcommand (with_subcommand (with_subcommand telling_app
-    check_app.top) copy_app.top) tokens_app.top) revoke_app.top
+    with_subcommand (with_subcommand (with_subcommand (with_subcommand (with_subcommand telling_app
+    check_app.top) copy_app.top) journal_app.top) tokens_app.top) revoke_app.top

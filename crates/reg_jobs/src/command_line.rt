@@ -1,9 +1,10 @@
 //! The command line.
 ghost use Rattle.std.specs.Prelude.{◌≡◌, ◌≤◌, ◌⊎◌, IfErr, IfOk, List, MatchBool, MatchResult, Some, codes, map, option_map};
+ghost use Rattle.std.specs.List.{list_all};
 ghost use Rattle.std.specs.String.{string_bytes};
 ghost use Rattle.clap.specs.Words.{Row, Text, first_of, found_of, kind_of, rows_of, subcommand_rows_of};
 ghost use Rattle.clap.specs.declared.error.kind.ErrorKind.TheVariants.{OutOfMemory};
-ghost use Rattle.reg_jobs.specs.Asking.{HasJob, HasNumber, HasText, WordsAsk, IsAskedBy, IsCountOf, IsFromOneTo, IsInRange, IsJobOf, IsMisplaced, IsNumberOf, IsNoQuestion, WordsAreRefused, IsAddress, IsArgumentOf, IsTokenFor, IsUnclear, IsUnclearJob, IsWhichOf, MayHaveNumber, is_used};
+ghost use Rattle.reg_jobs.specs.Asking.{HasJob, HasNumber, HasText, WordsAsk, IsAskedBy, IsCountOf, IsFromOneTo, IsInRange, IsJobOf, IsMisnoted, IsMisplaced, IsNoneNoted, IsNumberOf, IsNoQuestion, WordsAreRefused, IsAddress, IsArgumentOf, IsTokenFor, IsUnclear, IsUnclearJob, IsWhichOf, MayBeNoted, MayHaveNumber, are_noted, is_of_digest, is_used};
 ghost use Rattle.reg_jobs.specs.declared.jobs.JobFault.TheVariants.{Line, Memory};
 
 use crate::definition::{MOST_CONNECTIONS, office};
@@ -13,6 +14,11 @@ use crate::jobs::{
 use clap::error::ErrorKind;
 use clap::{ArgMatches, Error};
 use std::alloc::{AllocError, Global};
+
+// How many digits a digest has, and how many of them are noted at least.
+const DIGEST_DIGITS: usize = 64;
+
+const LEAST_DIGITS: usize = 16;
 
 /// The job that the words of a command line ask for, the program's own name first. `Line` where
 /// they are no command line of the program.
@@ -71,6 +77,7 @@ fn job_of(alloc: Global, matches: &ArgMatches) -> Result<Job, JobFault>
         "verify" => verify_of(alloc, inner),
         "check" => check_of(alloc, inner),
         "copy" => copy_of(alloc, inner),
+        "journal" => journal_of(alloc, inner),
         "tokens" => tokens_of(alloc, inner),
         "revoke" => revoke_of(alloc, inner),
         _ => Err(JobFault::Line),
@@ -262,6 +269,17 @@ fn copy_of(alloc: Global, matches: &ArgMatches) -> Result<Job, JobFault>
     })
 }
 
+fn journal_of(alloc: Global, matches: &ArgMatches) -> Result<Job, JobFault>
+    ensures said { IfOk result (IsJobOf (codes "journal") (rows_of (found_of matches.now))) }
+    ensures given { HasText (codes "FILE") (rows_of (found_of matches.now))
+        → MatchResult result IsInRange
+        (λ fault. fault ≡ Line → IsMisnoted (rows_of (found_of matches.now))) }
+{
+    let file = text(alloc, matches, "FILE")?;
+    let digest = noted_digits(alloc, matches)?;
+    Ok(Job::Journal { file, digest })
+}
+
 fn tokens_of(alloc: Global, matches: &ArgMatches) -> Result<Job, JobFault>
     ensures said { IfOk result (IsJobOf (codes "tokens") (rows_of (found_of matches.now))) }
     ensures given { HasText (codes "SOURCE") (rows_of (found_of matches.now))
@@ -328,6 +346,53 @@ fn which(alloc: Global, matches: &ArgMatches) -> Result<Which, JobFault>
         (None, Some(account)) => Ok(Which::Account(account)),
         _ => Err(JobFault::Line),
     }
+}
+
+// The first digits of a digest that was noted, if any are said.
+fn noted_digits(alloc: Global, matches: &ArgMatches) -> Result<Option<String>, JobFault>
+    ensures said { IfOk result (λ digits. first_of (codes "digest") (rows_of (found_of matches.now))
+        ≡ option_map string_bytes digits) }
+    ensures formed { IfOk result (λ digits. MayBeNoted (option_map string_bytes digits)) }
+    ensures misnoted { IfErr result (λ fault. fault ≡ Line
+        → IsMisnoted (rows_of (found_of matches.now))) }
+{
+    let digits = optional_text(alloc, matches, "digest")?;
+    if may_be_noted(&digits) {
+        Ok(digits)
+    } else {
+        Err(JobFault::Line)
+    }
+}
+
+// Whether no digits are said, or such as are noted of a digest.
+fn may_be_noted(digits: &Option<String>) -> bool
+    ensures { MatchBool result (MayBeNoted (option_map string_bytes digits.now))
+        (IsNoneNoted (option_map string_bytes digits.now)) }
+{
+    match digits {
+        Some(digits) => are_noted(digits.as_bytes()),
+        None => true,
+    }
+}
+
+// Whether these are 16 to 64 of the digits of a digest.
+fn are_noted(digits: &[u8]) -> bool
+    ensures { result ≡ are_noted digits.now }
+{
+    LEAST_DIGITS <= digits.len() && digits.len() <= DIGEST_DIGITS && all_of_digest(digits)
+}
+
+fn all_of_digest(bytes: &[u8]) -> bool
+    ensures { result ≡ list_all is_of_digest bytes.now }
+{
+    bytes.iter().all(|byte| is_of_digest(*byte))
+}
+
+// Whether a byte is a lower-case hexadecimal digit.
+fn is_of_digest(byte: u8) -> bool
+    ensures { result ≡ is_of_digest byte }
+{
+    matches!(byte, b'0'..=b'9' | b'a'..=b'f')
 }
 
 // Whether an option with no value was used.

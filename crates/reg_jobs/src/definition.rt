@@ -2,7 +2,7 @@
 ghost use Rattle.std.specs.Prelude.{◌≡◌, codes, false, IfOk, IsOkAnd};
 ghost use Rattle.clap.specs.Words.{AddsSubcommand, app_of, new_app, rule_of};
 ghost use Rattle.clap.specs.declared.builder.command.Command.TheViews.{out-Command};
-ghost use Rattle.reg_jobs.specs.CommandLine.{asking_app, check_app, clerk_rule, connections_rule, copy_app, define_app, due_app, expert_rule, file_app, flag_rule, import_app, init_app, last_place_rule, listing_app, office_app, option_rule, path_app, place_rule, port_rule, publish_app, register_app, registry_app, request_app, revoke_app, script_app, serve_app, serving_app, source_app, telling_app, tokens_app, verify_app, within_rule, words_app};
+ghost use Rattle.reg_jobs.specs.CommandLine.{asking_app, check_app, clerk_rule, connections_rule, copy_app, define_app, due_app, expert_rule, file_app, flag_rule, import_app, init_app, journal_app, last_place_rule, listing_app, office_app, option_rule, path_app, place_rule, port_rule, publish_app, register_app, registry_app, request_app, revoke_app, script_app, serve_app, serving_app, source_app, telling_app, tokens_app, verify_app, within_rule, words_app};
 
 use crate::help;
 use crate::jobs::VERSION;
@@ -18,6 +18,7 @@ pub fn office<'a>(alloc: Global) -> Result<Command<'a>, AllocError>
 {
     let program = with_job(telling(alloc), check(alloc));
     let program = with_job(program, copy(alloc));
+    let program = with_job(program, journal(alloc));
     let program = with_job(program, tokens(alloc));
     with_job(program, revoke(alloc))
 }
@@ -297,6 +298,18 @@ fn copy<'a>(alloc: Global) -> Result<Command<'a>, AllocError>
     ensures local { IfOk result (λ c. (out-Command c).has_globals ≡ false) }
 {
     file_command(alloc, "copy", help::COPY_ABOUT, help::COPY_EXAMPLE)?.arg(folder(alloc))
+}
+
+fn journal<'a>(alloc: Global) -> Result<Command<'a>, AllocError>
+    ensures shape { IfOk result (λ c. app_of c ≡ journal_app) }
+    ensures local { IfOk result (λ c. (out-Command c).has_globals ≡ false) }
+{
+    file_command(alloc, "journal", help::JOURNAL_ABOUT, help::JOURNAL_EXAMPLE)?.arg(option(
+        alloc,
+        "digest",
+        "DIGEST",
+        "A digest that the journal must contain, or at least its first 16 digits",
+    ))
 }
 
 fn tokens<'a>(alloc: Global) -> Result<Command<'a>, AllocError>

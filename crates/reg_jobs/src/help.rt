@@ -134,7 +134,7 @@ pub const CHECK_ABOUT: &str =
 pub const CHECK_EXAMPLE: &str = "Example:
   reg_cli check office.db
 prints first
-  version 3
+  version 4
   well kept
 and then a count for each kind of row, as: entries 340";
 
@@ -146,7 +146,17 @@ pub const COPY_EXAMPLE: &str =
 of FILE. An earlier copy of that name is replaced. Example:
   reg_cli copy office.db /backup/2026-11-28
 prints
-  copied version 3, 401 requests";
+  copied version 4, 401 requests";
+
+pub const JOURNAL_ABOUT: &str =
+    "Prints the journal of the office in FILE as CSV, also while it is served: who did what, and when";
+
+pub const JOURNAL_EXAMPLE: &str =
+    "DIGEST is a digest that you noted earlier, or at least its first 16 digits. If no record
+has it, nothing is printed, and something before it was changed. Example:
+  reg_cli journal office.db --digest 3edb5d9d72eb0f34
+prints first
+  Number,Moment,By,Token,Kind,Account,Reference,Registry,Value,Block,Other,Digest";
 
 pub const TOKENS_ABOUT: &str =
     "Prints all tokens of the office at SOURCE as CSV, each by the first 12 digits of its digest";

@@ -3,7 +3,7 @@ use std::alloc::{AllocError, AllocFailed};
 use std::io;
 
 /// The version of the program. Its first number is the version of the offices that it keeps.
-pub const VERSION: &str = "3.0.0";
+pub const VERSION: &str = "4.0.0";
 
 /// What the address of an office begins with that is served over HTTP on this machine.
 pub const SERVED: &str = "http://127.0.0.1:";
@@ -67,6 +67,13 @@ pub enum Job {
         file: String,
         /// The path of the folder in which the copy is put.
         folder: String,
+    },
+    /// Prints the journal of the office in a file.
+    Journal {
+        /// The path of the office's file.
+        file: String,
+        /// The first digits of a digest that the journal has to have.
+        digest: Option<String>,
     },
     /// Prints the capabilities of the office in a file, or of one that is served.
     Tokens {

@@ -1,6 +1,9 @@
 -- What the calls of a keeper promise.
-use Rattle.std.specs.Prelude.{◌≡◌, Bool, false, IsTrue, Result, IfOk, IfErr, OnOk, OnErr}
-use Rattle.reg_core.specs.World.{World}
+use Rattle.std.specs.Prelude.{◌≡◌, Bool, false, true, IsTrue, List, Result, IfOk, IfErr, OnOk, OnErr}
+use Rattle.reg_core.specs.Journal.{acts_where, with_acts}
+use Rattle.reg_core.specs.World.{World, applied}
+use Rattle.reg_core.specs.declared.change.Change.{Change}
+use Rattle.reg_core.specs.declared.journal.Act.{Act}
 use Rattle.reg_keeper.specs.declared.keeper.Fault.{Fault}
 use Rattle.reg_keeper.specs.declared.keeper.Fault.TheVariants.{Memory, Store}
 
@@ -38,3 +41,11 @@ pub record Makes {S T : Type 0} (world : S → World) (Holds Sound : S → Type 
   pub kept : Holds new → OnErr result (world new ≡ world old)
   pub premise : GoesOn Holds Sound old new (IsUnfailed result)
   pub fault : IfErr result (MayFault fails)
+
+-- the world after a change, with these acts in its journal: each comes before those that were there
+abbrev pub applied_with : List Act → World → Change → World
+applied_with acts w change = record (applied w change) { journal = with_acts acts w.journal }
+
+-- all acts of a world, the oldest first
+abbrev pub all_acts : World → List Act
+all_acts w = acts_where (λ act. true) w

@@ -3,11 +3,13 @@ ghost use Rattle.std.specs.Prelude.{◌≡◌, Bool, IfOk, map, option_map};
 ghost use Rattle.std.specs.FinMap.{contains_key, get, keys};
 ghost use Rattle.std.specs.List.Sorted.{IsStrictlyIncreasing};
 ghost use Rattle.reg_maps.specs.Maps.{only_if};
+ghost use Rattle.reg_core.specs.Arrivals.{arrival};
 ghost use Rattle.reg_core.specs.BlockDue.{due_in};
 ghost use Rattle.reg_core.specs.CapRows.{cap_rows};
 ghost use Rattle.reg_core.specs.Entry.{entry_row};
 ghost use Rattle.reg_core.specs.File.{file as file_of, waiting_files};
 ghost use Rattle.reg_core.specs.Holding.{holding_row, holding_rows, listed_rows, masked_blocks};
+ghost use Rattle.reg_core.specs.Journal.{acts_where, is_about, is_by, is_on};
 ghost use Rattle.reg_core.specs.LeastFree.{least_free_in};
 ghost use Rattle.reg_core.specs.Link.{agent_rows, link_rows, principal_names};
 ghost use Rattle.reg_core.specs.Page.{entry_rows};
@@ -16,7 +18,7 @@ ghost use Rattle.reg_core.specs.Request.{request_row, request_rows};
 ghost use Rattle.reg_core.specs.View.{agents_of, entries_of, holdings_of, principals_of, queue_of, requests_of};
 ghost use Rattle.reg_core.specs.WellKept.{WellKept, CanApply};
 ghost use Rattle.reg_core.specs.World.{World, applied};
-ghost use Rattle.reg_keeper.specs.Keeper.{Selects, Makes};
+ghost use Rattle.reg_keeper.specs.Keeper.{Selects, Makes, all_acts, applied_with};
 
 use reg_blocks::block::Block;
 use reg_blocks::pool::Pool;
@@ -26,11 +28,13 @@ use reg_core::case_file::CaseFile;
 use reg_core::change::Change;
 use reg_core::entry::Entry;
 use reg_core::holding::{Holding, Listed};
+use reg_core::journal::{Act, Arrival};
 use reg_core::link::LinkRow;
 use reg_core::queue::QueueRow;
 use reg_core::request::Request;
 use reg_core::rows::Rows;
 use reg_core::text::{Account, Digest, Name, Ref};
+use reg_early::day::Day;
 use reg_ranges::policy::Policy;
 use reg_ranges::table::RangeTable;
 use std::alloc::AllocError;
@@ -223,10 +227,43 @@ pub trait Keeper {
         ensures { Selects world Holds Sound FAILS self.old self.new result
             (λ w rows. rows ≡ link_rows w.agents) };
 
-    /// Makes a change whole, or not at all.
+    /// All acts, oldest first.
+    fn acts(&mut self) -> Result<Rows<Act>, Fault>
+        ensures { Selects world Holds Sound FAILS self.old self.new result
+            (λ w acts. acts ≡ all_acts w) };
+
+    /// The acts of a day, oldest first.
+    fn acts_on(&mut self, day: Day) -> Result<Rows<Act>, Fault>
+        ensures { Selects world Holds Sound FAILS self.old self.new result
+            (λ w acts. acts ≡ acts_where (is_on day) w) };
+
+    /// The acts that an account made, oldest first.
+    fn acts_by(&mut self, account: &Account) -> Result<Rows<Act>, Fault>
+        ensures { Selects world Holds Sound FAILS self.old self.new result
+            (λ w acts. acts ≡ acts_where (is_by account.now) w) };
+
+    /// The acts about the request of an account under a reference, oldest first.
+    fn acts_about(&mut self, account: &Account, reference: &Ref) -> Result<Rows<Act>, Fault>
+        ensures { Selects world Holds Sound FAILS self.old self.new result
+            (λ w acts. acts ≡ acts_where (is_about (account.now, reference.now)) w) };
+
+    /// The number and the moment of the last act by which the request of an account under a
+    /// reference came.
+    fn arrival(&mut self, account: &Account, reference: &Ref) -> Result<Arrival, Fault>
+        ensures { Selects world Holds Sound FAILS self.old self.new result
+            (λ w found. found ≡ arrival w.journal (account.now, reference.now)) };
+
+    /// Makes a change whole, or not at all. It leaves no act in the journal.
     fn apply(&mut self, change: Change) -> Result<(), Fault>
         requires { Holds self.old → CanApply (world self.old) change }
         ensures { Makes world Holds Sound FAILS self.old self.new result (λ w. applied w change) };
+
+    /// Makes a change whole and puts its acts into the journal, the last as the latest, or does
+    /// neither.
+    fn record(&mut self, change: Change, acts: &[Act]) -> Result<(), Fault>
+        requires { Holds self.old → CanApply (world self.old) change }
+        ensures { Makes world Holds Sound FAILS self.old self.new result
+            (λ w. applied_with acts.now w change) };
 
     /// The content is well kept.
     ghost well_kept: { (keeper : Self) → Holds keeper → WellKept (world keeper) };

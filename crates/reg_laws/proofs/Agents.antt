@@ -2,7 +2,7 @@
 use Rattle.std.proofs.Common.{◌≡◌, ℕ, Bool, true, false, cond, List, refl, ap, ◌∙◌}
 use Rattle.std.specs.Prelude.{Option, Some, None, is_some}
 use Rattle.reg_core.proofs.Common.{eq_by_cmp, get, contains_key, both_ways, same_text, only_if, select}
-use Rattle.reg_core.proofs.Common.{principals_of, principal_rows_of, link_keys, same_text-itself}
+use Rattle.reg_core.proofs.Common.{principals_of, principal_rows_of, times_by, link_keys, same_text-itself}
 use Rattle.std.specs.FinSet.{FinSet}
 use Rattle.reg_maps.proofs.MapLaws.{tied, get-at_insert, get-at_remove, select-insert_same, select-remove_same, select-insert_unchosen, select-remove_unchosen}
 use Rattle.reg_core.specs.World.{World, Link, link_cmp, with_link}
@@ -72,3 +72,8 @@ module _ (account agent : List ℕ) (reads : Bool) (apart : same_text agent acco
       ≡ principal_rows_of account w
   principal_rows_unchanged w i =
       select (λ name case. only_if (other_link name.0 w.agents i) case) w.requests
+
+  pub principal_times_unchanged : (w : World)
+      → times_by (λ of. contains_key (with_link reads its w.agents) (of, account)) w
+      ≡ times_by (λ of. contains_key w.agents (of, account)) w
+  principal_times_unchanged w i = times_by (λ of. other_link of w.agents i) w

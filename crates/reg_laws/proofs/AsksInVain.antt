@@ -6,7 +6,7 @@ use Rattle.reg_core.proofs.Common.{FinMap, get, bytes_eq-Decides, same_text, ear
 use Rattle.reg_core.proofs.Common.{first_item, unmet, Table, Answer, admitted, as_kind, by_rule}
 use Rattle.reg_core.proofs.Common.{change_of, made_row, reply_of, same_ask, submit_rule, answer_to}
 use Rattle.reg_core.proofs.Common.{published, Personal, personal, cap_at, with_personal, World, Place}
-use Rattle.reg_core.proofs.Common.{RequestName, place_cmp, applied_if}
+use Rattle.reg_core.proofs.Common.{RequestName, place_cmp, carried}
 use Rattle.reg_laws.proofs.Types.{Ask, Want, Cap, Told, Decision}
 use Rattle.reg_core.proofs.Common.{by_test}
 use Rattle.reg_laws.proofs.Types.{Registration, Refusal, Case, Given, Same}
@@ -248,6 +248,6 @@ foreign_are_hidden digest_of w v caller moment reference ask place of differ not
     (subst (λ x. HasNoEntry x (cap_at x caller) place) differ not_v) in
     let none = no_change digest_of w caller moment reference ask place of in (
       ap reply_of (one ∙ sym two),
-      ap (applied_if w) (ap change_of one ∙ none),
-      ap (applied_if v) (ap change_of two ∙ none),
+      ap (carried w caller moment) (ap change_of one ∙ none),
+      ap (carried v caller moment) (ap change_of two ∙ none),
     )

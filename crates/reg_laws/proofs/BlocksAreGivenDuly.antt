@@ -9,7 +9,7 @@ use Rattle.reg_core.proofs.Common.{reply_of, by_rule, same_size, masked, masked_
 use Rattle.reg_core.proofs.Common.{holding_row, with_mark, GivesDigests, private_rule, world_after}
 use Rattle.reg_core.proofs.Common.{answer_to, published, Personal, personal, holdings_of, view_of}
 use Rattle.reg_core.proofs.Common.{cap_at, with_personal, WellKept, is_held_by, stands_in, World}
-use Rattle.reg_core.proofs.Common.{pending, applied_if}
+use Rattle.reg_core.proofs.Common.{pending, carried, times_seen}
 use Rattle.reg_laws.proofs.Types.{Ask, BlockAsk, Cap, Holder, Holding, Given}
 use Rattle.reg_core.proofs.Common.{block_keys, same_size-is}
 use Rattle.reg_laws.proofs.Types.{State}
@@ -175,6 +175,7 @@ module _ (w : World) (n : FinMap block_cmp Holder) (caller : Option (List ℕ))
       λ i. record {
         published = record (published w) { blocks = masked_alike i };
         me = me i;
+        times = times_seen w caller;
       }
     where
       by : (o : Option Cap) → cap_at w caller ≡ o
@@ -248,6 +249,6 @@ foreign_hidden digest_of w caller moment a b private other not_a not_b =
     let two = answered digest_of w caller moment b other not_b in
     let none = no_change (option_map (with_personal w) (cap_at w caller)) moment in (
       ap reply_of (one ∙ sym two),
-      ap (applied_if w) (ap change_of one ∙ none),
-      ap (applied_if w) (ap change_of two ∙ none),
+      ap (carried w caller moment) (ap change_of one ∙ none),
+      ap (carried w caller moment) (ap change_of two ∙ none),
     )

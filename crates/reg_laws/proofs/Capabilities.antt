@@ -44,7 +44,7 @@ get-without (gone ∷ digests) caps digest =
 -- ---- Those that pass a test
 
 -- what passes a test is among those of a list that do
-passing : {A : Type 0} (test : A → Bool) (xs : List A)
+pub passing : {A : Type 0} (test : A → Bool) (xs : List A)
     → All (λ x. test x ≡ true → Contains (filter test xs) x) xs
 passing test [] = All-nil (λ x. test x ≡ true → Contains (filter test []) x)
 passing {A} test (y ∷ ys) =

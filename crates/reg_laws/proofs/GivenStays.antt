@@ -7,8 +7,8 @@ use Rattle.reg_core.proofs.Common.{IsDay, is_in_clock, utc_day, Table, has_comma
 use Rattle.reg_core.proofs.Common.{with_hold, holder_in, with_mark, SizedPrefix, IsDuly, place_of}
 use Rattle.reg_core.proofs.Common.{is_pending, Event, have_forms, step_of, world_after, WellKept, World}
 use Rattle.reg_core.proofs.Common.{RequestName, Place, Seat, place_cmp, seat_cmp, in_state, pending}
-use Rattle.reg_core.proofs.Common.{applied, applied_if}
-use Rattle.reg_laws.proofs.Types.{Advice, Ask, Change, Registration, Entry, Holder}
+use Rattle.reg_core.proofs.Common.{applied, carried}
+use Rattle.reg_laws.proofs.Types.{Act, Advice, Ask, Change, Registration, Entry, Holder}
 use Rattle.reg_core.proofs.Common.{name_keys, place_keys}
 use Rattle.reg_laws.proofs.Types.{Holding, Case, State, Pending, Approved}
 use Rattle.reg_core.proofs.Common.{seat_keys, block_keys}
@@ -322,13 +322,21 @@ run_goes_on e events = record {
       inr (by.0, inr (subst (λ day. IsRenewedIn events day is) by.1 more));
 }
 
+-- nothing is said of the journal
+kept_anyhow : (IsRenewed : ℕ → ℕ → Type 0) (w v : World) (journal : List Act)
+    → StaysGiven IsRenewed w v → StaysGiven IsRenewed w (record v { journal = journal })
+kept_anyhow IsRenewed w v journal stays = assumption
+
 module _ (digest_of : List ℕ → List ℕ) where
   step_stays : (IsRenewed : ℕ → ℕ → Type 0) (w : World) → WellKept w → (e : Event)
       → Renews IsRenewed (utc_day e.moment) → StaysGiven IsRenewed w (step_of digest_of w e).world
   step_stays IsRenewed w kept e on =
       each_step digest_of w e.caller e.moment e.command
-      (λ change. StaysGiven IsRenewed w (applied_if w change)) (stays_itself IsRenewed w)
-      (λ change is. due_stays IsRenewed w kept e.caller e.moment on is.is_open change is.due)
+      (λ change. StaysGiven IsRenewed w (carried w e.caller e.moment change)) (stays_itself IsRenewed w)
+      (λ change is.
+      kept_anyhow IsRenewed w (applied w change)
+      (carried w e.caller e.moment (Some change)).journal
+      (due_stays IsRenewed w kept e.caller e.moment on is.is_open change is.due))
 
   pub runs_stay : GivesDigests digest_of → GivenStays digest_of
   runs_stay digests w [] kept forms = stays_itself (IsRenewedIn []) w

@@ -7,12 +7,15 @@ pub mod Lines
 pub mod TermsStand
 pub mod GivenStays
 pub mod BlocksAreGivenDuly
+pub mod Times
+pub mod TwoWorldsByNow
 pub mod TwoWorlds
 pub mod ValuesAreGivenOnce
 pub mod TermsMoveDuly
 pub mod LinksAreTheirPrincipals
 pub mod RevocationsTakeJust
 pub mod AsksInVain
+pub mod JournalIsExact
 pub mod Repeats
 pub mod Striking
 mod Worked

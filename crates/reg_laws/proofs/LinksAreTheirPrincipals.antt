@@ -1,8 +1,8 @@
 -- Links are their principals'.
-use Rattle.std.proofs.Common.{◌≡◌, ℕ, Bool, true, false, List, refl, sym, ap, ◌∙◌, inl, inr, Option, ◌⊎◌}
+use Rattle.std.proofs.Common.{◌≡◌, ℕ, Bool, true, false, List, refl, sym, ap, ◌∙◌, inl, inr, Option, Some, ◌⊎◌}
 use Rattle.reg_core.proofs.Common.{contains_key, eq_by_cmp, tied, World, Link, link_cmp, applied}
-use Rattle.reg_core.proofs.Common.{applied_if, link_keys, link_is, link_stays}
-use Rattle.reg_laws.proofs.Types.{Change, Command}
+use Rattle.reg_core.proofs.Common.{carried, link_keys, link_is, link_stays}
+use Rattle.reg_laws.proofs.Types.{Act, Change, Command}
 use Rattle.reg_core.proofs.Common.{same_kind-is}
 use Rattle.reg_core.specs.Agents.{IsSaid, LinksAreTheirPrincipals}
 use Rattle.reg_core.specs.declared.capability.Kind.TheVariants as kind
@@ -46,8 +46,28 @@ module _ (digest_of : List ℕ → List ℕ) (w : World) (caller : Option (List 
   due_stands (SetAgent principal agent reads) is = said principal agent reads is
   due_stands change is = inl refl
 
+  -- nothing is said of the journal
+  stands_anyhow : (v : World) (journal : List Act) → Stands v
+      → Stands (record v { journal = journal })
+  stands_anyhow v journal stands = elim stands [
+    | inl same ↦ inl same
+    | inr by ↦ inr (record {
+      reads = by.reads;
+      by = by.by;
+      cap = by.cap;
+      has = by.has;
+      own = by.own;
+      kind = by.kind;
+      is = by.is;
+    })
+  ]
+
 pub links_are_theirs : (digest_of : List ℕ → List ℕ) → LinksAreTheirPrincipals digest_of
 links_are_theirs digest_of w caller moment command link =
     each_step digest_of w caller moment command
-    (λ change. Stands digest_of w caller moment command link (applied_if w change)) (inl refl)
-    (due_stands digest_of w caller moment command link)
+    (λ change. Stands digest_of w caller moment command link (carried w caller moment change))
+    (inl refl)
+    (λ change is.
+    stands_anyhow digest_of w caller moment command link (applied w change)
+    (carried w caller moment (Some change)).journal
+    (due_stands digest_of w caller moment command link change is))

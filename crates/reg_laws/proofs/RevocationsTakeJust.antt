@@ -3,7 +3,8 @@ use Rattle.std.proofs.Common.{◌≡◌, ◌≤◌, ℕ, Bool, false, List, leng
 use Rattle.std.specs.Prelude.{Option, Ok, Err}
 use Rattle.reg_core.proofs.Common.{false_from_ne_true, both_ways, Answer, Outcome, reply_of, change_of}
 use Rattle.reg_core.proofs.Common.{begins_with, is_of, cap_row, caps_that, answer_to, cap_at, World}
-use Rattle.reg_core.proofs.Common.{applied_if}
+use Rattle.reg_core.proofs.Common.{carried}
+use Rattle.reg_core.proofs.Journals.{carried_is}
 use Rattle.reg_laws.proofs.Types.{CapRow, ClerkCommand, Accepted}
 use Rattle.reg_core.specs.Laws.{TakesJust, RevocationsTakeJust}
 use Rattle.reg_core.specs.declared.command.ClerkCommand.TheVariants.{RevokeDigits, RevokeAccount}
@@ -17,7 +18,8 @@ module _ (digest_of : List ℕ → List ℕ) (w : World) (caller : Option (List 
   -- the world after took just the chosen ones, and has all else, and the token in use, as before
   abbrev IsJust : (CapRow → Bool) → List CapRow → World → Type 0
   IsJust chosen rows v =
-      TakesJust w.caps v.caps chosen rows × (v ≡ record w { caps = v.caps })
+      TakesJust w.caps v.caps chosen rows
+      × (v ≡ record w { caps = v.caps; journal = v.journal })
       × (cap_at v caller ≡ cap_at w caller)
 
   -- where the chosen ones went
@@ -29,13 +31,17 @@ module _ (digest_of : List ℕ → List ℕ) (w : World) (caller : Option (List 
         both_ways _ took.others (is_in_use chosen w.caps by.digest by.serves.cap
         (ap (cap_at w) (sym by.is) ∙ by.serves.is_there) t))
 
-    is_just : IsJust chosen (caps_that chosen w.caps) (applied_if w o.change)
+    is_just : IsJust chosen (caps_that chosen w.caps) (carried w caller moment o.change)
     is_just =
-        let v = gone w (caps_that chosen w.caps) in
+        let journal = (carried w caller moment o.change).journal in
+        let v = record (gone w (caps_that chosen w.caps)) { journal = journal } in
+        let is : carried w caller moment o.change ≡ v =
+        carried_is w caller moment o.change
+        ∙ ap (λ (u : World). record u { journal = journal }) took.after in
         let takes = takes_just chosen w.caps in
         let has = ap (cap_at w) (sym by.is) ∙ by.serves.is_there in
         let left = takes.others by.digest by.serves.cap has in_use_fails in
-        subst (IsJust chosen (caps_that chosen w.caps)) (sym took.after)
+        subst (IsJust chosen (caps_that chosen w.caps)) (sym is)
         (takes, refl, ap (cap_at v) by.is ∙ left ∙ sym by.serves.is_there)
 
     -- and these are what the caller is told of
@@ -46,7 +52,8 @@ module _ (digest_of : List ℕ → List ℕ) (w : World) (caller : Option (List 
   -- the answer takes just these away, where it tells of them
   abbrev TakesThem : (CapRow → Bool) → List CapRow → Answer → Type 0
   TakesThem chosen rows a =
-      reply_of a ≡ Accepted (Capabilities rows) → IsJust chosen rows (applied_if w (change_of a))
+      reply_of a ≡ Accepted (Capabilities rows)
+      → IsJust chosen rows (carried w caller moment (change_of a))
 
   -- each outcome of the command takes those that were chosen
   abbrev AllTake : ClerkCommand → (CapRow → Bool) → Type 0
@@ -63,7 +70,7 @@ module _ (digest_of : List ℕ → List ℕ) (w : World) (caller : Option (List 
           → TakesThem chosen rows a
       by (Ok o) is told =
           let so = takes o (accepted digest_of w caller moment (Clerk command) o is).so in
-          subst (λ rows. IsJust chosen rows (applied_if w o.change))
+          subst (λ rows. IsJust chosen rows (carried w caller moment o.change))
           (is_told chosen so.0 o so.1 rows told) (is_just chosen so.0 o so.1)
       by (Err refusal) is told = absurd (cc)
 

@@ -3,9 +3,10 @@ use Rattle.std.proofs.Common.{◌≡◌, ℕ, Bool, true, false, cond, ◌&&◌,
 use Rattle.std.specs.Prelude.{Option, filter}
 use Rattle.std.specs.List.{list_any, AllZip}
 use Rattle.reg_core.proofs.Common.{contains_key, or_parts, not-false, same_text, change_of, reply_of}
-use Rattle.reg_core.proofs.Common.{Event, step_of, world_after, ShowSame, HasNoneUnseen, AreAlikeTo}
-use Rattle.reg_core.proofs.Common.{UnseenLeaveNoTrace, StagesAreOfRun, World, RequestName, applied_if}
-use Rattle.reg_core.proofs.Common.{not_some}
+use Rattle.reg_core.proofs.Common.{Event, step_of, world_after, ShowSame, AreAlikeTo}
+use Rattle.reg_core.proofs.Common.{UnseenLeaveNoTrace, StagesAreOfRun, World, RequestName, carried}
+use Rattle.reg_core.proofs.Common.{acts_without, not_some, stamp_in}
+use Rattle.reg_core.specs.Striking.{ListsNoneUnseen}
 use Rattle.reg_laws.proofs.Types.{Change}
 use Rattle.reg_core.specs.Unseen.{Stage, stage, stages, about_at, reveals_if, is_unseen, is_hidden, stays_in}
 use Rattle.reg_core.proofs.Outcomes.Dues.{changes_due}
@@ -16,6 +17,8 @@ use Rattle.reg_laws.proofs.Striking.Views.{show_same}
 use Rattle.reg_laws.proofs.Striking.Worlds.{agree_itself, agree_if, agree_hidden_if, Blind, IsQuiet, IsOfHidden, blind_if, Unaware}
 pub mod Worlds
 pub mod Views
+pub mod Acts
+pub mod Arrivals
 pub mod Answers
 pub mod Untouched
 pub mod Lists
@@ -50,6 +53,8 @@ module _ (digest_of : List ℕ → List ℕ) (account : List ℕ) (hidden : Requ
     each_event : AllZip (AreAlikeTo account hidden) some
         (stages digest_of v (events_at some))
     end : ShowSame account last (world_after digest_of v (events_at some))
+    journals : acts_without hidden last.journal
+        ≡ acts_without hidden (world_after digest_of v (events_at some)).journal
 
   -- no change of a run shows the account a hidden request
   abbrev IsQuietRun : World → List Event → Type 0
@@ -64,11 +69,16 @@ module _ (digest_of : List ℕ → List ℕ) (account : List ℕ) (hidden : Requ
     after_both : change_at w e ≡ change_at v e → Unaware account hidden (after w e) (after v e)
     after_both same =
         let made = change_at w e in
-        subst (λ change. Unaware account hidden (after w e) (applied_if v change)) same (record {
-          agree = agree_if hidden w v un.agree made;
+        let in_w = stamp_in w e.caller e.moment in
+        let in_v = stamp_in v e.caller e.moment in
+        let one : in_w ≡ in_v =
+        ap (λ (x : World). stamp_in x e.caller e.moment) un.agree.rest in
+        subst (λ change. Unaware account hidden (after w e) (carried v e.caller e.moment change)) same
+        (record {
+          agree = agree_if hidden w v un.agree in_w in_v one made;
           not_own = un.not_own;
-          blind_w = blind_if account hidden w un.blind_w made quiet;
-          blind_v = blind_if account hidden v un.blind_v made quiet;
+          blind_w = blind_if account hidden w un.blind_w in_w made quiet;
+          blind_v = blind_if account hidden v un.blind_v in_v made quiet;
         })
 
     -- after an event that is struck the first world has changed in a hidden request alone
@@ -76,15 +86,16 @@ module _ (digest_of : List ℕ → List ℕ) (account : List ℕ) (hidden : Requ
         → Unaware account hidden (after w e) v
     after_struck struck =
         let made = change_at w e in
+        let by = stamp_in w e.caller e.moment in
         let its = about_at (stage digest_of w e) in
         let hides = not-false _ (or_parts (not (is_hidden hidden its)) _ struck).0 in
         let due = changes_due digest_of w e.caller e.moment e.command in
         let of_hidden : IsOfHidden true hidden made = λ change is.
         ap (is_hidden hidden) (due change is).about ∙ hides in
         record {
-          agree = agree_hidden_if hidden w v un.agree account made of_hidden quiet;
+          agree = agree_hidden_if hidden w v un.agree account by made of_hidden quiet;
           not_own = un.not_own;
-          blind_w = blind_if account hidden w un.blind_w made quiet;
+          blind_w = blind_if account hidden w un.blind_w by made quiet;
           blind_v = un.blind_v;
         }
 
@@ -93,8 +104,8 @@ module _ (digest_of : List ℕ → List ℕ) (account : List ℕ) (hidden : Requ
         → AreAlikeTo account hidden (stage digest_of w e) (stage digest_of v e)
     alike stays =
         let answers = same_answer digest_of account hidden e w v un stays in
-        let plain = λ (none : HasNoneUnseen hidden v).
-        answer_plain hidden v none digest_of e (answer_at digest_of v e) refl in
+        let plain = λ (none : ListsNoneUnseen hidden v (reply_of (answer_at digest_of v e))).
+        answer_plain hidden v none.0 digest_of e (answer_at digest_of v e) refl none.1 in
         let apart = kept_apart digest_of account hidden e w v un stays in
         let open_made = subst (IsOfHidden false hidden) answers.change apart in
         record {
@@ -103,13 +114,18 @@ module _ (digest_of : List ℕ → List ℕ) (account : List ℕ) (hidden : Requ
           after = show_same account hidden (after w e) (after v e) (after_both answers.change);
           replies = λ lists. ap reply_of (answers.whole lists);
           rows = answers.rows;
-          untouched = left_if hidden v (change_at v e) open_made;
+          untouched = left_if hidden v (stamp_in v e.caller e.moment) (change_at v e) open_made;
           without = λ none. sym (plain none) ∙ sym answers.rows;
+          journals = (after_both answers.change).agree.acts;
         }
 
   followed : (events : List Event) (w v : World) → Unaware account hidden w v → IsQuietRun w events
       → IsFollowed v (kept w events) (world_after digest_of w events)
-  followed [] w v un quiet = record { each_event = tt; end = show_same account hidden w v un }
+  followed [] w v un quiet = record {
+    each_event = tt;
+    end = show_same account hidden w v un;
+    journals = un.agree.acts;
+  }
   followed (e ∷ events) w v un quiet =
       let s = stage digest_of w e in
       let left = kept (after w e) events in
@@ -124,10 +140,14 @@ module _ (digest_of : List ℕ → List ℕ) (account : List ℕ) (hidden : Requ
             let same = (same_answer digest_of account hidden e w v un stays).change in
             let next = after_both w v un e now same in
             let rest = followed events (after w e) (after v e) next later in
-            record { each_event = (alike w v un e now stays, rest.each_event); end = rest.end }
+            record {
+              each_event = (alike w v un e now stays, rest.each_event);
+              end = rest.end;
+              journals = rest.journals;
+            }
         | false ↦ λ struck.
             let rest = followed events (after w e) v (after_struck w v un e now struck) later in
-            record { each_event = rest.each_event; end = rest.end }
+            record { each_event = rest.each_event; end = rest.end; journals = rest.journals }
       ] refl
 
 -- ---- The law
@@ -157,4 +177,4 @@ unseen_leave_no_trace digest_of account w events =
       blind_v = blind;
     } in
     let runs = followed digest_of account unseen events w w un (λ name h. (none name h).3) in
-    record { each_event = runs.each_event; end = runs.end }
+    record { each_event = runs.each_event; end = runs.end; journals = runs.journals }

@@ -4,7 +4,7 @@ use Rattle.std.specs.Prelude.{Option, Some, IsSome, option_map, ◌⊎◌}
 use Rattle.std.specs.FinMap.{get, insert}
 use Rattle.reg_core.proofs.Common.{eq_by_cmp, update, tied, get-at_insert, get-update, utc_day}
 use Rattle.reg_core.proofs.Common.{status_on, registration_in, with_hold, place_of, WellKept, World}
-use Rattle.reg_core.proofs.Common.{Place, place_cmp, applied, applied_if}
+use Rattle.reg_core.proofs.Common.{Place, place_cmp, applied, carried}
 use Rattle.reg_laws.proofs.Types.{Change, Command, Entry}
 use Rattle.reg_core.proofs.Common.{place_keys}
 use Rattle.reg_laws.proofs.Types.{Registration}
@@ -129,6 +129,8 @@ module _ (digest_of : List ℕ → List ℕ) (w : World) (caller : Option (List 
 pub terms_move : (digest_of : List ℕ → List ℕ) → TermsMoveDuly digest_of
 terms_move digest_of w caller moment command place before kept stood =
     each_step digest_of w caller moment command
-    (λ change. MovesIn digest_of w caller moment command place before kept stood (applied_if w change))
+    (λ change.
+    MovesIn digest_of w caller moment command place before kept stood
+    (carried w caller moment change))
     (unmoved digest_of w caller moment command place before kept stood)
     (due_moves digest_of w caller moment command place before kept stood)

@@ -27,6 +27,9 @@ pub use Rattle.reg_core.specs.declared.entry.Registration.{Registration}
 pub use Rattle.reg_core.specs.declared.holding.Holder.{Holder}
 pub use Rattle.reg_core.specs.declared.holding.Holding.{Holding}
 pub use Rattle.reg_core.specs.declared.item.Item.{Item}
+pub use Rattle.reg_core.specs.declared.journal.Act.{Act}
+pub use Rattle.reg_core.specs.declared.journal.Deed.{Deed}
+pub use Rattle.reg_core.specs.declared.journal.Stamp.{Stamp}
 pub use Rattle.reg_core.specs.declared.refusal.Refusal.{Refusal}
 pub use Rattle.reg_core.specs.declared.request.Case.{Case}
 pub use Rattle.reg_core.specs.declared.request.Given.{Given}

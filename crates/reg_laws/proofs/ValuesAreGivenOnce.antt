@@ -3,7 +3,7 @@ use Rattle.std.proofs.Common.{◌≡◌, ℕ, true, List, refl, sym, ap, subst, 
 use Rattle.reg_core.proofs.Common.{get, bytes_eq-Decides, get-inserted, IsDay, registration_in}
 use Rattle.reg_core.proofs.Common.{GivesDigests, IsRenewedIn, StillGiven, Event, world_after, step}
 use Rattle.reg_core.proofs.Common.{WellKept, is_registered_to, is_registered_at, stands_in, World}
-use Rattle.reg_core.proofs.Common.{applied, applied_if, place_keys}
+use Rattle.reg_core.proofs.Common.{carried, place_keys}
 use Rattle.reg_laws.proofs.Types.{Ask, Entry, Registration}
 use Rattle.reg_early.proofs.MomentsHaveDays.{IsDay-utc_day}
 use Rattle.reg_core.specs.MayBeGiven.{IsDuly, AsksMeetTheirPolicy, IsSameEntry, NoValueIsGivenTwice, place_of}
@@ -67,7 +67,8 @@ no_value_is_given_twice digest_of digests w caller later_caller moment later_mom
     let v = world_after digest_of u events in
     let v_kept = runs_keep digest_of digests u events u_kept forms in
     let stays = runs_stay digest_of digests u events u_kept forms in
-    let given : u ≡ applied w (GiveValue account reference entry) = ap (applied_if w) made in
+    let given : u ≡ carried w caller moment (Some (GiveValue account reference entry)) =
+    ap (carried w caller moment) made in
     let there : get u.entries (place_of entry) ≡ Some (registration_in entry) =
     ap (λ (x : World). get x.entries (place_of entry)) given
     ∙ get-inserted place_keys w.entries (place_of entry) (registration_in entry) in

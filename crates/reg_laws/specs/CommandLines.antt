@@ -15,13 +15,15 @@ use Rattle.reg_core.specs.declared.capability.CapRow.{CapRow}
 use Rattle.reg_core.specs.declared.capability.Kind.{Kind}
 use Rattle.reg_core.specs.declared.capability.Kind.TheVariants as kind
 use Rattle.reg_core.specs.declared.command.Command.{Command}
-use Rattle.reg_core.specs.declared.command.Command.TheVariants.{Public, Applicant, Expert, Clerk}
+use Rattle.reg_core.specs.declared.command.Command.TheVariants.{Public, Token, Applicant, Times, Expert, Clerk}
+use Rattle.reg_core.specs.declared.command.TimesCommand.TheVariants as times
+use Rattle.reg_core.specs.declared.command.TimesCommand.{TimesCommand}
 use Rattle.reg_core.specs.declared.command.ApplicantCommand.{ApplicantCommand}
 use Rattle.reg_core.specs.declared.command.ApplicantCommand.TheVariants.{Own, OwnOne, Submit, Withdraw, Holdings, SetListing, SetAgent, Agents, Principals, PrincipalRows}
 use Rattle.reg_core.specs.declared.command.ExpertCommand.{ExpertCommand}
 use Rattle.reg_core.specs.declared.command.ExpertCommand.TheVariants.{Queue, Advise}
 use Rattle.reg_core.specs.declared.command.ClerkCommand.{ClerkCommand}
-use Rattle.reg_core.specs.declared.command.ClerkCommand.TheVariants.{AllRequests, OneRequest, AssignExpert, Approve, Decline, SetHold, Define, AddPool, Grant, Revoke, PendingRequests, AllCapabilities, RevokeDigits, RevokeAccount, CountRows}
+use Rattle.reg_core.specs.declared.command.ClerkCommand.TheVariants.{AllRequests, OneRequest, AssignExpert, Approve, Decline, SetHold, Define, AddPool, Grant, Revoke, PendingRequests, AllCapabilities, RevokeDigits, RevokeAccount, CountRows, ActsOn, ActsBy, ActsAbout}
 use Rattle.reg_core.specs.declared.command.PublicCommand.{PublicCommand}
 use Rattle.reg_core.specs.declared.command.PublicCommand.TheVariants.{Registries, Registry, RegistryCsv, PoolList, BlocksCsv}
 use Rattle.reg_core.specs.declared.refusal.Refusal.TheVariants as no
@@ -71,6 +73,12 @@ own_lines w account (SetAgent agent reads) =
 own_lines w account Agents = unchanged
 own_lines w account Principals = unchanged
 own_lines w account (PrincipalRows principal) =
+    of_row no.Principal (get w.agents (principal, account)) (λ link. unchanged)
+
+-- of the times of its own requests, or of those of a principal
+abbrev pub times_lines : World → List ℕ → TimesCommand → Lines
+times_lines w account times.Own = unchanged
+times_lines w account (times.Principal principal) =
     of_row no.Principal (get w.agents (principal, account)) (λ link. unchanged)
 
 -- ---- An expert
@@ -171,12 +179,21 @@ clerk_lines digest_of w in_use today (RevokeAccount account) =
     or_else is_there (NoneIsChosen w (is_of account))
     or_else accepted
 clerk_lines digest_of w in_use today CountRows = unchanged
+clerk_lines digest_of w in_use today (ActsOn day) = unchanged
+clerk_lines digest_of w in_use today (ActsBy account) = unchanged
+clerk_lines digest_of w in_use today (ActsAbout account reference) =
+    of_row no.Request (get w.requests (account, reference)) (λ case. unchanged)
 
 -- ---- Any caller
 
 -- the moment is before the year 2000, or after the year 2999
 abbrev pub IsOutsideYears : ℕ → Type 0
 IsOutsideYears moment = (moment < 946684800) ⊎ (32503680000 ≤ moment)
+
+-- of anybody with a valid token, from a caller with this capability or with none
+abbrev pub token_lines : ℕ → Option Cap → Lines
+token_lines moment by =
+    of_row no.Token by (λ cap. refuses no.Token (cap.until ≤ moment) or_else unchanged)
 
 -- a command of a kind, from a caller with this capability or with none; and the lines of its
 -- account
@@ -189,8 +206,11 @@ kind_lines kind moment by lines =
 
 abbrev pub open_lines : (List ℕ → List ℕ) → World → Option (List ℕ) → ℕ → Command → Lines
 open_lines digest_of w caller moment (Public command) = public_lines w command
+open_lines digest_of w caller moment Token = token_lines moment (cap_at w caller)
 open_lines digest_of w caller moment (Applicant command) =
     kind_lines kind.Applicant moment (cap_at w caller) (λ account. own_lines w account command)
+open_lines digest_of w caller moment (Times command) =
+    kind_lines kind.Applicant moment (cap_at w caller) (λ account. times_lines w account command)
 open_lines digest_of w caller moment (Expert command) =
     kind_lines kind.Expert moment (cap_at w caller) (λ account. expert_lines w account command)
 open_lines digest_of w caller moment (Clerk command) =

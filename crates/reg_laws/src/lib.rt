@@ -7,7 +7,8 @@ ghost use Rattle.reg_core.specs.Agents.{LinksAreTheirPrincipals};
 ghost use Rattle.reg_core.specs.BlocksGiven.{BlockAsksAreServedDuly, BlocksAreApart, BlocksDueAreLeast, ForeignBlocksAreHidden, PrivateHoldersAreHidden};
 ghost use Rattle.reg_core.specs.EarlyAllocations.{ExpiredValuesAreTaken, ForeignEntriesAreHidden, TermsMoveDuly};
 ghost use Rattle.reg_core.specs.FirstRefusals.{FirstRefusalsAreAnswered};
-ghost use Rattle.reg_core.specs.Laws.{AnswersAreDone, ApprovalsAreAdvised, ApprovalsGiveWhatIsAllowed, ApprovalsStand, ChangesFit, FirstWorldsAreWellKept, GivenStays, GivesDigests, RefusalsChangeNothing, RepeatsActOnce, RevocationsTakeJust, RunsKeepWell, SubmissionsStand, TwoWorlds};
+ghost use Rattle.reg_core.specs.JournalLaws.{ChangesAreSigned, JournalIsExact, JournalStays};
+ghost use Rattle.reg_core.specs.Laws.{AnswersAreDone, ApprovalsAreAdvised, ApprovalsGiveWhatIsAllowed, ApprovalsStand, ChangesFit, FirstWorldsAreWellKept, GivenStays, GivesDigests, RefusalsChangeNothing, RepeatsActOnce, RevocationsTakeJust, RunsKeepWell, SubmissionsStand, TwoWorlds, TwoWorldsByNow};
 ghost use Rattle.reg_core.specs.MayBeGiven.{AsksMeetTheirPolicy, NoValueIsGivenTwice};
 ghost use Rattle.reg_core.specs.Striking.{StagesAreOfRun, UnseenLeaveNoTrace};
 ghost use Rattle.reg_laws.specs.CommandLines.{CommandsGoByTheirLines};
@@ -18,12 +19,20 @@ pub fn two_worlds()
     ensures { (digest_of : List ℕ → List ℕ) → TwoWorlds digest_of }
 {}
 
+/// The same without times, for each command that asks for none: two well kept worlds that show a
+/// caller who is no clerk the same by now, whenever its requests came and were decided, answer its
+/// command alike, and then show it the same by now again.
+pub fn two_worlds_by_now()
+    ensures { (digest_of : List ℕ → List ℕ) → TwoWorldsByNow digest_of }
+{}
+
 /// Striking: requests of others that an account never sees, and that are given nothing, can be
 /// struck from a run. Without the events about them (what the account itself does as an applicant
 /// or as an expert stays) every event that is left is answered alike, and finds and leaves the
-/// published registers and the account's views the same; only a list of all requests, or of
-/// another account's, may lack their rows. So too at the end. What is left changes none of these
-/// requests; and where none of them is there, such a list is the other list without their rows.
+/// published registers and the account's views the same; only a list of all requests, of another
+/// account's, or of acts may lack their rows. So too at the end. What is left changes none of these
+/// requests; and where none of them is there, nor an act about one, such a list is the other list
+/// without their rows.
 #[tactic(auto, using(crate::proofs::Striking::stages_of_run))]
 pub fn struck()
     ensures no_trace { (digest_of : List ℕ → List ℕ) → UnseenLeaveNoTrace digest_of }
@@ -167,7 +176,7 @@ pub fn links_are_their_principals()
 /// Revocations take just what they name: a clerk who names a token by the first digits of its digest
 /// takes away no more than its one capability, and one who names an account all of its capabilities
 /// and nobody else's. The reply is what went, the token in use keeps its capability, and nothing else
-/// changes.
+/// changes but the journal.
 #[tactic(auto, using(crate::proofs::RevocationsTakeJust::revocations_take_just))]
 pub fn revocations_take_just()
     ensures { (digest_of : List ℕ → List ℕ) → RevocationsTakeJust digest_of }
@@ -201,4 +210,14 @@ pub fn approvals_stand()
 #[tactic(auto, using(reg_core::proofs::Keeping::FirstWorlds::first_worlds_kept))]
 pub fn first_worlds_are_well_kept()
     ensures { FirstWorldsAreWellKept }
+{}
+
+/// The journal is exact: after every list of events from any world it is what was there and then the
+/// acts of the steps that changed something, in order, each with that step's moment and caller; so no
+/// act changes or goes away. Each change is signed by the account and the token of its caller, and
+/// leaves one act, or one for each capability that goes.
+pub fn journal_is_exact()
+    ensures exact { (digest_of : List ℕ → List ℕ) → JournalIsExact digest_of }
+    ensures stays { (digest_of : List ℕ → List ℕ) → JournalStays digest_of }
+    ensures signed { (digest_of : List ℕ → List ℕ) → ChangesAreSigned digest_of }
 {}

@@ -1,17 +1,19 @@
 -- What the office answers: to all where it is closed, and to who is admitted where it is open.
-use Rattle.std.proofs.Common.{◌≡◌, ℕ, Bool, true, false, refl, ap, ◌∙◌, arith}
-use Rattle.std.specs.Prelude.{List, Option, Some, None, Result, Ok, Err, is_some, option_map, nat_le, nat_lt, if◌then◌else◌}
+use Rattle.std.proofs.Common.{◌≡◌, ℕ, Bool, true, false, refl, sym, ap, ◌∙◌, arith}
+use Rattle.std.specs.Prelude.{List, map, Option, Some, None, Result, Ok, Err, is_some, option_map, nat_le, nat_lt, if◌then◌else◌}
 use Rattle.std.specs.FinMap.{get}
 use Rattle.std.proofs.lemmas.Bool.Decides.{nat_tests}
 use Rattle.reg_maps.specs.Maps.{only_if}
 use Rattle.reg_early.specs.Moment.{is_in_clock, utc_day, day_of_moment}
 use Rattle.reg_core.specs.Allowance.{◌>>=◌, or_refusal}
-use Rattle.reg_core.specs.Answer.{Answer, admitted, as_kind, by_rule, own_answer, expert_answer, unchanged}
+use Rattle.reg_core.specs.Answer.{Answer, admitted, as_kind, by_rule, in_force, own_answer, expert_answer, public_answer, times_answer, token_answer, unchanged}
 use Rattle.reg_core.specs.Capability.{same_kind}
 use Rattle.reg_core.specs.Request.{request_rows}
 use Rattle.reg_core.specs.Rules.{agent_rule}
-use Rattle.reg_core.specs.Step.{answer_to, clerk_answer, is_clerk}
-use Rattle.reg_core.specs.View.{Personal, published, personal, principal_rows_of, requests_by, requests_of, with_personal}
+use Rattle.reg_core.specs.Journal.{stamp_of}
+use Rattle.reg_core.specs.Step.{answer_to, clerk_answer, is_clerk, stamp_in}
+use Rattle.reg_core.specs.Times.{times_of_requests_by, times_rows}
+use Rattle.reg_core.specs.View.{Personal, own_times, published, personal, principal_rows_of, requests_by, requests_of, with_personal}
 use Rattle.reg_core.specs.World.{World}
 use Rattle.reg_core.specs.declared.capability.Cap.{Cap}
 use Rattle.reg_core.specs.declared.capability.Kind.{Kind}
@@ -19,15 +21,19 @@ use Rattle.reg_core.specs.declared.capability.Kind.TheVariants as kind
 use Rattle.reg_core.specs.declared.command.ApplicantCommand.{ApplicantCommand}
 use Rattle.reg_core.specs.declared.command.ApplicantCommand.TheVariants.{OwnOne, Submit, Withdraw, SetAgent, PrincipalRows}
 use Rattle.reg_core.specs.declared.command.ClerkCommand.{ClerkCommand}
-use Rattle.reg_core.specs.declared.command.Command.TheVariants.{Applicant, Expert, Clerk}
+use Rattle.reg_core.specs.declared.command.Command.TheVariants.{Public, Token, Applicant, Times, Expert, Clerk}
+use Rattle.reg_core.specs.declared.command.TimesCommand.{TimesCommand}
+use Rattle.reg_core.specs.declared.command.TimesCommand.TheVariants as times
 use Rattle.reg_core.specs.declared.command.ExpertCommand.{ExpertCommand}
+use Rattle.reg_core.specs.declared.command.PublicCommand.{PublicCommand}
 use Rattle.reg_core.specs.declared.told.Told.TheVariants as tells
 use Rattle.reg_core.specs.declared.refusal.Refusal.{Refusal}
 use Rattle.reg_core.specs.declared.refusal.Refusal.TheVariants as no
-use Rattle.reg_core.proofs.Links.{own_agent, own_principal, own_principal_rows}
+use Rattle.reg_core.proofs.Links.{own_agent, own_principal, own_principal_rows, own_principal_times}
 use Rattle.reg_core.proofs.Stepping.{admitted-ok, own_request}
-use Rattle.reg_commands.specs.Answers.{answer_to_account, answer_to_clerk, answer_to_expert}
-use Rattle.reg_commands.specs.Caller.{token_digest, admission}
+use Rattle.reg_commands.specs.Answers.{answer_about_times, answer_to_account, answer_to_clerk, answer_to_expert, row_of_times}
+use Rattle.reg_commands.specs.Caller.{token_digest, admission, stamp_by, valid_cap}
+use Rattle.reg_office.proofs.TimesTold.{times_told}
 use Rattle.reg_commands.specs.declared.admission.Caller.{Caller}
 
 -- ---- The clock
@@ -70,6 +76,35 @@ as_caller w digest kind moment day told (Some cap) = by (admitted (Some cap) mom
         let ok = admitted-ok (Some cap) moment kind served is in
         let itself : cap ≡ served = cc in
         ap (λ (c : Cap). told c.account (personal c.account w)) itself
+
+-- ---- Anybody
+
+pub public_answered : (w : World) (caller : Option (List ℕ)) (moment day : ℕ)
+    (command : PublicCommand) → is_in_clock moment ≡ true → utc_day moment ≡ day
+    → public_answer (published w) day command ≡ answer_to token_digest w caller moment (Public command)
+public_answered w caller moment day command open_now today =
+    rw open_now (ap (λ day. public_answer (published w) day command) (sym today))
+
+-- ---- Who signs
+
+-- who is admitted is who the step is signed by
+pub signed_by : (w : World) (caller : Option (List ℕ)) (moment day : ℕ) (kind : Kind)
+    (who : Caller) → admission w caller moment day kind ≡ Ok who
+    → stamp_by who ≡ stamp_in w caller moment
+signed_by w None moment day kind who is = absurd (cc)
+signed_by w (Some digest) moment day kind who is =
+    by (admitted (get w.caps digest) moment kind) refl is
+  where
+    by : (outcome : Result Cap Refusal) → admitted (get w.caps digest) moment kind ≡ outcome
+        → caller_by digest moment day outcome ≡ Ok who
+        → stamp_by who ≡ stamp_in w (Some digest) moment
+    by (Err refusal) served h = absurd (cc)
+    by (Ok cap) served h =
+        let found = admitted-ok (get w.caps digest) moment kind cap served in
+        let itself :
+        record { digest = digest; capability = cap; moment = moment; day = day } ≡ who = cc in
+        ap stamp_by (sym itself)
+        ∙ ap (λ (o : Option Cap). stamp_of (Some digest) o moment) (sym found.0)
 
 -- ---- An applicant
 
@@ -121,6 +156,81 @@ applicant_answered w (Some digest) moment day command open_now =
     ∙ ap (λ told. caller_by digest moment day (admitted (get w.caps digest) moment kind.Applicant)
     >>= told)
     (λ i who. own_rows w who.capability.account command i))
+
+-- ---- Times
+
+own_times_rows : (w : World) (account : List ℕ) (command : TimesCommand)
+    → times_answer account (personal account w) (Some (own_times account w)) command
+    ≡ answer_about_times account command w
+own_times_rows w account times.Own = ap (λ rows. unchanged (tells.Times rows)) (times_told w account)
+own_times_rows w account (times.Principal principal) =
+    ap (λ o. or_refusal no.Principal o
+    >>= (λ link. unchanged (tells.Times
+    (times_rows (times_of_requests_by principal (own_times account w).principals)))))
+    (own_principal account principal w)
+    ∙ by (get w.agents (principal, account)) refl
+  where
+    by : (o : Option (Unit {0})) → get w.agents (principal, account) ≡ o
+        → (or_refusal no.Principal o
+        >>= (λ link. unchanged (tells.Times
+        (times_rows (times_of_requests_by principal (own_times account w).principals)))))
+        ≡ (or_refusal no.Principal (only_if (is_some o) (request_rows (requests_of principal w)))
+        >>= (λ rows. unchanged (tells.Times (map (row_of_times w) rows))))
+    by None is = refl
+    by (Some u) is =
+        ap (λ m. unchanged (tells.Times (times_rows m)))
+        (own_principal_times account principal w (ap is_some is))
+        ∙ ap (λ rows. unchanged (tells.Times rows)) (times_told w principal)
+
+-- whoever is admitted is told the times of its account
+times_of_admitted : (w : World) (digest : List ℕ) (moment day : ℕ) (command : TimesCommand)
+    (mine : Cap) (outcome : Result Cap Refusal)
+    → admitted (Some mine) moment kind.Applicant ≡ outcome
+    → (outcome
+    >>= (λ served. times_answer mine.account (personal mine.account w)
+    (Some (own_times mine.account w)) command))
+    ≡ (caller_by digest moment day outcome
+    >>= (λ who. answer_about_times who.capability.account command w))
+times_of_admitted w digest moment day command mine (Err refusal) is = refl
+times_of_admitted w digest moment day command mine (Ok served) is =
+    let ok = admitted-ok (Some mine) moment kind.Applicant served is in
+    let itself : mine ≡ served = cc in
+    own_times_rows w mine.account command
+    ∙ ap (λ (c : Cap). answer_about_times c.account command w) itself
+
+pub times_answered : (w : World) (caller : Option (List ℕ)) (moment day : ℕ)
+    (command : TimesCommand) → is_in_clock moment ≡ true
+    → answer_to token_digest w caller moment (Times command)
+    ≡ (admission w caller moment day kind.Applicant
+    >>= (λ who. answer_about_times who.capability.account command w))
+times_answered w None moment day command open_now = rw open_now refl
+times_answered w (Some digest) moment day command open_now =
+    rw open_now (by (get w.caps digest))
+  where
+    by : (found : Option Cap)
+        → as_kind kind.Applicant (option_map (with_personal w) found) moment
+        (λ of my. times_answer of my (option_map (λ (cap : Cap). own_times cap.account w) found) command)
+        ≡ (caller_by digest moment day (admitted found moment kind.Applicant)
+        >>= (λ who. answer_about_times who.capability.account command w))
+    by None = refl
+    by (Some mine) =
+        times_of_admitted w digest moment day command mine
+        (admitted (Some mine) moment kind.Applicant) refl
+
+-- ---- A token
+
+pub token_answered : (w : World) (caller : Option (List ℕ)) (moment : ℕ)
+    → is_in_clock moment ≡ true
+    → answer_to token_digest w caller moment Token
+    ≡ (valid_cap w caller moment >>= (λ cap. unchanged (tells.InUse cap)))
+token_answered w None moment open_now = rw open_now refl
+token_answered w (Some digest) moment open_now = rw open_now (by (get w.caps digest))
+  where
+    by : (found : Option Cap)
+        → token_answer (option_map (with_personal w) found) moment
+        ≡ (in_force found moment >>= (λ cap. unchanged (tells.InUse cap)))
+    by None = refl
+    by (Some cap) = refl
 
 -- ---- An expert
 

@@ -1,3 +1,4 @@
+pub mod TimesTold
 pub mod Admitted
 pub mod Performing
 pub mod Revocations

@@ -101,7 +101,7 @@ clerks Clerk h = refl
 -- a valid capability of a clerk is left where one that is not chosen is there before
 pub clerk_left : (moment : ℕ) (choice : Choice) (w : World)
     → leaves_clerk moment choice (cap_rows w.caps) ≡ true
-    → HasClerkAt moment (revoked (filter (is_chosen choice) (cap_rows w.caps)) w)
+    → HasClerkAt moment (revoked moment (filter (is_chosen choice) (cap_rows w.caps)) w)
 clerk_left moment choice w left =
     let found = passing w.caps (λ row. not (is_chosen choice row) && is_clerk_at moment row.cap)
     (cap_rows w.caps) (are_rows w.caps) left in
@@ -144,10 +144,10 @@ taken_says moment choice rows chosen is =
 
 -- so a clerk has a valid one afterwards
 pub clerk_stays : (moment : ℕ) (choice : Choice) (w : World) (chosen : List CapRow)
-    → taken moment choice w ≡ Ok chosen → HasClerkAt moment (revoked chosen w)
+    → taken moment choice w ≡ Ok chosen → HasClerkAt moment (revoked moment chosen w)
 clerk_stays moment choice w chosen is =
     let says = taken_says moment choice (cap_rows w.caps) chosen is in
-    subst (λ (rows : List CapRow). HasClerkAt moment (revoked rows w)) (sym says.0)
+    subst (λ (rows : List CapRow). HasClerkAt moment (revoked moment rows w)) (sym says.0)
     (clerk_left moment choice w says.1)
 
 -- a refusal, and want of memory, may always be

@@ -1,4 +1,4 @@
--- How many rows of each kind there are, requests among them.
+-- How many rows of each kind there are, requests and acts among them.
 use Rattle.std.specs.Prelude.{ℕ, Bool, true, false, List, length, count_by}
 use Rattle.reg_core.specs.Counting.{counts}
 use Rattle.reg_core.specs.Request.{request_rows, word_of}
@@ -6,6 +6,7 @@ use Rattle.reg_core.specs.World.{World}
 use Rattle.reg_core.specs.declared.request.Request.{Request}
 use Rattle.reg_core.specs.declared.request.StateWord.{StateWord}
 use Rattle.reg_core.specs.declared.request.StateWord.TheVariants.{Pending, Approved, Declined, Withdrawn}
+use Rattle.reg_keeper.specs.Keeper.{all_acts}
 use Rattle.reg_office.specs.declared.counting.AllCounts.{AllCounts}
 use Rattle.reg_office.specs.declared.counting.RequestCounts.{RequestCounts}
 
@@ -37,4 +38,5 @@ abbrev pub all_counts : ℕ → ℕ → World → AllCounts
 all_counts moment today w = record {
   others = counts moment today w;
   requests = request_counts (request_rows w.requests);
+  acts = length (all_acts w);
 }

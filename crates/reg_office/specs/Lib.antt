@@ -1,4 +1,5 @@
 pub mod Counting
 pub mod Found
 pub mod Revocation
+pub mod Stamps
 pub use Rattle.reg_commands.specs.Caller

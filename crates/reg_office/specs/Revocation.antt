@@ -5,7 +5,8 @@ use Rattle.std.specs.FinMap.{get}
 use Rattle.std.specs.List.{list_any, starts_with}
 use Rattle.reg_maps.specs.Maps.{same_text}
 use Rattle.reg_core.specs.Capability.{same_kind}
-use Rattle.reg_core.specs.World.{World, applied}
+use Rattle.reg_core.specs.Journal.{recorded}
+use Rattle.reg_core.specs.World.{World}
 use Rattle.reg_core.specs.declared.capability.Cap.{Cap}
 use Rattle.reg_core.specs.declared.capability.Kind.TheVariants.{Clerk}
 use Rattle.reg_core.specs.declared.change.Change.TheVariants.{RevokeAll}
@@ -13,6 +14,7 @@ use Rattle.reg_keeper.specs.Keeper.{MayFault}
 use Rattle.reg_core.specs.CapRows.{cap_rows}
 use Rattle.reg_keeper.specs.declared.keeper.Fault.TheVariants.{Memory}
 use Rattle.reg_core.specs.declared.capability.CapRow.{CapRow}
+use Rattle.reg_office.specs.Stamps.{job_stamp}
 use Rattle.reg_office.specs.declared.revocation.Choice.{Choice}
 use Rattle.reg_office.specs.declared.revocation.Choice.TheVariants.{Digits, Account}
 use Rattle.reg_office.specs.declared.revocation.RevokeFault.{RevokeFault}
@@ -52,9 +54,9 @@ taken moment choice w = taken_of moment choice (cap_rows w.caps)
 
 -- ---- What becomes of the world
 
--- the world without these rows
-abbrev pub revoked : List CapRow → World → World
-revoked rows w = applied w (RevokeAll (map (λ row. row.digest) rows))
+-- the world without these rows, which went at a moment
+abbrev pub revoked : ℕ → List CapRow → World → World
+revoked moment rows w = recorded (job_stamp moment) w (RevokeAll (map (λ row. row.digest) rows))
 
 -- a clerk's capability is there, which is valid at a moment
 abbrev pub HasClerkAt : ℕ → World → Type 0

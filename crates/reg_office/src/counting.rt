@@ -1,7 +1,7 @@
-//! How many rows of each kind an office has, requests among them.
-ghost use Rattle.std.specs.Prelude.{◌≡◌};
+//! How many rows of each kind an office has, requests and acts among them.
+ghost use Rattle.std.specs.Prelude.{◌≡◌, length};
 ghost use Rattle.reg_core.specs.Request.{request_rows};
-ghost use Rattle.reg_keeper.specs.Keeper.{Selects};
+ghost use Rattle.reg_keeper.specs.Keeper.{Selects, all_acts};
 ghost use Rattle.reg_office.specs.Counting.{all_counts, in_state as state_count, request_counts};
 
 use reg_commands::counting::count;
@@ -13,9 +13,11 @@ use reg_keeper::keeper::{Fault, Keeper};
 /// How many rows of each kind an office has.
 #[derive(Clone, Copy, Debug, PartialEq, Eq)]
 pub struct AllCounts {
-    /// Of each kind but requests.
+    /// Of each kind but requests and acts.
     pub others: Counts,
     pub requests: RequestCounts,
+    /// The acts of the journal.
+    pub acts: usize,
 }
 
 /// How many requests there are, and in which states.
@@ -37,7 +39,12 @@ pub fn count_all<K: Keeper>(keeper: &mut K, moment: u64, today: Day) -> Result<A
 {
     let others = count(keeper, moment, today)?;
     let requests = count_requests(keeper)?;
-    Ok(AllCounts { others, requests })
+    let acts = count_acts(keeper)?;
+    Ok(AllCounts {
+        others,
+        requests,
+        acts,
+    })
 }
 
 fn count_requests<K: Keeper>(keeper: &mut K) -> Result<RequestCounts, Fault>
@@ -46,6 +53,14 @@ fn count_requests<K: Keeper>(keeper: &mut K) -> Result<RequestCounts, Fault>
 {
     let requests = keeper.all()?;
     Ok(RequestCounts::of(requests.as_slice()))
+}
+
+fn count_acts<K: Keeper>(keeper: &mut K) -> Result<usize, Fault>
+    ensures { Selects K.world K.Holds K.Sound K.FAILS keeper.old keeper.new result
+        (λ w count. count ≡ length (all_acts w)) }
+{
+    let acts = keeper.acts()?;
+    Ok(acts.as_slice().len())
 }
 
 impl RequestCounts {

@@ -3,11 +3,12 @@ ghost use Rattle.std.specs.Prelude.{◌≡◌, Err, IfErr, OnOk, OnErr, false};
 ghost use Rattle.reg_core.specs.Laws.{clerk_cap as first_clerk};
 ghost use Rattle.reg_core.specs.Names.{is_token};
 ghost use Rattle.reg_keeper.specs.Keeper.{GoesOn};
-ghost use Rattle.reg_office.specs.Found.{WasFounded, IsCause, MayFound};
+ghost use Rattle.reg_office.specs.Found.{WasFoundedBy, IsCause, MayFound};
 
 use reg_commands::capabilities::grant;
 use reg_commands::stop::Stop;
 use reg_core::capability::{Cap, Kind, Until};
+use reg_core::journal::Stamp;
 use reg_core::text::{Account, Token};
 use reg_keeper::keeper::{Fault, Keeper};
 
@@ -23,9 +24,9 @@ pub enum FoundFault {
 }
 
 /// Gives a token the first clerk's capability.
-pub fn found<K: Keeper>(keeper: &mut K, token: &[u8]) -> Result<(), FoundFault>
+pub fn found<K: Keeper>(keeper: &mut K, stamp: Stamp, token: &[u8]) -> Result<(), FoundFault>
     ensures founded { K.Holds keeper.new →
-        OnOk result (WasFounded (K.world keeper.old) (K.world keeper.new) token.now) }
+        OnOk result (WasFoundedBy stamp (K.world keeper.old) (K.world keeper.new) token.now) }
     ensures ill_formed { is_token token.now ≡ false → result ≡ Err FoundFault.Token }
     ensures cause { K.Holds keeper.new → IfErr result (IsCause (K.world keeper.old) token.now) }
     ensures kept { K.Holds keeper.new → OnErr result (K.world keeper.new ≡ K.world keeper.old) }
@@ -34,7 +35,7 @@ pub fn found<K: Keeper>(keeper: &mut K, token: &[u8]) -> Result<(), FoundFault>
     ensures fault { IfErr result (MayFound K.FAILS) }
 {
     let token = Token::read(token).ok_or(FoundFault::Token)?;
-    match grant(keeper, None, &token, &clerk_cap()) {
+    match grant(keeper, stamp, &token, &clerk_cap()) {
         Ok(_) => Ok(()),
         Err(Stop::Refused(_)) => Err(FoundFault::Exists),
         Err(Stop::Fault(fault)) => Err(FoundFault::Fault(fault)),

@@ -5,7 +5,8 @@ ghost use Rattle.reg_core.specs.Agents.{LinksAreTheirPrincipals};
 ghost use Rattle.reg_core.specs.BlocksGiven.{BlockAsksAreServedDuly, BlocksAreApart, BlocksDueAreLeast, ForeignBlocksAreHidden, PrivateHoldersAreHidden};
 ghost use Rattle.reg_core.specs.EarlyAllocations.{ExpiredValuesAreTaken, ForeignEntriesAreHidden, TermsMoveDuly};
 ghost use Rattle.reg_core.specs.FirstRefusals.{FirstRefusalsAreAnswered};
-ghost use Rattle.reg_core.specs.Laws.{AnswersAreDone, ApprovalsAreAdvised, ApprovalsGiveWhatIsAllowed, ApprovalsStand, ChangesFit, FirstWorldsAreWellKept, GivenStays, RefusalsChangeNothing, RepeatsActOnce, RevocationsTakeJust, RunsKeepWell, SubmissionsStand, TwoWorlds};
+ghost use Rattle.reg_core.specs.JournalLaws.{ChangesAreSigned, JournalIsExact, JournalStays};
+ghost use Rattle.reg_core.specs.Laws.{AnswersAreDone, ApprovalsAreAdvised, ApprovalsGiveWhatIsAllowed, ApprovalsStand, ChangesFit, FirstWorldsAreWellKept, GivenStays, RefusalsChangeNothing, RepeatsActOnce, RevocationsTakeJust, RunsKeepWell, SubmissionsStand, TwoWorlds, TwoWorldsByNow};
 ghost use Rattle.reg_core.specs.MayBeGiven.{AsksMeetTheirPolicy, NoValueIsGivenTwice};
 ghost use Rattle.reg_core.specs.Striking.{StagesAreOfRun, UnseenLeaveNoTrace};
 ghost use Rattle.reg_laws.specs.CommandLines.{CommandsGoByTheirLines};
@@ -17,6 +18,27 @@ pub fn two_worlds()
     ensures { TwoWorlds token_digest }
 {
     reg_laws::two_worlds();
+}
+
+/// The same without times: two well kept offices that show a caller who is no clerk the same by now,
+/// whenever its requests came and were decided, answer its command alike, and then show it the same
+/// by now again.
+pub fn two_worlds_by_now()
+    ensures { TwoWorldsByNow token_digest }
+{
+    reg_laws::two_worlds_by_now();
+}
+
+/// The journal is exact: after every list of events, from any office, it is what was there and then
+/// the acts of the steps that changed something, in order, each with that step's moment and caller; so
+/// no act changes or goes away. Each change is signed by the account and the token of its caller, and
+/// leaves one act, or one for each capability that goes.
+pub fn journal_is_exact()
+    ensures exact { JournalIsExact token_digest }
+    ensures stays { JournalStays token_digest }
+    ensures signed { ChangesAreSigned token_digest }
+{
+    reg_laws::journal_is_exact();
 }
 
 /// Striking: requests of others that an account never sees, and that are given nothing, can be

@@ -6,6 +6,7 @@ mod found;
 pub mod laws;
 mod office;
 mod revocation;
+mod stamps;
 
 pub use counting::{AllCounts, RequestCounts};
 pub use found::FoundFault;

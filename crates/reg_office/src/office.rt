@@ -1,24 +1,26 @@
 //! The office over whatever keeps its content.
-ghost use Rattle.std.specs.Prelude.{◌≡◌, None, Ok, Err, IfOk, IfErr, OnOk, OnErr, IsSome, true, false};
+ghost use Rattle.std.specs.Prelude.{◌≡◌, None, Ok, Err, IfOk, IfErr, OnOk, OnErr, true, false};
 ghost use Rattle.std.specs.Option.{option_copied};
 ghost use Rattle.reg_early.specs.Moment.{is_in_clock};
-ghost use Rattle.reg_core.specs.Command.{kind_of};
+ghost use Rattle.reg_core.specs.Command.{needs_capability};
 ghost use Rattle.reg_core.specs.Names.{is_token};
-ghost use Rattle.reg_core.specs.Step.{answer_to};
+ghost use Rattle.reg_core.specs.Step.{answer_to, stamp_in};
 ghost use Rattle.reg_keeper.specs.Keeper.{MayFault, IsUnfailed, GoesOn, Selects};
 ghost use Rattle.reg_core.specs.CapRows.{cap_rows};
 ghost use Rattle.reg_commands.specs.Caller.{caller_of as caller, step_by, token_digest};
 ghost use Rattle.reg_office.specs.Counting.{all_counts};
-ghost use Rattle.reg_office.specs.Found.{WasFounded, IsCause, MayFound};
+ghost use Rattle.reg_office.specs.Found.{WasFounded, WasFoundedBy, IsCause, MayFound};
 ghost use Rattle.reg_commands.specs.Performs.{Performs};
 ghost use Rattle.reg_office.specs.Revocation.{HasClerkAt, IsCause as IsRevokeCause, MayRevoke, revoked, taken};
+ghost use Rattle.reg_office.specs.Stamps.{job_stamp};
 
 use crate::counting::{AllCounts, count_all};
 use crate::found::{FoundFault, found};
 use crate::revocation::{Choice, RevokeFault, revoke_chosen};
-use reg_commands::admission::admit;
+use crate::stamps::{at, at_moment};
+use reg_commands::admission::{admit, valid};
 use reg_commands::stop::Stop;
-use reg_commands::{applicant, clerk, expert, public};
+use reg_commands::{applicant, clerk, expert, public, times};
 use reg_core::capability::{CapRow, Kind};
 use reg_core::command::Command;
 use reg_core::refusal::Refusal;
@@ -60,7 +62,7 @@ impl<K: Keeper> Office<K> {
 
     /// Gives a token the first clerk's capability: account `clerk`, until the year 3000. The same
     /// one already there changes nothing. `Token` where the token is ill formed, for which no
-    /// memory is taken; `Exists` where it has another capability.
+    /// memory is taken; `Exists` where it has another capability. Its act has no moment.
     pub fn found(&mut self, token: &[u8]) -> Result<(), FoundFault>
         ensures founded { K.Holds self.new →
             OnOk result (WasFounded (K.world self.old) (K.world self.new) token.now) }
@@ -71,7 +73,22 @@ impl<K: Keeper> Office<K> {
             (IfErr result (MayFound false)) }
         ensures fault { IfErr result (MayFound K.FAILS) }
     {
-        found(&mut self.keeper, token)
+        found(&mut self.keeper, at(None), token)
+    }
+
+    /// The same at a moment, in seconds since 1970-01-01T00:00:00Z, which its act has if it is one
+    /// of the years 2000 to 2999.
+    pub fn found_at(&mut self, moment: u64, token: &[u8]) -> Result<(), FoundFault>
+        ensures founded { K.Holds self.new → OnOk result
+            (WasFoundedBy (job_stamp moment) (K.world self.old) (K.world self.new) token.now) }
+        ensures ill_formed { is_token token.now ≡ false → result ≡ Err FoundFault.Token }
+        ensures cause { K.Holds self.new → IfErr result (IsCause (K.world self.old) token.now) }
+        ensures kept { K.Holds self.new → OnErr result (K.world self.new ≡ K.world self.old) }
+        ensures premise { GoesOn K.Holds K.Sound self.old self.new
+            (IfErr result (MayFound false)) }
+        ensures fault { IfErr result (MayFound K.FAILS) }
+    {
+        found(&mut self.keeper, at_moment(moment), token)
     }
 
     /// All capabilities, by the digests of the tokens that have them.
@@ -100,7 +117,7 @@ impl<K: Keeper> Office<K> {
         ensures rows { K.Holds self.new →
             IfOk result (λ rows. taken moment choice.entry (K.world self.old) ≡ Ok rows) }
         ensures world { K.Holds self.new →
-            IfOk result (λ rows. K.world self.new ≡ revoked rows (K.world self.old)) }
+            IfOk result (λ rows. K.world self.new ≡ revoked moment rows (K.world self.old)) }
         ensures clerk { K.Holds self.new → OnOk result (HasClerkAt moment (K.world self.new)) }
         ensures cause { K.Holds self.new →
             IfErr result (IsRevokeCause moment choice.entry (K.world self.old)) }
@@ -131,7 +148,7 @@ impl<K: Keeper> Office<K> {
         ensures fault { IfErr result (MayFault K.FAILS) }
         ensures clock { is_in_clock moment ≡ false →
             (result ≡ Ok (Reply.Refused Refusal.Clock)) × (self.new ≡ self.old) }
-        ensures nobody { is_in_clock moment ≡ true → IsSome (kind_of command.now) →
+        ensures nobody { is_in_clock moment ≡ true → needs_capability command.now ≡ true →
             caller (option_copied token.entry) ≡ None →
             (result ≡ Ok (Reply.Refused Refusal.Token)) × (self.new ≡ self.old) }
     {
@@ -151,20 +168,27 @@ fn answer<K: Keeper>(
     token: Option<&[u8]>,
     command: &Command,
 ) -> Result<Told, Stop>
-    ensures answer { Performs K.world K.Holds K.Sound K.FAILS keeper.old keeper.new result
-        (λ w. answer_to token_digest w (caller (option_copied token.entry)) moment command.now) }
+    ensures answer { let who = caller (option_copied token.entry) in
+        Performs K.world K.Holds K.Sound K.FAILS (stamp_in (K.world keeper.old) who moment)
+        keeper.old keeper.new result
+        (λ w. answer_to token_digest w who moment command.now) }
     ensures clock { is_in_clock moment ≡ false →
         (result ≡ Err (Stop.Refused Refusal.Clock)) × (keeper.new ≡ keeper.old) }
-    ensures nobody { is_in_clock moment ≡ true → IsSome (kind_of command.now) →
+    ensures nobody { is_in_clock moment ≡ true → needs_capability command.now ≡ true →
         caller (option_copied token.entry) ≡ None →
         (result ≡ Err (Stop.Refused Refusal.Token)) × (keeper.new ≡ keeper.old) }
 {
     let today = day_of(moment).ok_or(Refusal::Clock)?;
     match command {
         Command::Public(command) => public::perform(alloc, keeper, today, command),
+        Command::Token => Ok(Told::InUse(valid(keeper, token, moment)?)),
         Command::Applicant(command) => {
             let caller = admit(keeper, token, moment, today, Kind::Applicant)?;
             applicant::perform(keeper, &caller, command)
+        }
+        Command::Times(command) => {
+            let caller = admit(keeper, token, moment, today, Kind::Applicant)?;
+            times::perform(alloc, keeper, &caller.capability.account, command)
         }
         Command::Expert(command) => {
             let caller = admit(keeper, token, moment, today, Kind::Expert)?;

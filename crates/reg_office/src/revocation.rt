@@ -5,6 +5,7 @@ ghost use Rattle.reg_office.specs.Revocation.{HasClerkAt, IsCause, IsRefusedSo, 
 ghost use Rattle.reg_office.specs.Revocation.{is_chosen, is_clerk_at, leaves_clerk as clerk_is_left};
 ghost use Rattle.reg_office.specs.Revocation.{may_take as may_go, revoked, taken, taken_of};
 
+use crate::stamps::at_moment;
 use reg_commands::carrying::make;
 use reg_core::capability::{Cap, CapRow, Kind};
 use reg_core::change::Change;
@@ -90,7 +91,7 @@ pub fn revoke_chosen<K: Keeper>(
     ensures rows { K.Holds keeper.new →
         IfOk result (λ rows. taken moment choice.entry (K.world keeper.old) ≡ Ok rows) }
     ensures world { K.Holds keeper.new →
-        IfOk result (λ rows. K.world keeper.new ≡ revoked rows (K.world keeper.old)) }
+        IfOk result (λ rows. K.world keeper.new ≡ revoked moment rows (K.world keeper.old)) }
     ensures clerk { K.Holds keeper.new → OnOk result (HasClerkAt moment (K.world keeper.new)) }
     ensures cause { K.Holds keeper.new →
         IfErr result (IsCause moment choice.entry (K.world keeper.old)) }
@@ -101,7 +102,11 @@ pub fn revoke_chosen<K: Keeper>(
     let rows = keeper.caps()?;
     let chosen = chosen_at(alloc, rows.as_slice(), moment, choice)?;
     let digests = digests_of(alloc, chosen.as_slice())?;
-    make(keeper, None, Change::RevokeAll(Rows::from_vec(digests)))?;
+    make(
+        keeper,
+        at_moment(moment),
+        Change::RevokeAll(Rows::from_vec(digests)),
+    )?;
     Ok(Rows::from_vec(chosen))
 }
 

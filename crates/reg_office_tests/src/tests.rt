@@ -1,4 +1,9 @@
-//! The tests, and what they share.
+//! The tests, by what they ask.
 mod disks;
+mod exercise;
 mod files;
+mod jobs;
+mod libraries;
+mod over_http;
+mod sites;
 mod worked;

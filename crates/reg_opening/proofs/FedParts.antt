@@ -5,8 +5,8 @@ use Rattle.std.proofs.lemmas.Result.{IfOk-weaker}
 use Rattle.sqlite.specs.Effect.{Database}
 use Rattle.sqlite.specs.State.{State}
 use Rattle.reg_core.specs.World.{World}
-use Rattle.reg_audit.specs.Audits.{knows_free}
-use Rattle.reg_audit.specs.declared.audit.Audit.{Audit}
+use Rattle.reg_opening.specs.Audits.{knows_free}
+use Rattle.reg_opening.specs.declared.audit.Audit.{Audit}
 use Rattle.reg_tables.proofs.Enduring.{endures_then}
 use Rattle.reg_tables.proofs.RestLemmas.{stays_then}
 use Rattle.reg_tables.specs.Connection.{Endures, IsIdle, Stays, Works}

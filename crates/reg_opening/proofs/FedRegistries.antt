@@ -24,8 +24,8 @@ use Rattle.reg_ranges.specs.declared.range.Range.{Range}
 use Rattle.reg_core.specs.WellKept.{WellKept}
 use Rattle.reg_core.specs.World.{World, Place, place_cmp}
 use Rattle.reg_core.proofs.KeyOrders.{place_keys}
-use Rattle.reg_audit.specs.Audits.{Audits}
-use Rattle.reg_audit.specs.declared.audit.Audit.{Audit}
+use Rattle.reg_opening.specs.Audits.{Audits}
+use Rattle.reg_opening.specs.declared.audit.Audit.{Audit}
 use Rattle.reg_records.specs.declared.ranges.RegistryRange.{RegistryRange}
 use Rattle.reg_records.specs.declared.registries.Registry.{Registry}
 use Rattle.reg_statements.specs.Content.{content, max_at, maxes_in, range_at, ranges_in, ranges_of, registries_in}

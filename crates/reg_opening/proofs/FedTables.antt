@@ -28,10 +28,10 @@ use Rattle.reg_tables.proofs.SelectLemmas.{selected, shows_columns}
 use Rattle.reg_statements.specs.Content.{content_at}
 use Rattle.reg_statements.specs.Tables.{Tables, tables_in}
 use Rattle.reg_core.specs.World.{World}
-use Rattle.reg_audit.specs.Audits.{Audits, knows_free}
-use Rattle.reg_audit.specs.Rows.{with_row, IsInTurn, IsNew}
-use Rattle.reg_audit.specs.declared.audit.Audit.{Audit}
-use Rattle.reg_audit.specs.declared.row.Row.{Row}
+use Rattle.reg_opening.specs.Audits.{Audits, knows_free}
+use Rattle.reg_opening.specs.Rows.{with_row, IsInTurn, IsNew}
+use Rattle.reg_opening.specs.declared.audit.Audit.{Audit}
+use Rattle.reg_opening.specs.declared.row.Row.{Row}
 use Rattle.reg_tables.specs.Selecting.{BeginsWith, SelectsFrom, columns_of, shows, stored}
 use Rattle.reg_statements.specs.Defined.{IsDefined}
 use Rattle.reg_statements.specs.Parts.{TableDef}

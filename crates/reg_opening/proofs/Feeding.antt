@@ -2,9 +2,9 @@
 use Rattle.std.proofs.Common.{◌≡◌, ℤ, Bool, List, [], ◌∷◌, ◌++◌, Option, map, reverse, refl, sym, ap, subst, ◌∙◌}
 use Rattle.std.proofs.lemmas.List.{append-nil, append_assoc, map-append, reverse-append}
 use Rattle.std.specs.Prelude.{Ok}
-use Rattle.reg_audit.specs.Audits.{Feeds}
-use Rattle.reg_audit.specs.declared.audit.Audit.{Audit}
-use Rattle.reg_audit.specs.declared.row.Row.{Row}
+use Rattle.reg_opening.specs.Audits.{Feeds}
+use Rattle.reg_opening.specs.declared.audit.Audit.{Audit}
+use Rattle.reg_opening.specs.declared.row.Row.{Row}
 use Rattle.reg_statements.specs.Reading.{TakesAll}
 use Rattle.reg_opening.specs.Feeding.{FeedsRows, TakesRow, rowids_of, with_rows}
 use Rattle.reg_opening.specs.Numbered.{HasRisen}

@@ -9,4 +9,12 @@ pub mod RowidStatements
 pub mod RowidLemmas
 pub mod Causes
 pub mod Unfed
+pub mod ActsRead
 pub mod OpenLemmas
+pub mod Neighbours
+pub mod Minutes
+pub mod AuditParts
+pub mod RowsDecide
+pub mod KeptRows
+pub mod KeptFits
+pub mod FedAudits

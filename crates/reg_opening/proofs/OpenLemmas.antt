@@ -13,10 +13,11 @@ use Rattle.sqlite.specs.State.{State, IsLive}
 use Rattle.sqlite.specs.Table.{Table}
 use Rattle.sqlite_schema.specs.Names.{same_name}
 use Rattle.reg_maps.proofs.RowMaps.Lists.{all_permuted, shown_rows}
-use Rattle.reg_audit.specs.Audits.{Audits}
-use Rattle.reg_audit.specs.declared.audit.Audit.{Audit}
+use Rattle.reg_opening.specs.Audits.{Audits}
+use Rattle.reg_opening.specs.declared.audit.Audit.{Audit}
 use Rattle.reg_core.specs.WellKept.{WellKept}
 use Rattle.reg_core.specs.World.{empty_world}
+use Rattle.reg_core.proofs.Keeping.OtherMaps.{with_journal}
 use Rattle.reg_records.specs.Office.{version_in}
 use Rattle.reg_tables.specs.Connection.{Endures, IsIdle, Stays, Works}
 use Rattle.reg_tables.specs.Editing.{AreKeyed}
@@ -31,11 +32,13 @@ use Rattle.reg_tables.proofs.RestLemmas.{stays_then}
 use Rattle.reg_statements.specs.Content.{HasVersionRow, content, content_at}
 use Rattle.reg_statements.specs.Loading.{ReadAs}
 use Rattle.reg_statements.specs.Tables.{Tables, tables_in}
+use Rattle.reg_opening.specs.Acts.{StandsBeside}
 use Rattle.reg_opening.specs.Feeding.{FeedsTable, tables_at}
 use Rattle.reg_opening.specs.Opening.{AreRowsOf, IsOfVersion, FindsKind, HasVersionTables, ComesFirst, IsFlawIn, IsFlawOf, IsFoundAs, LeavesRoom, IsFreeBy}
-use Rattle.reg_opening.specs.Opening.{HasFlaw, IsOurs, IsReadAs, IsVersionOf, LeaveFree, Reads, only, kind_of}
-use Rattle.reg_opening.specs.Parts.{AreParts, IsBlankWorld, with_parts}
+use Rattle.reg_opening.specs.Opening.{HasFlaw, IsOurs, IsReadAs, IsVersionOf, Reads, only, kind_of}
+use Rattle.reg_opening.specs.Parts.{AreFed, AreParts, IsBlankWorld, with_fed}
 use Rattle.reg_opening.specs.Rowids.{AreOrderedKeyed}
+use Rattle.reg_opening.specs.declared.beside.Beside.{Beside}
 use Rattle.reg_opening.specs.declared.flaw.Flaw.{Flaw}
 use Rattle.reg_opening.specs.declared.flaw.Flaw.TheVariants as flaws
 use Rattle.reg_opening.specs.declared.kind.Found.{Found}
@@ -159,22 +162,22 @@ front_says n db begins is =
 blank : IsBlankWorld empty_world
 blank = assumption
 
--- what an audit says that was fed all rows
+-- what the rows leave free that an audit was fed, if they are those of an office that is well kept
+abbrev pub LeaveFed : Tables → Option Vacancies → Type 0
+LeaveFed t None = ¬ (AreFed t × WellKept (content t))
+LeaveFed t (Some free) = (AreFed t × WellKept (content t)) × AreVacanciesOf (content t) free
+
+-- what an audit says that was fed all rows but the journal, of which it says nothing
 pub rows_leave : (t : Tables) (old new : Audit) (free : Option Vacancies) → Audits old empty_world
-    → FeedsTable IsBlankWorld (AreParts t) (with_parts t) old new → IsFreeBy new free
-    → LeaveFree t free
+    → FeedsTable IsBlankWorld (AreFed t) (with_fed t) old new → IsFreeBy new free
+    → LeaveFed t free
 rows_leave t old new None audits feeds are = λ both.
-    are (content t) (feeds.audits empty_world audits blank both.0) both.1
+    are (with_fed t empty_world) (feeds.audits empty_world audits blank both.0)
+    (with_journal (content t) both.1 [])
 rows_leave t old new (Some free) audits feeds are =
     let held = feeds.held empty_world audits blank are.0 in
-    let left = are.1 (content t) (feeds.audits empty_world audits blank held) in
-    ((held, left.0), left.1)
-
--- where they are told, so are their rowids
-pub rows_told : (v : Version) (db : Database) (free : Option Vacancies) → AreOrderedKeyed db.trees
-    → LeaveFree (tables_at v db) free → AreRowsOf v db free
-rows_told v db None keyed leave = leave
-rows_told v db (Some free) keyed leave = (keyed, leave)
+    let left = are.1 (with_fed t empty_world) (feeds.audits empty_world audits blank held) in
+    ((held, with_journal (with_fed t empty_world) left.0 (content t).journal), left.1)
 
 -- a store of a version has the tables of registries and their ranges first
 pub version_first : (v : Version) (db : Database) → BeginsWith (table_count v) db.schema
@@ -267,14 +270,14 @@ other_first v w db says first =
 
 module _ (v : Version) (old new : State) (stays : Stays old new) (live : IsLive old)
     (version : Works new → IsOfVersion (number_of v) old.now) where
-  as_first : (free : Vacancies) → Works new → BeginsWith (table_count v) old.now.schema
+  as_first : (free : Beside) → Works new → BeginsWith (table_count v) old.now.schema
       → AreRowsOf v old.now (Some free) → ComesFirst v old.now
   as_first free works begins rows =
       is_first v old.now begins
       (front_says (number_of v) old.now (schema_begins v old.now begins) (version works)) rows.0
       rows.1.0.0 rows.1.0.1
 
-  as_ours : (free : Vacancies) → Works new → old.now.schema ≡ schema_of v
+  as_ours : (free : Beside) → Works new → old.now.schema ≡ schema_of v
       → (BeginsWith (table_count v) old.now.schema → AreRowsOf v old.now (Some free))
       → IsOurs v old.now
   as_ours free works is rows =
@@ -315,7 +318,7 @@ module _ (v : Version) (old new : State) (stays : Stays old new) (live : IsLive 
   pub read_free : (f : Found) → IsReadAs v old.now f → LeavesRoom old.now f
   read_free (found.Ours w free) read =
       subst (λ (w : Version). BeginsWith (table_count w) old.now.schema
-      → AreVacanciesOf (content_at w old.now) free) (sym read.0) (λ begins. (read.2 begins).1.1)
+      → StandsBeside (content_at w old.now) free) (sym read.0) (λ begins. (read.2 begins).1.1)
   read_free (found.OtherVersion n) read = absurd read
   read_free (found.NotOurs flaw) read = tt
 

@@ -12,7 +12,7 @@ use Rattle.reg_tables.specs.Schema.{office_schema}
 use Rattle.reg_tables.specs.Selecting.{BeginsWith}
 use Rattle.reg_tables.specs.Version.{later_than, number_of, rows_of, schema_of, table_count, tables_of}
 use Rattle.reg_tables.specs.declared.version.Version.{Version}
-use Rattle.reg_tables.specs.declared.version.Version.TheVariants.{First, Second, Third}
+use Rattle.reg_tables.specs.declared.version.Version.TheVariants.{First, Second, Third, Fourth}
 use Rattle.reg_statements.specs.Tables.{tables_in}
 use Rattle.reg_opening.proofs.RowidLemmas.{keyed_none}
 
@@ -50,6 +50,7 @@ pub number_exact : (v w : Version) → number_of v ≡ number_of w → v ≡ w
 number_exact First First same = refl
 number_exact Second Second same = refl
 number_exact Third Third same = refl
+number_exact Fourth Fourth same = refl
 number_exact _ _ same = absurd (cc)
 
 -- ---- The tables that each version has
@@ -89,6 +90,7 @@ unfolding digits
 version_keyed First trees all = first_all (λ t. AreKeyed (rows_of First trees t.tree)) 10 office_schema.tables all
 version_keyed Second trees all = first_all (λ t. AreKeyed (rows_of Second trees t.tree)) 12 office_schema.tables all
 version_keyed Third trees all = first_all (λ t. AreKeyed (rows_of Third trees t.tree)) 13 office_schema.tables all
+version_keyed Fourth trees all = first_all (λ t. AreKeyed (rows_of Fourth trees t.tree)) 14 office_schema.tables all
 
 pub keyed_version : (v : Version) (trees : Trees)
     → AllByRecursion (λ t. AreKeyed (trees t.tree)) (tables_of v)
@@ -96,9 +98,12 @@ pub keyed_version : (v : Version) (trees : Trees)
 unfolding digits
 keyed_version First trees all =
     all-append (λ t. AreKeyed (rows_of First trees t.tree)) (tables_of First) (later_than First) all
-    (keyed_none, (keyed_none, (keyed_none, tt)))
+    (keyed_none, (keyed_none, (keyed_none, (keyed_none, tt))))
 keyed_version Second trees all =
     all-append (λ t. AreKeyed (rows_of Second trees t.tree)) (tables_of Second) (later_than Second) all
-    (keyed_none, tt)
+    (keyed_none, (keyed_none, tt))
 keyed_version Third trees all =
-    all-append (λ t. AreKeyed (rows_of Third trees t.tree)) (tables_of Third) (later_than Third) all tt
+    all-append (λ t. AreKeyed (rows_of Third trees t.tree)) (tables_of Third) (later_than Third) all
+    (keyed_none, tt)
+keyed_version Fourth trees all =
+    all-append (λ t. AreKeyed (rows_of Fourth trees t.tree)) (tables_of Fourth) (later_than Fourth) all tt

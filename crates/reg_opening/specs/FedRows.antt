@@ -4,8 +4,8 @@ use Rattle.std.specs.Fmt.{digits}
 use Rattle.std.specs.FinMap.{FinMap, contains_key, empty, get}
 use Rattle.std.proofs.Common.{[], ap, subst, sym, ◌∙◌}
 use Rattle.sqlite.specs.Order.{Row as SqlRow}
-use Rattle.reg_audit.specs.Rows.{is_markable, is_unminuted, lacks_minute}
-use Rattle.reg_audit.specs.declared.row.Row.TheVariants as row
+use Rattle.reg_opening.specs.Rows.{is_markable, is_unminuted, lacks_minute}
+use Rattle.reg_opening.specs.declared.row.Row.TheVariants as row
 use Rattle.reg_core.specs.Entry.{with_hold}
 use Rattle.reg_core.specs.World.{World, Place, RequestName, name_cmp, place_cmp}
 use Rattle.reg_core.specs.declared.ask.Ask.{Ask}
@@ -18,7 +18,7 @@ use Rattle.reg_records.proofs.RequestLaws.Selected.{request_in_columns}
 use Rattle.reg_tables.specs.Selecting.{shows, stored}
 use Rattle.reg_tables.specs.Version.{end_of, table_count}
 use Rattle.reg_tables.specs.declared.version.Version.{Version}
-use Rattle.reg_tables.specs.declared.version.Version.TheVariants.{First, Second, Third}
+use Rattle.reg_tables.specs.declared.version.Version.TheVariants.{First, Second, Third, Fourth}
 use Rattle.reg_statements.specs.Content.{AreBare, AreUnheld, marked, minuted}
 use Rattle.reg_statements.specs.Office as office
 use Rattle.reg_statements.specs.Parts.{TableDef}
@@ -227,60 +227,77 @@ unfolding digits
 caps_placed First = refl
 caps_placed Second = refl
 caps_placed Third = refl
+caps_placed Fourth = refl
 
 pub entries_placed : IsPlaced office.entries
 unfolding digits
 entries_placed First = refl
 entries_placed Second = refl
 entries_placed Third = refl
+entries_placed Fourth = refl
 
 pub pool_placed : IsPlaced office.pool
 unfolding digits
 pool_placed First = refl
 pool_placed Second = refl
 pool_placed Third = refl
+pool_placed Fourth = refl
 
 pub blocks_placed : IsPlaced office.blocks
 unfolding digits
 blocks_placed First = refl
 blocks_placed Second = refl
 blocks_placed Third = refl
+blocks_placed Fourth = refl
 
 pub requests_placed : IsPlaced office.requests
 unfolding digits
 requests_placed First = refl
 requests_placed Second = refl
 requests_placed Third = refl
+requests_placed Fourth = refl
 
 pub queue_placed : IsPlaced office.queue
 unfolding digits
 queue_placed First = refl
 queue_placed Second = refl
 queue_placed Third = refl
+queue_placed Fourth = refl
 
 pub advice_placed : IsPlaced office.advice
 unfolding digits
 advice_placed First = refl
 advice_placed Second = refl
 advice_placed Third = refl
+advice_placed Fourth = refl
 
 pub holds_placed : IsPlaced office.holds
 unfolding digits
 holds_placed First = refl
 holds_placed Second = refl
 holds_placed Third = refl
+holds_placed Fourth = refl
 
 pub minutes_placed : IsPlaced office.minutes
 unfolding digits
 minutes_placed First = refl
 minutes_placed Second = refl
 minutes_placed Third = refl
+minutes_placed Fourth = refl
 
 pub agents_placed : IsPlaced office.agents
 unfolding digits
 agents_placed First = refl
 agents_placed Second = refl
 agents_placed Third = refl
+agents_placed Fourth = refl
+
+pub journal_placed : IsPlaced office.journal
+unfolding digits
+journal_placed First = refl
+journal_placed Second = refl
+journal_placed Third = refl
+journal_placed Fourth = refl
 
 -- a request is read of its columns alone
 pub request_reads : (row : SqlRow)

@@ -10,10 +10,10 @@ use Rattle.sqlite.specs.State.{State, Shown}
 use Rattle.reg_maps.specs.RowMaps.{IsTable, held_in}
 use Rattle.reg_core.specs.WellKept.{WellKept}
 use Rattle.reg_core.specs.World.{World}
-use Rattle.reg_audit.specs.Audits.{Audits, Feeds, is_well_kept, knows_free}
-use Rattle.reg_audit.specs.Rows.{with_row, IsInTurn, IsNew}
-use Rattle.reg_audit.specs.declared.audit.Audit.{Audit}
-use Rattle.reg_audit.specs.declared.row.Row.{Row}
+use Rattle.reg_opening.specs.Audits.{Audits, Feeds, is_well_kept, knows_free}
+use Rattle.reg_opening.specs.Rows.{with_row, IsInTurn, IsNew}
+use Rattle.reg_opening.specs.declared.audit.Audit.{Audit}
+use Rattle.reg_opening.specs.declared.row.Row.{Row}
 use Rattle.reg_tables.specs.Connection.{Endures, IsIdle, Stays, Works}
 use Rattle.reg_tables.specs.Editing.{AreKeyed}
 use Rattle.reg_tables.specs.Selecting.{BeginsWith}

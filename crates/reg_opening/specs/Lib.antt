@@ -2,8 +2,14 @@ pub mod Numbered
 pub mod Feeding
 pub mod FedRows
 pub mod Partitions
-pub mod Parts
 pub mod Causes
+pub mod Acts
+pub mod Parts
 pub mod Rowids
 pub mod Unordered
 pub mod Opening
+pub mod Rows
+pub mod Blocks
+pub mod Requests
+pub mod Audits
+pub mod Laws

@@ -10,8 +10,8 @@ use Rattle.sqlite_trees.specs.declared.store.Store.{Ghosts}
 use Rattle.reg_keeper.specs.declared.keeper.Fault.{Fault}
 use Rattle.reg_core.specs.WellKept.{WellKept}
 use Rattle.reg_core.specs.World.{World}
-use Rattle.reg_audit.specs.Audits.{Audits, is_well_kept}
-use Rattle.reg_audit.specs.declared.audit.Audit.{Audit}
+use Rattle.reg_opening.specs.Audits.{Audits, is_well_kept}
+use Rattle.reg_opening.specs.declared.audit.Audit.{Audit}
 use Rattle.reg_vacancies.specs.Vacancies.{AreVacanciesOf}
 use Rattle.reg_vacancies.specs.declared.vacancies.Vacancies.{Vacancies}
 use Rattle.reg_tables.specs.Editing.{AreKeyed}
@@ -23,11 +23,13 @@ use Rattle.reg_tables.specs.Version.{IsOther, number_of, rows_of, schema_of, tab
 use Rattle.reg_tables.specs.declared.version.Version.{Version}
 use Rattle.reg_statements.specs.Content.{AreKept, HasVersionRow, IsStoredAs, content, content_at}
 use Rattle.reg_statements.specs.Tables.{Tables, tables_in}
+use Rattle.reg_opening.specs.Acts.{StandsBeside}
 use Rattle.reg_opening.specs.Causes.{HasCause}
 use Rattle.reg_opening.specs.Feeding.{tables_at}
 use Rattle.reg_opening.specs.Unordered.{IsUnordered}
 use Rattle.reg_opening.specs.Parts.{AreParts}
 use Rattle.reg_opening.specs.Rowids.{AreOrderedKeyed}
+use Rattle.reg_opening.specs.declared.beside.Beside.{Beside}
 use Rattle.reg_opening.specs.declared.kind.Found.{Found}
 use Rattle.reg_opening.specs.declared.kind.Found.TheVariants as found
 use Rattle.reg_opening.specs.declared.flaw.Flaw.{Flaw}
@@ -81,10 +83,10 @@ IsKind db (OtherVersion n) = IsOfVersion n db × IsOther n
 IsKind db NotOurs =
     ((v : Version) → ¬ IsOurs v db) × ((n : ℤ) → IsOfVersion n db → ¬ IsOther n)
 
--- the rows are those of an office that is well kept, and leave this free; or they are not
-abbrev pub LeaveFree : Tables → Option Vacancies → Type 0
+-- the rows are those of an office that is well kept, beside which this stands; or they are not
+abbrev pub LeaveFree : Tables → Option Beside → Type 0
 LeaveFree t None = ¬ (AreParts t × WellKept (content t))
-LeaveFree t (Some free) = (AreParts t × WellKept (content t)) × AreVacanciesOf (content t) free
+LeaveFree t (Some free) = (AreParts t × WellKept (content t)) × StandsBeside (content t) free
 
 -- what the rows leave free that an audit was fed, if they are those of an office that is well kept
 abbrev pub IsFreeBy : Audit → Option Vacancies → Type 0
@@ -98,10 +100,10 @@ kind_of (found.Ours v free) = Ours v
 kind_of (found.OtherVersion n) = OtherVersion n
 kind_of (found.NotOurs flaw) = NotOurs
 
--- and what is free in it, if it is an office's whose tables come first
+-- and what stands beside it, if it is an office's whose tables come first
 abbrev pub LeavesRoom : Database → Found → Type 0
 LeavesRoom db (found.Ours v free) =
-    BeginsWith (table_count v) db.schema → AreVacanciesOf (content_at v db) free
+    BeginsWith (table_count v) db.schema → StandsBeside (content_at v db) free
 LeavesRoom db (found.OtherVersion n) = Unit {0}
 LeavesRoom db (found.NotOurs flaw) = Unit {0}
 
@@ -118,13 +120,13 @@ IsFoundAs db (OtherVersion n) = IsKind db (OtherVersion n)
 IsFoundAs db NotOurs =
     IsKind db NotOurs × ((v : Version) → ¬ (HasVersionTables v db × ComesFirst v db))
 
--- the rows are an office's that is well kept, and leave this free; or they are not
-abbrev pub AreRowsOf : Version → Database → Option Vacancies → Type 0
+-- the rows are an office's that is well kept, beside which this stands; or they are not
+abbrev pub AreRowsOf : Version → Database → Option Beside → Type 0
 AreRowsOf v db None = LeaveFree (tables_at v db) None
 AreRowsOf v db (Some free) = AreOrderedKeyed db.trees × LeaveFree (tables_at v db) (Some free)
 
--- what the rows leave free, if they have no flaw
-abbrev pub free_in : Result Vacancies RowFlaw → Option Vacancies
+-- what stands beside the rows, if they have no flaw
+abbrev pub free_in : Result Beside RowFlaw → Option Beside
 free_in (Ok free) = Some free
 free_in (Err flaw) = None
 

@@ -7,9 +7,9 @@ use Rattle.reg_maps.specs.Maps.{same_text, text_cmp}
 use Rattle.reg_maps.specs.RowMaps.{IsTable}
 use Rattle.reg_ranges.specs.Forms.{is_partition}
 use Rattle.reg_ranges.specs.declared.range.Range.{Range}
-use Rattle.reg_audit.specs.declared.audit.Audit.{Audit}
-use Rattle.reg_audit.specs.declared.row.Row.{Row}
-use Rattle.reg_audit.specs.declared.row.Row.TheVariants as row
+use Rattle.reg_opening.specs.declared.audit.Audit.{Audit}
+use Rattle.reg_opening.specs.declared.row.Row.{Row}
+use Rattle.reg_opening.specs.declared.row.Row.TheVariants as row
 use Rattle.reg_core.specs.World.{Place, place_cmp}
 use Rattle.reg_keeper.specs.declared.keeper.Fault.{Fault}
 use Rattle.reg_keeper.specs.declared.keeper.Fault.TheVariants.{Memory, Store}

@@ -13,6 +13,7 @@ use Rattle.reg_core.specs.Minutes.{is_renewal}
 use Rattle.reg_statements.specs.Content.{cap_at, registration_at, case_at, seat_at, advice_at, prefix_at}
 use Rattle.reg_statements.specs.Content.{hold_at, link_at, minute_at}
 use Rattle.reg_statements.specs.Content.{content, holder_at}
+use Rattle.reg_opening.specs.Acts.{AreActs}
 use Rattle.reg_opening.specs.Feeding.{IsTiedTable, Untied}
 use Rattle.reg_opening.specs.Partitions.{AreRegistries}
 use Rattle.reg_statements.specs.Tables.{Tables}
@@ -92,12 +93,16 @@ pub record NoneReviewed (w : World) : Type 0 where
 
 -- ---- All
 
-abbrev pub AreParts : Tables → Type 0
-AreParts t = AreAssigned t × (AreGiven t × AreReviewed t)
+-- those that an audit is fed, and the journal
+abbrev pub AreFed : Tables → Type 0
+AreFed t = AreAssigned t × (AreGiven t × AreReviewed t)
 
--- whatever was there is replaced
-abbrev pub with_parts : Tables → World → World
-with_parts t w = content t
+abbrev pub AreParts : Tables → Type 0
+AreParts t = AreFed t × AreActs t
+
+-- whatever was there is replaced, but for the journal
+abbrev pub with_fed : Tables → World → World
+with_fed t w = record (content t) { journal = w.journal }
 
 pub record IsBlankWorld (w : World) : Type 0 where
   pub assigned : NoneAssigned w

@@ -10,6 +10,7 @@ use Rattle.reg_tables.specs.declared.texts.TheConstants.{SELECT_RANGES, SELECT_R
 use Rattle.reg_statements.specs.Loading.{ReadsInOrder}
 use Rattle.reg_statements.specs.Office as office
 use Rattle.reg_statements.specs.Parts.{TableDef}
+use Rattle.reg_opening.specs.Acts.{AreActsUnordered}
 use Rattle.reg_opening.specs.Causes.{AreUnrisen}
 use Rattle.reg_opening.specs.Numbered.{ShowsNumbered}
 use Rattle.reg_opening.specs.Rowids.{AsksRowids, ordered_tables, rowid_in}
@@ -40,6 +41,7 @@ abbrev pub AreRowidsUnordered : List ℕ → List Row → Type 0
 AreRowidsUnordered sql rows =
     AsksRowids ordered_tables sql × ¬ ReadsInOrder rowid_in int_cmp rows
 
--- any of these
+-- any of these, or the acts
 abbrev pub IsUnordered : List ℕ → List Row → Type 0
-IsUnordered sql rows = AreRowidsUnordered sql rows ⊎ ArePartsUnordered sql rows
+IsUnordered sql rows =
+    AreRowidsUnordered sql rows ⊎ (ArePartsUnordered sql rows ⊎ AreActsUnordered sql rows)

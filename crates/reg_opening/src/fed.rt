@@ -1,7 +1,7 @@
 //! The rows of an office's tables as rows that an audit is fed.
 ghost use Rattle.std.specs.Prelude.{◌≡◌, ℕ, List, refl};
 ghost use Rattle.std.specs.FinMap.{empty};
-ghost use Rattle.reg_audit.specs.declared.row.Row.TheVariants as row;
+ghost use Rattle.reg_opening.specs.declared.row.Row.TheVariants as row;
 ghost use Rattle.reg_blocks.specs.Block.{SizedPrefix};
 ghost use Rattle.reg_core.specs.World.{Link as LinkName, Place, RequestName, Seat as SeatName};
 ghost use Rattle.reg_core.specs.declared.advice.Advice.{Advice as AdviceValue};
@@ -16,7 +16,7 @@ ghost use Rattle.reg_opening.specs.FedRows as rows;
 ghost use Rattle.reg_opening.specs.Parts.{AreUnmarked, AreUnminuted, ExpiresIn, RenewsIn};
 
 use crate::feed::{Fed, FedRow};
-use reg_audit::row::Row;
+use crate::row::Row;
 use reg_core::entry::Entry;
 use reg_core::holding::Holding;
 use reg_core::request::Request;

@@ -6,8 +6,8 @@ ghost use Rattle.sqlite.specs.Order.{Row as SqlRow, column};
 ghost use Rattle.sqlite.specs.Tree.{rowid};
 ghost use Rattle.reg_maps.specs.RowMaps.{held_in};
 ghost use Rattle.reg_core.specs.World.{World};
-ghost use Rattle.reg_audit.specs.Audits.{knows_free};
-ghost use Rattle.reg_audit.specs.declared.row.Row.{Row as AuditRow};
+ghost use Rattle.reg_opening.specs.Audits.{knows_free};
+ghost use Rattle.reg_opening.specs.declared.row.Row.{Row as AuditRow};
 ghost use Rattle.reg_tables.specs.Connection.{Endures, IsIdle, Stays, Works};
 ghost use Rattle.reg_tables.specs.Kinds.{IsQuery};
 ghost use Rattle.reg_tables.specs.Selecting.{shows, stored};
@@ -20,13 +20,13 @@ ghost use Rattle.reg_opening.specs.Feeding.{FeedsPart, FeedsRows, FeedsShown, Ma
 ghost use Rattle.reg_opening.specs.Numbered.{ShowsNumbered, numbered_columns};
 ghost use Rattle.reg_opening.specs.Unordered.{IsUnnumbered};
 
+use crate::audit::Audit;
 use crate::feeder::Feeder;
 use crate::flaw::RowFlaw;
+use crate::grows::Grows;
 use crate::numbered::Numbered;
 use crate::opens::Opens;
-use reg_audit::audit::Audit;
-use reg_audit::grows::Grows;
-use reg_audit::row::Row;
+use crate::row::Row;
 use reg_keeper::keeper::Fault;
 use reg_records::record::Record;
 use reg_statements::read::each;

@@ -3,11 +3,11 @@ ghost use Rattle.std.specs.Prelude.{◌≡◌, []};
 ghost use Rattle.reg_opening.specs.Feeding.{TakesRow};
 ghost use Rattle.reg_opening.specs.Numbered.{HasRisen};
 
+use crate::audit::Audit;
 use crate::feed::{Fed, FedRow};
 use crate::flaw::RowFlaw;
+use crate::grows::Grows;
 use crate::numbered::{Numbered, Rise};
-use reg_audit::audit::Audit;
-use reg_audit::grows::Grows;
 use reg_statements::read::Sink;
 use std::alloc::AllocError;
 
@@ -71,7 +71,7 @@ impl Feeder {
 
 impl<T: FedRow, S: Grows> Sink<Numbered<T>, S> for Feeder {
     ghost use Rattle.std.specs.Prelude.{IsTrue};
-    ghost use Rattle.reg_audit.specs.Audits.{knows_free};
+    ghost use Rattle.reg_opening.specs.Audits.{knows_free};
 
     ghost Takes = { TakesRow T.row_of };
 

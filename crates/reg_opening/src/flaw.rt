@@ -77,6 +77,7 @@ fn table_name(place: usize) -> &'static str {
         10 => "holds",
         11 => "minutes",
         12 => "agents",
+        13 => "journal",
         _ => "",
     }
 }

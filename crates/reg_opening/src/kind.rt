@@ -2,7 +2,7 @@
 ghost use Rattle.std.specs.Prelude.{◌≡◌, ◌⊎◌, false, IfErr, IfOk};
 ghost use Rattle.sqlite.specs.Held.{state};
 ghost use Rattle.sqlite.specs.State.{IsLive};
-ghost use Rattle.reg_audit.specs.Audits.{knows_free};
+ghost use Rattle.reg_opening.specs.Audits.{knows_free};
 ghost use Rattle.reg_tables.specs.Connection.{Endures, IsIdle, Stays, Tells, Works};
 ghost use Rattle.reg_tables.specs.Having.{AreFreeLater, FindsTablesOf, HasTable};
 ghost use Rattle.reg_tables.specs.Schema.{office_table};
@@ -12,13 +12,15 @@ ghost use Rattle.reg_opening.specs.Causes.{TellsError};
 ghost use Rattle.reg_opening.specs.Opening.{AreRowsOf, TellsKind, FindsKind, IsFreeBy, IsNumberShown, IsVersionOf};
 ghost use Rattle.reg_opening.specs.Opening.{OpeningIsStopped, Reads, free_in, only, kind_of};
 
+use crate::acts::count_acts;
+use crate::audit::Audit;
+use crate::beside::Beside;
 use crate::feed::Reading;
 use crate::feeder::Feeder;
 use crate::flaw::{Flaw, RowFlaw};
 use crate::opens::Opens;
 use crate::parts::feed_parts;
 use crate::rowids::check_rowids;
-use reg_audit::audit::Audit;
 use reg_keeper::keeper::Fault;
 use reg_records::office::Version as VersionRow;
 use reg_statements::read::load;
@@ -40,11 +42,11 @@ pub enum StoreKind {
     NotOurs,
 }
 
-/// What a store is, and of an office's what is free in it.
+/// What a store is, and of an office's what stands beside its tables.
 #[derive(Drop)]
 pub enum Found {
-    /// An office's store, of this version, whose content is well kept, and what is free in it.
-    Ours(Version, Vacancies),
+    /// An office's store, of this version, whose content is well kept, and what stands beside it.
+    Ours(Version, Beside),
     /// An office's, of a version that this library does not know.
     OtherVersion(i64),
     /// Anything else, and why.
@@ -76,9 +78,10 @@ pub fn check<S: Opens>(alloc: Global, conn: &mut Connection<S>) -> Result<StoreK
     Ok(find(alloc, conn)?.kind())
 }
 
-/// Tells what a store is, and finds what is free in an office's. The columns of each row are read
-/// once; of the version, and of registries and their ranges, the rowids are read by themselves. The
-/// version is read before any other table is looked at, wherever its table stands.
+/// Tells what a store is, and finds what is free in an office's, and its last act. The columns of each
+/// row are read once, but those of acts that are not in the order of their numbers; of the version, and
+/// of registries and their ranges, the rowids are read by themselves. The version is read before any
+/// other table is looked at, wherever its table stands.
 pub fn find<S: Opens>(alloc: Global, conn: &mut Connection<S>) -> Result<Found, Fault>
     requires { IsIdle (state S.Store conn.old) }
     ensures finds { FindsKind (state S.Store conn.old) (state S.Store conn.new) result }
@@ -118,6 +121,7 @@ fn version_of(number: i64) -> Option<Version>
         1 => Some(Version::First),
         2 => Some(Version::Second),
         3 => Some(Version::Third),
+        4 => Some(Version::Fourth),
         _ => None,
     }
 }
@@ -188,13 +192,13 @@ fn only(versions: &[VersionRow]) -> Option<i64>
     }
 }
 
-/// What the rows of the tables of a version leave free, if they make an office that is well kept; else
-/// their first flaw.
+/// What stands beside the rows of the tables of a version, if they make an office that is well kept;
+/// else their first flaw.
 fn read_rows<S: Opens>(
     alloc: Global,
     conn: &mut Connection<S>,
     version: Version,
-) -> Result<Result<Vacancies, RowFlaw>, Fault>
+) -> Result<Result<Beside, RowFlaw>, Fault>
     requires { IsIdle (state S.Store conn.old) }
     ensures idle { IsIdle (state S.Store conn.new) }
     ensures endures { Endures (state S.Store conn.old) (state S.Store conn.new) }
@@ -212,9 +216,12 @@ fn read_rows<S: Opens>(
         return Ok(Err(feeder.first_flaw()));
     }
     let flaw = feeder.first_flaw();
-    match free_of(feeder.audit)? {
-        Some(free) => Ok(Ok(free)),
-        None => Ok(Err(flaw)),
+    let Some(vacancies) = free_of(feeder.audit)? else {
+        return Ok(Err(flaw));
+    };
+    match count_acts(reading, conn)? {
+        Ok(last) => Ok(Ok(Beside { vacancies, last })),
+        Err(flaw) => Ok(Err(flaw)),
     }
 }
 

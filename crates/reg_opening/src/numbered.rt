@@ -3,7 +3,7 @@ ghost use Rattle.std.specs.Prelude.{◌≡◌, ◌++◌, ℤ, List, [], ◌∷�
 ghost use Rattle.reg_opening.specs.Numbered.{HasRisen, numbered_in};
 
 use crate::feed::{Fed, FedRow};
-use reg_audit::row::Row as AuditRow;
+use crate::row::Row as AuditRow;
 use reg_records::column::int;
 use reg_records::record::Record;
 use sqlite::Row;

@@ -4,7 +4,7 @@ ghost use Rattle.reg_tables.specs.Connection.{Tells};
 ghost use Rattle.reg_tables.specs.Having.{AreFree, AreFreeLater, FindsTablesOf, HasTable};
 ghost use Rattle.reg_tables.specs.Schema.{office_table};
 
-use reg_audit::grows::Grows;
+use crate::grows::Grows;
 use reg_statements::loads::Loads;
 use reg_tables::reports::Reports;
 use reg_tables::schema;

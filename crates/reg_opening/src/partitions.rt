@@ -1,19 +1,19 @@
 //! Registries with their ranges, fed to an audit from their tables.
 ghost use Rattle.std.specs.Prelude.{◌≡◌, IfErr, IfOk, IsTrue, OnErr};
 ghost use Rattle.std.specs.FinMap.{empty};
-ghost use Rattle.reg_audit.specs.Audits.{knows_free};
+ghost use Rattle.reg_opening.specs.Audits.{knows_free};
 ghost use Rattle.reg_statements.specs.Content.{maxes_in, ranges_in, registries_in};
 ghost use Rattle.reg_opening.specs.Partitions.{ArePartitions, AreRegistries, AreUnfed, IsFedPartitions, leading};
 ghost use Rattle.reg_opening.specs.Partitions.{left_over, partition_row, shared_out, trailing};
 ghost use Rattle.reg_opening.specs.Unordered.{AreRegistriesUnordered};
 
+use crate::audit::Audit;
 use crate::feed::{Fed, Part, Reading, feed_all};
 use crate::feeder::Feeder;
 use crate::flaw::RowFlaw;
+use crate::grows::Grows;
 use crate::opens::Opens;
-use reg_audit::audit::Audit;
-use reg_audit::grows::Grows;
-use reg_audit::row::Row;
+use crate::row::Row;
 use reg_core::text::Name;
 use reg_keeper::keeper::Fault;
 use reg_ranges::range::Range;

@@ -1,10 +1,10 @@
-//! All rows of an office, fed to an audit in their turn.
+//! All rows of an office but its journal, fed to an audit in their turn.
 ghost use Rattle.std.specs.Prelude.{◌⊎◌, IfErr};
 ghost use Rattle.sqlite.specs.Held.{state};
 ghost use Rattle.reg_tables.specs.Connection.{IsIdle};
 ghost use Rattle.reg_opening.specs.Causes.{HasCause};
 ghost use Rattle.reg_opening.specs.Feeding.{FeedsPart};
-ghost use Rattle.reg_opening.specs.Parts.{AreParts, IsBlankWorld, with_parts};
+ghost use Rattle.reg_opening.specs.Parts.{AreFed, IsBlankWorld, with_fed};
 ghost use Rattle.reg_opening.specs.Unordered.{ArePartsUnordered};
 
 use crate::feed::{Part, Reading};
@@ -55,14 +55,14 @@ type Given = (Vec<Prefix>, (Vec<Holding>, (Vec<Request>, Vec<Minute>)));
 /// The assignments, the advice and the agents.
 type Reviewed = (Vec<Seat>, (Vec<ExpertAdvice>, Vec<Link>));
 
-/// Feeds all rows of an office of a version.
+/// Feeds all rows of an office of a version but its journal, which an audit does not judge.
 pub fn feed_parts<S: Opens>(
     reading: Reading,
     conn: &mut Connection<S>,
     feeder: &mut Feeder,
 ) -> Result<bool, Fault>
     requires { IsIdle (state S.Store conn.old) }
-    ensures feeds { FeedsPart reading.version (λ t. IsBlankWorld) AreParts with_parts
+    ensures feeds { FeedsPart reading.version (λ t. IsBlankWorld) AreFed with_fed
         (state S.Store conn.old) (state S.Store conn.new) feeder.old.audit feeder.new.audit result }
     ensures fault { IfErr result (HasCause S.Reported (S.Unloaded ⊎ S.Ungrown) ArePartsUnordered S.Store
         (state S.Store conn.old) (state S.Store conn.new)) }

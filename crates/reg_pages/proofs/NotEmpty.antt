@@ -1,7 +1,7 @@
 -- What is shown where a text is not empty.
 use Rattle.std.proofs.Common.{◌≡◌, ℕ, ◌<◌, List, [], ◌∷◌, codes, length, refl, arith}
-use Rattle.reg_html.specs.Document.{plain}
-use Rattle.reg_html.specs.Markup.{text, beside}
+use Rattle.reg_pages.specs.Document.{plain}
+use Rattle.reg_pages.specs.Markup.{text, beside}
 use Rattle.reg_pages.specs.Noted.{apply_at, reference_shown}
 use Rattle.reg_pages.specs.Reference.{reference_markup}
 

@@ -3,11 +3,11 @@ use Rattle.std.proofs.Common.{◌≡◌, ℕ, ◌+◌, ◌<◌, ◌≤◌, List,
 use Rattle.std.proofs.lemmas.Bool.Decides.{nat_tests}
 use Rattle.std.proofs.lemmas.List.{length-append}
 use Rattle.reg_core.specs.declared.holding.Listed.{Listed}
-use Rattle.reg_html.specs.Appended.{Appended}
-use Rattle.reg_html.specs.Markup.{markup_then}
-use Rattle.reg_html.specs.Table.{below_rows}
-use Rattle.reg_html.proofs.Pieces.{bytes}
-use Rattle.reg_notes.specs.declared.note.Note.{Note}
+use Rattle.reg_pages.specs.Appended.{Appended}
+use Rattle.reg_pages.specs.Markup.{markup_then}
+use Rattle.reg_pages.specs.Table.{below_rows}
+use Rattle.reg_pages.proofs.Pieces.{bytes}
+use Rattle.reg_pages.specs.declared.note.Note.{Note}
 use Rattle.reg_pages.specs.Portions.{GivesPortion, after}
 use Rattle.reg_pages.specs.Blocks as blocks
 use Rattle.reg_pages.specs.declared.portions.Next.TheVariants as next

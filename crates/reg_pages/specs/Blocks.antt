@@ -6,10 +6,10 @@ use Rattle.reg_blocks.specs.declared.size.Size.{Size}
 use Rattle.reg_blocks.specs.declared.size.Size.TheVariants.{MaL, MaM, MaS}
 use Rattle.reg_core.specs.declared.holding.Listed.{Listed}
 use Rattle.reg_print.specs.BlockListing.{block_header, block_listing_text}
-use Rattle.reg_html.specs.Document.{document, link, page, page_start, plain}
-use Rattle.reg_html.specs.Markup.{Markup, nothing, text, beside, all_of, markup_then}
-use Rattle.reg_html.specs.Table.{below_rows, cell, head_cell, row_of, table, table_start}
-use Rattle.reg_notes.specs.declared.note.Note.{Note}
+use Rattle.reg_pages.specs.Document.{document, link, page, page_start, plain}
+use Rattle.reg_pages.specs.Markup.{Markup, nothing, text, beside, all_of, markup_then}
+use Rattle.reg_pages.specs.Table.{below_rows, cell, head_cell, row_of, table, table_start}
+use Rattle.reg_pages.specs.declared.note.Note.{Note}
 use Rattle.reg_pages.specs.Noted.{apply_line}
 use Rattle.reg_pages.specs.declared.blocks.BlocksPage.{BlocksPage}
 use Rattle.reg_pages.specs.declared.portions.Next.{Next}

@@ -2,3 +2,13 @@ pub mod Blocks
 pub mod Noted
 pub mod Portions
 pub mod Reference
+pub mod Appended
+pub mod Escape
+pub mod Markup
+pub mod Document
+pub mod Pieces
+pub mod Table
+pub mod Nesting
+pub mod Words
+pub mod Notes
+pub mod Reading

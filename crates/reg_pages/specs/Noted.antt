@@ -1,11 +1,11 @@
 -- What is noted about a thing, as a page shows it.
 use Rattle.std.specs.Prelude.{ℕ, List, [], ◌∷◌, codes, Option, Some, None, option_and_then}
 use Rattle.reg_core.specs.declared.entry.PageEntry.{PageEntry}
-use Rattle.reg_html.specs.Document.{attribute, plain}
-use Rattle.reg_html.specs.Markup.{Markup, nothing, text, element, beside}
-use Rattle.reg_notes.specs.Notes.{entry_thing, note_at}
-use Rattle.reg_notes.specs.declared.note.Note.{Note}
-use Rattle.reg_notes.specs.declared.notes.Notes.{Notes}
+use Rattle.reg_pages.specs.Document.{attribute, plain}
+use Rattle.reg_pages.specs.Markup.{Markup, nothing, text, element, beside}
+use Rattle.reg_pages.specs.Notes.{entry_thing, note_at}
+use Rattle.reg_pages.specs.declared.note.Note.{Note}
+use Rattle.reg_pages.specs.declared.notes.Notes.{Notes}
 use Rattle.reg_print.specs.Listing.{ListedRow}
 use Rattle.reg_pages.specs.Reference.{reference_markup}
 

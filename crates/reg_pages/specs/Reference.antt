@@ -4,8 +4,8 @@ use Rattle.std.specs.Char.{is_ascii_digit}
 use Rattle.std.specs.Fmt.{decimal}
 use Rattle.std.specs.List.{starts_with}
 use Rattle.std.specs.Str.{is_utf8}
-use Rattle.reg_html.specs.Document.{attribute, link}
-use Rattle.reg_html.specs.Markup.{Markup, nothing, text, element}
+use Rattle.reg_pages.specs.Document.{attribute, link}
+use Rattle.reg_pages.specs.Markup.{Markup, nothing, text, element}
 use Rattle.reg_ranges.specs.Numbers.{read_number}
 use Rattle.reg_ranges.specs.Texts.{read_text}
 

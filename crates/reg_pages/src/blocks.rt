@@ -1,20 +1,20 @@
 //! The page of the blocks that were given, and IEEE's files of them.
 ghost use Rattle.std.specs.Prelude.{◌≡◌, ◌++◌, codes, length, string_bytes, IfOk, OnOk};
 ghost use Rattle.std.specs.Option.{option_copied};
-ghost use Rattle.reg_html.specs.Appended.{Appended, Shown};
-ghost use Rattle.reg_html.specs.Table.{table_start};
+ghost use Rattle.reg_pages.specs.Appended.{Appended, Shown};
+ghost use Rattle.reg_pages.specs.Table.{table_start};
 ghost use Rattle.reg_pages.specs.Blocks.{above_rows, assignments_text, block_links, block_row, blocks_page, no_blocks, page_left, row_by, rows_of, same_size};
 ghost use Rattle.reg_print.specs.BlockListing.{block_header};
 
+use crate::document::push_start;
+use crate::markup::Piece::{Link, Markup};
+use crate::markup::{push, push_all};
+use crate::note::Note;
 use crate::noted::push_apply;
 use crate::portions::{Next, Portions};
+use crate::table;
 use reg_blocks::size::Size;
 use reg_core::holding::Listed;
-use reg_html::document::push_start;
-use reg_html::markup::Piece::{Link, Markup};
-use reg_html::markup::{push, push_all};
-use reg_html::table;
-use reg_notes::note::Note;
 use reg_print::listing::blocks::{address_text, block_listing, organization_text};
 use std::alloc::{AllocError, Global};
 

@@ -1,16 +1,16 @@
 //! What is noted about a thing, as a page shows it.
 ghost use Rattle.std.specs.Prelude.{◌≡◌, [], IfOk, OnOk};
 ghost use Rattle.std.specs.Option.{option_copied};
-ghost use Rattle.reg_html.specs.Appended.{Shown};
+ghost use Rattle.reg_pages.specs.Appended.{Shown};
 ghost use Rattle.reg_print.specs.Listing.{row_view};
 ghost use Rattle.reg_pages.specs.Noted.{apply_at, apply_line, note_of_row, note_shown, noted, noted_in, reference_shown, title_shown};
 
+use crate::escape::push_text;
+use crate::markup::Piece::{Markup, Text};
+use crate::markup::{push, push_all};
+use crate::note::Note;
+use crate::notes::Notes;
 use crate::reference::push_reference;
-use reg_html::escape::push_text;
-use reg_html::markup::Piece::{Markup, Text};
-use reg_html::markup::{push, push_all};
-use reg_notes::note::Note;
-use reg_notes::notes::Notes;
 use reg_print::listing::rows::ListingRow;
 use std::alloc::{AllocError, Global};
 

@@ -1,13 +1,13 @@
 //! What notes refer to, and where that is.
 ghost use Rattle.std.specs.Prelude.{◌≡◌, ◌<◌, ◌++◌, codes, length, option_map, position, string_bytes, IfOk, IfSome, OnOk};
 ghost use Rattle.std.specs.Fmt.{decimal};
-ghost use Rattle.reg_html.specs.Appended.{Shown};
-ghost use Rattle.reg_html.specs.Document.{link};
+ghost use Rattle.reg_pages.specs.Appended.{Shown};
+ghost use Rattle.reg_pages.specs.Document.{link};
 ghost use Rattle.reg_pages.specs.Reference.{address_of, by_address, is_no_digit, is_space, reference_markup, rfc_of, rfc_place, until, xref, xref_by_address, xref_of};
 
-use reg_html::markup::Piece::{Link, Markup, Text};
-use reg_html::markup::push_all;
-use reg_notes::words::as_text;
+use crate::markup::Piece::{Link, Markup, Text};
+use crate::markup::push_all;
+use crate::words::as_text;
 use reg_ranges::number::read_number;
 use std::alloc::{AllocError, Global};
 

@@ -1,6 +1,7 @@
 -- A command that is read has its form.
-use Rattle.std.proofs.Common.{◌≡◌, ℕ, List, [], ◌∷◌, length, Bool, true, Option, Result, Ok, Err, refl}
-use Rattle.std.specs.Prelude.{⊤, IfOk}
+use Rattle.std.proofs.Common.{◌≡◌, ℕ, List, [], ◌∷◌, length, Bool, true, false, Option, Some, None, Result, Ok, Err, refl, subst, arith}
+use Rattle.std.specs.Prelude.{⊤, IfOk, nat_lt, if◌then◌else◌}
+use Rattle.std.proofs.lemmas.Bool.Decides.{nat_tests}
 use Rattle.std.specs.Cmp.Derive.{both_true}
 use Rattle.serde_json.specs.Data.{Data}
 use Rattle.reg_ranges.specs.Numbers.{read_number}
@@ -18,6 +19,12 @@ use Rattle.reg_core.specs.declared.command.Command.TheVariants as command
 use Rattle.reg_core.specs.declared.command.PublicCommand.TheVariants as public
 use Rattle.reg_core.specs.declared.command.ApplicantCommand.TheVariants as applicant
 use Rattle.reg_core.specs.declared.command.ClerkCommand.TheVariants as clerk
+use Rattle.reg_core.specs.declared.command.TimesCommand.TheVariants as times
+use Rattle.reg_early.specs.Calendar.{IsDay}
+use Rattle.reg_early.specs.DayReading as days
+use Rattle.reg_early.specs.DayReading.{in_clock_years, read_clock_day, read_day}
+use Rattle.reg_early.specs.Forms.{is_day}
+use Rattle.reg_early.proofs.DaysRead.{read_day-is}
 use Rattle.reg_core.specs.declared.item.Segment.{Segment}
 use Rattle.reg_core.specs.declared.item.Segment.TheVariants as in_path
 use Rattle.reg_core.specs.declared.item.Item.TheVariants as item
@@ -25,9 +32,9 @@ use Rattle.reg_core.specs.declared.wire_refusal.WireRefusal.TheVariants as refus
 use Rattle.reg_core.specs.declared.wire_refusal.ReadFault.{ReadFault}
 use Rattle.reg_parse.specs.declared.route.Operation.{Operation}
 use Rattle.reg_parse.specs.declared.route.Operation.TheVariants as operation
-use Rattle.reg_parse.specs.Route.{operation_for, registry_path, listing_path, request_path, holding_path, agent_path, principal_path, review_path, case_path, expert_path, approval_path, decline_path, hold_path, definition_path, prefix_path, token_path, account_path}
+use Rattle.reg_parse.specs.Route.{operation_for, registry_path, listing_path, request_path, holding_path, agent_path, principal_path, review_path, case_path, expert_path, approval_path, decline_path, hold_path, definition_path, prefix_path, token_path, account_path, principal_times_path, day_path, actor_path, history_path}
 use Rattle.reg_parse.specs.Bodies.Members.{Reading, ◌>>=◌, GivesSeen, or_refusal, object_of, needed, only, kind_form, truth_form, verdict_form}
-use Rattle.reg_parse.specs.Command.{add_pool_of, advise_of, approve_of, asked, assign_expert_of, command_of, decline_of, define_of, empty, grant_of, name_at, one_request_of, own_one_of, principal_rows_of, registry_csv_of, registry_of, revoke_account_of, revoke_digits_of, revoke_of, routed, segment, set_agent_of, set_hold_of, set_listing_of, submit_of, withdraw_of}
+use Rattle.reg_parse.specs.Command.{acts_about_of, acts_by_of, acts_on_of, add_pool_of, advise_of, approve_of, asked, assign_expert_of, command_of, decline_of, define_of, empty, grant_of, name_at, one_request_of, own_one_of, principal_rows_of, principal_times_of, registry_csv_of, registry_of, revoke_account_of, revoke_digits_of, revoke_of, routed, segment, set_agent_of, set_hold_of, set_listing_of, submit_of, withdraw_of}
 use Rattle.reg_parse.specs.Bodies.Advice.{advice_of}
 use Rattle.reg_parse.specs.Bodies.Capability.{cap_of}
 use Rattle.reg_parse.proofs.Formed.{Passes, Gives, after_any, after_passing, ok-passes, guard, after, or_refusal-passes, needed-passes, text_form-gives, until_form-gives, read_number-gives, is_below, is_until}
@@ -81,6 +88,24 @@ read_block-gives digits b e =
     (λ size. after is_block (make_block size) (made-gives size) (hex_value_of digits))
     (size_of_digits (length digits)) b e
 
+-- ---- days
+
+day_is : (day : ℕ) → IsDay day → is_day day ≡ true
+day_is day h = grind (arith, nat_tests)
+
+read_clock_day-gives : Gives is_day read_clock_day
+read_clock_day-gives text day e = by (read_day text) refl e
+  where
+    by : (o : Option ℕ) → read_day text ≡ o → days.◌>>=◌ o in_clock_years ≡ Some day
+        → is_day day ≡ true
+    by None is e = absurd (cc)
+    by (Some read) is e = kept (nat_lt read 376200) e
+      where
+        kept : (b : Bool) → (if b then Some read else None) ≡ Some day → is_day day ≡ true
+        kept true e = let same : read ≡ day = cc in
+            subst (λ d. is_day d ≡ true) same (day_is read (read_day-is text read is))
+        kept false e = absurd (cc)
+
 -- ---- commands
 
 plain_parts : (n : Reading ⊤) (c : Command) → has_command_form c ≡ true
@@ -99,7 +124,7 @@ named_parts make h n passes =
 command_of-passes : (o : Operation) (path body : List ℕ)
     → Passes has_command_form (command_of o path body)
 unfolding registry_of registry_csv_of own_one_of submit_of withdraw_of set_listing_of set_agent_of
-    principal_rows_of advise_of one_request_of assign_expert_of approve_of decline_of set_hold_of
+    principal_rows_of principal_times_of acts_on_of acts_by_of acts_about_of advise_of one_request_of assign_expert_of approve_of decline_of set_hold_of
     define_of add_pool_of grant_of revoke_of revoke_digits_of revoke_account_of
 command_of-passes operation.Registries path body = plain_parts (empty body) _ refl
 command_of-passes operation.Registry path body =
@@ -110,6 +135,7 @@ command_of-passes operation.RegistryCsv path body =
     (name_at-passes in_path.Name listing_path path)
 command_of-passes operation.BlocksCsv path body = plain_parts (empty body) _ refl
 command_of-passes operation.PoolList path body = plain_parts (empty body) _ refl
+command_of-passes operation.Token path body = plain_parts (empty body) _ refl
 command_of-passes operation.Own path body = plain_parts (empty body) _ refl
 command_of-passes operation.OwnOne path body =
     named_parts (λ s. command.Applicant (applicant.OwnOne s)) (λ s h. h) (empty body)
@@ -139,6 +165,10 @@ command_of-passes operation.Principals path body = plain_parts (empty body) _ re
 command_of-passes operation.PrincipalRows path body =
     named_parts (λ s. command.Applicant (applicant.PrincipalRows s)) (λ s h. h) (empty body)
     (name_at-passes in_path.Account principal_path path)
+command_of-passes operation.Times path body = plain_parts (empty body) _ refl
+command_of-passes operation.PrincipalTimes path body =
+    named_parts (λ s. command.Times (times.Principal s)) (λ s h. h) (empty body)
+    (name_at-passes in_path.Account principal_times_path path)
 command_of-passes operation.Queue path body = plain_parts (empty body) _ refl
 command_of-passes operation.Advise path body =
     after_any (object_of body)
@@ -209,6 +239,17 @@ command_of-passes operation.RevokeAccount path body =
     named_parts (λ s. command.Clerk (clerk.RevokeAccount s)) (λ s h. h) (empty body)
     (name_at-passes in_path.Account account_path path)
 command_of-passes operation.CountRows path body = plain_parts (empty body) _ refl
+command_of-passes operation.ActsOn path body =
+    named_parts (λ d. command.Clerk (clerk.ActsOn d)) (λ d h. h) (empty body)
+    (segment-passes is_day in_path.Day read_clock_day day_path path read_clock_day-gives)
+command_of-passes operation.ActsBy path body =
+    named_parts (λ s. command.Clerk (clerk.ActsBy s)) (λ s h. h) (empty body)
+    (name_at-passes in_path.Account actor_path path)
+command_of-passes operation.ActsAbout path body =
+    after_any (empty body)
+    (λ none. after_passing (name_at-passes in_path.Account history_path path)
+    (λ a ha. after_passing (name_at-passes in_path.Reference history_path path)
+    (λ r hr. ok-passes has_command_form _ (both_true ha hr))))
 
 -- ---- whole
 

@@ -1,10 +1,9 @@
 -- What is shown of a path that is not public.
-use Rattle.std.proofs.Common.{◌≡◌, ℕ, List, Bool, true, false, ◌&&◌, is_none, Option, Some, None, Ok, refl, sym, ap, ◌∙◌}
-use Rattle.std.specs.Prelude.{⊤, if◌then◌else◌}
+use Rattle.std.proofs.Common.{◌≡◌, ℕ, List, Bool, true, false, ◌&&◌, Option, Some, None, Ok, refl, sym, ap, ◌∙◌}
+use Rattle.std.specs.Prelude.{⊤, not, if◌then◌else◌}
 use Rattle.std.specs.Str.{bytes_eq}
 use Rattle.std.specs.Prelude.{codes}
-use Rattle.reg_core.specs.Command.{kind_of}
-use Rattle.reg_core.specs.declared.capability.Kind.{Kind}
+use Rattle.reg_core.specs.Command.{needs_capability}
 use Rattle.reg_core.specs.declared.command.Command.{Command}
 use Rattle.reg_core.specs.declared.command.Command.TheVariants as command
 use Rattle.reg_core.specs.declared.command.PublicCommand.{PublicCommand}
@@ -41,7 +40,7 @@ shown-alike path other same h = rw (same) (shown_by-alike (routed path) path oth
 
 -- a command takes no token
 abbrev takes_none : Command → Bool
-takes_none c = is_none (kind_of c)
+takes_none c = not (needs_capability c)
 
 spelled : (n : Reading ⊤) (c : PublicCommand) → Passes takes_none (n >>= (λ nothing. Ok (command.Public c)))
 spelled n c = after_any n (λ nothing. ok-passes takes_none (command.Public c) refl)
@@ -119,23 +118,23 @@ routed_passes None method path body h = cc
 routed_passes (Some at) method path body h =
     done_passes (operation_for method at) path body (λ o e. operation_for-public method at o h e)
 
-some_is_none : (o : Option Kind) (kind : Kind) → o ≡ Some kind → is_none o ≡ true → true ≡ false
-some_is_none None kind e h = cc
-some_is_none (Some k) kind e h = cc
+needed : (needs : Bool) → needs ≡ true → not needs ≡ true → true ≡ false
+needed true t h = cc
+needed false t h = cc
 
-hidden_by : (whole : Bool) (method path body : List ℕ) (c : Command) (kind : Kind)
+hidden_by : (whole : Bool) (method path body : List ℕ) (c : Command)
     → is_shown_whole (routed path) ≡ whole → asked method path body ≡ Ok c
-    → kind_of c ≡ Some kind → whole ≡ false
+    → needs_capability c ≡ true → whole ≡ false
 unfolding asked
-hidden_by true method path body c kind is e takes =
-    some_is_none (kind_of c) kind takes ((routed_passes (routed path) method path body is).passed c e)
-hidden_by false method path body c kind is e takes = refl
+hidden_by true method path body c is e takes =
+    needed (needs_capability c) takes ((routed_passes (routed path) method path body is).passed c e)
+hidden_by false method path body c is e takes = refl
 
-pub hidden : (method path body : List ℕ) (c : Command) (kind : Kind)
-    → asked method path body ≡ Ok c → kind_of c ≡ Some kind
+pub hidden : (method path body : List ℕ) (c : Command)
+    → asked method path body ≡ Ok c → needs_capability c ≡ true
     → is_shown_whole (routed path) ≡ false
-hidden method path body c kind e takes =
-    hidden_by (is_shown_whole (routed path)) method path body c kind refl e takes
+hidden method path body c e takes =
+    hidden_by (is_shown_whole (routed path)) method path body c refl e takes
 
 -- ---- what is shown, by the route that was found
 

@@ -4,6 +4,7 @@ use Rattle.std.specs.Str.{is_utf8}
 use Rattle.reg_ranges.specs.Numbers.{read_number}
 use Rattle.reg_ranges.specs.Texts.{is_text, read_text}
 use Rattle.reg_blocks.specs.Digits.{read_block, read_prefix}
+use Rattle.reg_early.specs.DayReading.{read_clock_day}
 use Rattle.reg_core.specs.Names.{is_name, is_token, is_digits}
 use Rattle.reg_core.specs.declared.command.Command.{Command}
 use Rattle.reg_core.specs.declared.command.Command.TheVariants as command
@@ -11,6 +12,7 @@ use Rattle.reg_core.specs.declared.command.PublicCommand.TheVariants as public
 use Rattle.reg_core.specs.declared.command.ApplicantCommand.TheVariants as applicant
 use Rattle.reg_core.specs.declared.command.ExpertCommand.TheVariants as expert
 use Rattle.reg_core.specs.declared.command.ClerkCommand.TheVariants as clerk
+use Rattle.reg_core.specs.declared.command.TimesCommand.TheVariants as times
 use Rattle.reg_core.specs.declared.item.Segment.{Segment}
 use Rattle.reg_core.specs.declared.item.Segment.TheVariants as in_path
 use Rattle.reg_core.specs.declared.item.Item.TheVariants as item
@@ -23,7 +25,7 @@ use Rattle.reg_parse.specs.Bodies.Advice.{advice_of}
 use Rattle.reg_parse.specs.Bodies.Ask.{ask_of}
 use Rattle.reg_parse.specs.Bodies.Capability.{cap_of}
 use Rattle.reg_parse.specs.RangeFile.{table_of}
-use Rattle.reg_parse.specs.Route.{methods_at, operation_for, registry_path, listing_path, request_path, holding_path, agent_path, principal_path, review_path, case_path, expert_path, approval_path, decline_path, hold_path, definition_path, prefix_path, token_path, account_path}
+use Rattle.reg_parse.specs.Route.{methods_at, operation_for, registry_path, listing_path, request_path, holding_path, agent_path, principal_path, review_path, case_path, expert_path, approval_path, decline_path, hold_path, definition_path, prefix_path, token_path, account_path, principal_times_path, day_path, actor_path, history_path}
 use Rattle.reg_parse.specs.Path.{segment_named, has_empty_segment}
 
 abbrev pub empty : List ℕ → Reading ⊤
@@ -95,6 +97,12 @@ principal_rows_of path body = do
   nothing ← empty body
   principal ← name_at in_path.Account principal_path path
   Ok (command.Applicant (applicant.PrincipalRows principal))
+
+unfoldable pub principal_times_of : List ℕ → List ℕ → Reading Command
+principal_times_of path body = do
+  nothing ← empty body
+  principal ← name_at in_path.Account principal_times_path path
+  Ok (command.Times (times.Principal principal))
 
 unfoldable pub advise_of : List ℕ → List ℕ → Reading Command
 advise_of path body = do
@@ -185,6 +193,25 @@ revoke_account_of path body = do
   account ← name_at in_path.Account account_path path
   Ok (command.Clerk (clerk.RevokeAccount account))
 
+unfoldable pub acts_on_of : List ℕ → List ℕ → Reading Command
+acts_on_of path body = do
+  nothing ← empty body
+  day ← segment in_path.Day read_clock_day day_path path
+  Ok (command.Clerk (clerk.ActsOn day))
+
+unfoldable pub acts_by_of : List ℕ → List ℕ → Reading Command
+acts_by_of path body = do
+  nothing ← empty body
+  account ← name_at in_path.Account actor_path path
+  Ok (command.Clerk (clerk.ActsBy account))
+
+unfoldable pub acts_about_of : List ℕ → List ℕ → Reading Command
+acts_about_of path body = do
+  nothing ← empty body
+  account ← name_at in_path.Account history_path path
+  reference ← name_at in_path.Reference history_path path
+  Ok (command.Clerk (clerk.ActsAbout account reference))
+
 abbrev pub command_of : Operation → List ℕ → List ℕ → Reading Command
 command_of operation.Registries path body = without_body (command.Public public.Registries) body
 command_of operation.Registry path body = registry_of path body
@@ -192,6 +219,7 @@ command_of operation.RegistryCsv path body = registry_csv_of path body
 command_of operation.BlocksCsv path body =
     without_body (command.Public public.BlocksCsv) body
 command_of operation.PoolList path body = without_body (command.Public public.PoolList) body
+command_of operation.Token path body = without_body command.Token body
 command_of operation.Own path body = without_body (command.Applicant applicant.Own) body
 command_of operation.OwnOne path body = own_one_of path body
 command_of operation.Submit path body = submit_of path body
@@ -203,6 +231,8 @@ command_of operation.Agents path body = without_body (command.Applicant applican
 command_of operation.Principals path body =
     without_body (command.Applicant applicant.Principals) body
 command_of operation.PrincipalRows path body = principal_rows_of path body
+command_of operation.Times path body = without_body (command.Times times.Own) body
+command_of operation.PrincipalTimes path body = principal_times_of path body
 command_of operation.Queue path body = without_body (command.Expert expert.Queue) body
 command_of operation.Advise path body = advise_of path body
 command_of operation.AllRequests path body = without_body (command.Clerk clerk.AllRequests) body
@@ -222,6 +252,9 @@ command_of operation.AllCapabilities path body =
 command_of operation.RevokeDigits path body = revoke_digits_of path body
 command_of operation.RevokeAccount path body = revoke_account_of path body
 command_of operation.CountRows path body = without_body (command.Clerk clerk.CountRows) body
+command_of operation.ActsOn path body = acts_on_of path body
+command_of operation.ActsBy path body = acts_by_of path body
+command_of operation.ActsAbout path body = acts_about_of path body
 
 -- what the methods do at a path that is UTF-8 and has no empty segment
 abbrev pub routed : List ℕ → Option Methods

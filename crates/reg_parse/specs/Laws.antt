@@ -2,9 +2,8 @@
 use Rattle.std.specs.Prelude.{◌≢◌, ◌≡◌, ℕ, List, map, true, false, Some, Ok, Err}
 use Rattle.reg_ranges.specs.RangeFile.{file_ranges}
 use Rattle.reg_ranges.specs.declared.range_file.RowFault.TheVariants.{Memory}
-use Rattle.reg_core.specs.Command.{has_command_form, kind_of}
+use Rattle.reg_core.specs.Command.{has_command_form, needs_capability}
 use Rattle.reg_core.specs.declared.command.Command.{Command}
-use Rattle.reg_core.specs.declared.capability.Kind.{Kind}
 use Rattle.reg_parse.specs.Command.{asked, routed}
 use Rattle.reg_parse.specs.Route.{rows}
 use Rattle.reg_parse.specs.Shown.{is_shown_whole, pattern_at, shown}
@@ -28,8 +27,8 @@ PrivatePathsAreShownAlike =
 -- the path of a command that takes a token, of whatever kind, is not shown as it is
 abbrev pub PathsOfTokensAreHidden : Type 0
 PathsOfTokensAreHidden =
-    (method path body : List ℕ) (command : Command) (kind : Kind)
-    → asked method path body ≡ Ok command → kind_of command ≡ Some kind
+    (method path body : List ℕ) (command : Command)
+    → asked method path body ≡ Ok command → needs_capability command ≡ true
     → is_shown_whole (routed path) ≡ false
 
 -- the pattern that stands for the paths of a row is that of the row

@@ -8,7 +8,7 @@ use Rattle.matchit.specs.Router.{RouteOf, route_from, nearest}
 use Rattle.matchit.specs.Seek.{first}
 use Rattle.matchit.specs.declared.error.InsertError.{InsertError}
 use Rattle.reg_parse.specs.declared.route.Operation.{Operation}
-use Rattle.reg_parse.specs.declared.route.Operation.TheVariants.{Registries, Registry, RegistryCsv, BlocksCsv, PoolList, Own, OwnOne, Submit, Withdraw, Holdings, SetListing, SetAgent, Agents, Principals, PrincipalRows, Queue, Advise, AllRequests, OneRequest, AssignExpert, Approve, Decline, SetHold, Define, AddPool, Grant, Revoke, PendingRequests, AllCapabilities, RevokeDigits, RevokeAccount, CountRows}
+use Rattle.reg_parse.specs.declared.route.Operation.TheVariants.{Registries, Registry, RegistryCsv, BlocksCsv, PoolList, Token, Own, OwnOne, Submit, Withdraw, Holdings, SetListing, SetAgent, Agents, Principals, PrincipalRows, Times, PrincipalTimes, Queue, Advise, AllRequests, OneRequest, AssignExpert, Approve, Decline, SetHold, Define, AddPool, Grant, Revoke, PendingRequests, AllCapabilities, RevokeDigits, RevokeAccount, CountRows, ActsOn, ActsBy, ActsAbout}
 use Rattle.reg_parse.specs.declared.route.Methods.{Methods}
 
 abbrev pub operation_for : List ℕ → Methods → Option Operation
@@ -16,6 +16,47 @@ operation_for method at =
     if bytes_eq method (codes "GET") then at.get
     else (if bytes_eq method (codes "PUT") then at.put
     else (if bytes_eq method (codes "DELETE") then at.delete else None))
+
+-- it is at the desk, for clerks alone
+abbrev pub is_of_desk : Operation → Bool
+is_of_desk Registries = false
+is_of_desk Registry = false
+is_of_desk RegistryCsv = false
+is_of_desk BlocksCsv = false
+is_of_desk PoolList = false
+is_of_desk Token = false
+is_of_desk Own = false
+is_of_desk OwnOne = false
+is_of_desk Submit = false
+is_of_desk Withdraw = false
+is_of_desk Holdings = false
+is_of_desk SetListing = false
+is_of_desk SetAgent = false
+is_of_desk Agents = false
+is_of_desk Principals = false
+is_of_desk PrincipalRows = false
+is_of_desk Times = false
+is_of_desk PrincipalTimes = false
+is_of_desk Queue = false
+is_of_desk Advise = false
+is_of_desk AllRequests = true
+is_of_desk OneRequest = true
+is_of_desk AssignExpert = true
+is_of_desk Approve = true
+is_of_desk Decline = true
+is_of_desk SetHold = true
+is_of_desk Define = true
+is_of_desk AddPool = true
+is_of_desk Grant = true
+is_of_desk Revoke = true
+is_of_desk PendingRequests = true
+is_of_desk AllCapabilities = true
+is_of_desk RevokeDigits = true
+is_of_desk RevokeAccount = true
+is_of_desk CountRows = true
+is_of_desk ActsOn = true
+is_of_desk ActsBy = true
+is_of_desk ActsAbout = true
 
 -- ---- the patterns that name parts
 
@@ -38,6 +79,9 @@ agent_path = codes "/agents/{agent}"
 
 abbrev pub principal_path : List ℕ
 principal_path = codes "/principals/{account}/requests"
+
+abbrev pub principal_times_path : List ℕ
+principal_times_path = codes "/principals/{account}/times"
 
 abbrev pub review_path : List ℕ
 review_path = codes "/queue/{account}/{reference}"
@@ -69,6 +113,15 @@ token_path = codes "/desk/tokens/{digits}"
 abbrev pub account_path : List ℕ
 account_path = codes "/desk/accounts/{account}"
 
+abbrev pub day_path : List ℕ
+day_path = codes "/desk/journal/days/{day}"
+
+abbrev pub actor_path : List ℕ
+actor_path = codes "/desk/journal/actors/{account}"
+
+abbrev pub history_path : List ℕ
+history_path = codes "/desk/journal/requests/{account}/{reference}"
+
 -- ---- the table
 
 -- a path, and what GET, PUT and DELETE do there
@@ -85,6 +138,7 @@ rows =
     ∷ row listing_path (Some RegistryCsv) None None
     ∷ row (codes "/listings/blocks") (Some BlocksCsv) None None
     ∷ row (codes "/pool") (Some PoolList) None None
+    ∷ row (codes "/token") (Some Token) None None
     ∷ row (codes "/requests") (Some Own) None None
     ∷ row request_path (Some OwnOne) (Some Submit) (Some Withdraw)
     ∷ row (codes "/holdings") (Some Holdings) None None
@@ -93,6 +147,8 @@ rows =
     ∷ row agent_path None (Some SetAgent) None
     ∷ row (codes "/principals") (Some Principals) None None
     ∷ row principal_path (Some PrincipalRows) None None
+    ∷ row (codes "/times") (Some Times) None None
+    ∷ row principal_times_path (Some PrincipalTimes) None None
     ∷ row (codes "/queue") (Some Queue) None None
     ∷ row review_path None (Some Advise) None
     ∷ row (codes "/desk/requests") (Some AllRequests) None None
@@ -109,6 +165,9 @@ rows =
     ∷ row token_path None None (Some RevokeDigits)
     ∷ row account_path None None (Some RevokeAccount)
     ∷ row (codes "/desk/counts") (Some CountRows) None None
+    ∷ row day_path (Some ActsOn) None None
+    ∷ row actor_path (Some ActsBy) None None
+    ∷ row history_path (Some ActsAbout) None None
     ∷ []
 
 -- what a router keeps of them

@@ -1,11 +1,11 @@
 -- What a log shows of the path of a request.
 use Rattle.std.specs.Prelude.{ℕ, List, Option, Some, None, codes, if◌then◌else◌, Bool, true, false, ◌&&◌}
 use Rattle.reg_parse.specs.declared.route.Operation.{Operation}
-use Rattle.reg_parse.specs.declared.route.Operation.TheVariants.{Registries, Registry, RegistryCsv, BlocksCsv, PoolList, Own, OwnOne, Submit, Withdraw, Holdings, SetListing, SetAgent, Agents, Principals, PrincipalRows, Queue, Advise, AllRequests, OneRequest, AssignExpert, Approve, Decline, SetHold, Define, AddPool, Grant, Revoke, PendingRequests, AllCapabilities, RevokeDigits, RevokeAccount, CountRows}
+use Rattle.reg_parse.specs.declared.route.Operation.TheVariants.{Registries, Registry, RegistryCsv, BlocksCsv, PoolList, Token, Own, OwnOne, Submit, Withdraw, Holdings, SetListing, SetAgent, Agents, Principals, PrincipalRows, Times, PrincipalTimes, Queue, Advise, AllRequests, OneRequest, AssignExpert, Approve, Decline, SetHold, Define, AddPool, Grant, Revoke, PendingRequests, AllCapabilities, RevokeDigits, RevokeAccount, CountRows, ActsOn, ActsBy, ActsAbout}
 use Rattle.reg_parse.specs.declared.route.Methods.{Methods}
 use Rattle.reg_parse.specs.declared.shown.Shown.{Shown}
 use Rattle.reg_parse.specs.Command.{routed}
-use Rattle.reg_parse.specs.Route.{registry_path, listing_path, request_path, holding_path, agent_path, principal_path, review_path, case_path, expert_path, approval_path, decline_path, hold_path, definition_path, prefix_path, token_path, account_path}
+use Rattle.reg_parse.specs.Route.{registry_path, listing_path, request_path, holding_path, agent_path, principal_path, review_path, case_path, expert_path, approval_path, decline_path, hold_path, definition_path, prefix_path, token_path, account_path, principal_times_path, day_path, actor_path, history_path}
 
 -- the text that is shown
 abbrev pub text_of : Shown → List ℕ
@@ -18,6 +18,7 @@ is_public Registry = true
 is_public RegistryCsv = true
 is_public BlocksCsv = true
 is_public PoolList = true
+is_public Token = false
 is_public Own = false
 is_public OwnOne = false
 is_public Submit = false
@@ -28,6 +29,8 @@ is_public SetAgent = false
 is_public Agents = false
 is_public Principals = false
 is_public PrincipalRows = false
+is_public Times = false
+is_public PrincipalTimes = false
 is_public Queue = false
 is_public Advise = false
 is_public AllRequests = false
@@ -45,6 +48,9 @@ is_public AllCapabilities = false
 is_public RevokeDigits = false
 is_public RevokeAccount = false
 is_public CountRows = false
+is_public ActsOn = false
+is_public ActsBy = false
+is_public ActsAbout = false
 
 -- the pattern of its path
 abbrev pub pattern_of : Operation → List ℕ
@@ -53,6 +59,7 @@ pattern_of Registry = registry_path
 pattern_of RegistryCsv = listing_path
 pattern_of BlocksCsv = codes "/listings/blocks"
 pattern_of PoolList = codes "/pool"
+pattern_of Token = codes "/token"
 pattern_of Own = codes "/requests"
 pattern_of OwnOne = request_path
 pattern_of Submit = request_path
@@ -63,6 +70,8 @@ pattern_of SetAgent = agent_path
 pattern_of Agents = codes "/agents"
 pattern_of Principals = codes "/principals"
 pattern_of PrincipalRows = principal_path
+pattern_of Times = codes "/times"
+pattern_of PrincipalTimes = principal_times_path
 pattern_of Queue = codes "/queue"
 pattern_of Advise = review_path
 pattern_of AllRequests = codes "/desk/requests"
@@ -80,6 +89,9 @@ pattern_of AllCapabilities = codes "/desk/tokens"
 pattern_of RevokeDigits = token_path
 pattern_of RevokeAccount = account_path
 pattern_of CountRows = codes "/desk/counts"
+pattern_of ActsOn = day_path
+pattern_of ActsBy = actor_path
+pattern_of ActsAbout = history_path
 
 -- an operation, if there is one, that everybody may have
 abbrev pub is_open : Option Operation → Bool

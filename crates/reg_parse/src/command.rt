@@ -2,26 +2,32 @@
 ghost use Rattle.std.specs.Prelude.{◌≡◌, true, IfOk, IfSome, option_map};
 ghost use Rattle.reg_blocks.specs.Digits.{read_block, read_prefix};
 ghost use Rattle.reg_core.specs.Command.{has_command_form};
-ghost use Rattle.reg_parse.specs.Route.{operation_for};
+ghost use Rattle.reg_early.specs.DayReading.{read_clock_day};
+ghost use Rattle.reg_parse.specs.Route.{is_of_desk, operation_for};
 ghost use Rattle.reg_parse.specs.Bodies.Members.{Gives};
 ghost use Rattle.reg_ranges.specs.Numbers.{read_number};
 ghost use Rattle.reg_ranges.specs.Texts.{read_text};
-ghost use Rattle.reg_parse.specs.Command.{add_pool_of, advise_of, approve_of, asked, assign_expert_of, command_of, decline_of, define_of, empty, grant_of, one_request_of, own_one_of, principal_rows_of, registry_csv_of, registry_of, revoke_account_of, revoke_digits_of, revoke_of, routed, segment, set_agent_of, set_hold_of, set_listing_of, submit_of, withdraw_of, without_body};
+ghost use Rattle.reg_parse.specs.Command.{acts_about_of, acts_by_of, acts_on_of, add_pool_of, advise_of, approve_of, asked, assign_expert_of, command_of, decline_of, define_of, empty, grant_of, one_request_of, own_one_of, principal_rows_of, principal_times_of, registry_csv_of, registry_of, revoke_account_of, revoke_digits_of, revoke_of, routed, segment, set_agent_of, set_hold_of, set_listing_of, submit_of, withdraw_of, without_body};
 
 use crate::bodies::{advice, ask, capability, members};
 use crate::path;
 use crate::range_file::read_table;
 use crate::route::{
-    ACCOUNT_PATH, AGENT_PATH, APPROVAL_PATH, CASE_PATH, DECLINE_PATH, DEFINITION_PATH, EXPERT_PATH,
-    HOLD_PATH, HOLDING_PATH, LISTING_PATH, Methods, Operation, PREFIX_PATH, PRINCIPAL_PATH,
-    REGISTRY_PATH, REQUEST_PATH, REVIEW_PATH, Routes, TOKEN_PATH,
+    ACCOUNT_PATH, ACTOR_PATH, AGENT_PATH, APPROVAL_PATH, CASE_PATH, DAY_PATH, DECLINE_PATH,
+    DEFINITION_PATH, EXPERT_PATH, HISTORY_PATH, HOLD_PATH, HOLDING_PATH, LISTING_PATH, Methods,
+    Operation, PREFIX_PATH, PRINCIPAL_PATH, PRINCIPAL_TIMES_PATH, REGISTRY_PATH, REQUEST_PATH,
+    REVIEW_PATH, Routes, TOKEN_PATH,
 };
 use reg_blocks::block::Block;
 use reg_blocks::prefix;
-use reg_core::command::{ApplicantCommand, ClerkCommand, Command, ExpertCommand, PublicCommand};
+use reg_core::command::{
+    ApplicantCommand, ClerkCommand, Command, ExpertCommand, PublicCommand, TimesCommand,
+};
 use reg_core::item::{Item, Segment};
 use reg_core::text::{Form, Word};
 use reg_core::wire_refusal::{ReadFault, WireRefusal};
+use reg_early::day::Day;
+use reg_early::day_reading::read_clock_day;
 use reg_ranges::number::read_number;
 use std::alloc::Global;
 
@@ -78,6 +84,7 @@ fn command_of(alloc: Global, call: Operation, path: &str, body: &[u8]) -> Result
         Operation::RegistryCsv => read_registry_csv(path, body),
         Operation::BlocksCsv => bodiless(Command::Public(PublicCommand::BlocksCsv), body),
         Operation::PoolList => bodiless(Command::Public(PublicCommand::PoolList), body),
+        Operation::Token => bodiless(Command::Token, body),
         Operation::Own => bodiless(Command::Applicant(ApplicantCommand::Own), body),
         Operation::OwnOne => read_own_one(path, body),
         Operation::Submit => read_submit(alloc, path, body),
@@ -88,8 +95,25 @@ fn command_of(alloc: Global, call: Operation, path: &str, body: &[u8]) -> Result
         Operation::Agents => bodiless(Command::Applicant(ApplicantCommand::Agents), body),
         Operation::Principals => bodiless(Command::Applicant(ApplicantCommand::Principals), body),
         Operation::PrincipalRows => read_principal_rows(path, body),
+        Operation::Times => bodiless(Command::Times(TimesCommand::Own), body),
+        Operation::PrincipalTimes => read_principal_times(path, body),
         Operation::Queue => bodiless(Command::Expert(ExpertCommand::Queue), body),
         Operation::Advise => read_advise(alloc, path, body),
+        _ => desk_command_of(alloc, call, path, body),
+    }
+}
+
+// The same of what is at the desk, for clerks alone.
+fn desk_command_of(
+    alloc: Global,
+    call: Operation,
+    path: &str,
+    body: &[u8],
+) -> Result<Command, ReadFault>
+    requires { is_of_desk call ≡ true }
+    ensures { Gives result (command_of call path.now body.now) }
+{
+    match call {
         Operation::AllRequests => bodiless(Command::Clerk(ClerkCommand::AllRequests), body),
         Operation::OneRequest => read_one_request(path, body),
         Operation::AssignExpert => read_assign_expert(path, body),
@@ -105,6 +129,10 @@ fn command_of(alloc: Global, call: Operation, path: &str, body: &[u8]) -> Result
         Operation::RevokeDigits => read_revoke_digits(path, body),
         Operation::RevokeAccount => read_revoke_account(path, body),
         Operation::CountRows => bodiless(Command::Clerk(ClerkCommand::CountRows), body),
+        Operation::ActsOn => read_acts_on(path, body),
+        Operation::ActsBy => read_acts_by(path, body),
+        Operation::ActsAbout => read_acts_about(path, body),
+        _ => Err(ReadFault::Refused(WireRefusal::Method)),
     }
 }
 
@@ -183,6 +211,15 @@ fn read_principal_rows(path: &str, body: &[u8]) -> Result<Command, ReadFault>
     empty(body)?;
     let principal = word_at(PRINCIPAL_PATH, path, Segment::Account)?;
     Ok(Command::Applicant(ApplicantCommand::PrincipalRows(principal)))
+}
+
+#[tactic(auto, unfolding(crate::specs::Command::principal_times_of))]
+fn read_principal_times(path: &str, body: &[u8]) -> Result<Command, ReadFault>
+    ensures { Gives result (principal_times_of path.now body.now) }
+{
+    empty(body)?;
+    let principal = word_at(PRINCIPAL_TIMES_PATH, path, Segment::Account)?;
+    Ok(Command::Times(TimesCommand::Principal(principal)))
 }
 
 #[tactic(auto, unfolding(crate::specs::Command::advise_of))]
@@ -313,6 +350,34 @@ fn read_revoke_account(path: &str, body: &[u8]) -> Result<Command, ReadFault>
     Ok(Command::Clerk(ClerkCommand::RevokeAccount(account)))
 }
 
+#[tactic(auto, unfolding(crate::specs::Command::acts_on_of))]
+fn read_acts_on(path: &str, body: &[u8]) -> Result<Command, ReadFault>
+    ensures { Gives result (acts_on_of path.now body.now) }
+{
+    empty(body)?;
+    let day = day_at(DAY_PATH, path, Segment::Day)?;
+    Ok(Command::Clerk(ClerkCommand::ActsOn(day)))
+}
+
+#[tactic(auto, unfolding(crate::specs::Command::acts_by_of))]
+fn read_acts_by(path: &str, body: &[u8]) -> Result<Command, ReadFault>
+    ensures { Gives result (acts_by_of path.now body.now) }
+{
+    empty(body)?;
+    let account = word_at(ACTOR_PATH, path, Segment::Account)?;
+    Ok(Command::Clerk(ClerkCommand::ActsBy(account)))
+}
+
+#[tactic(auto, unfolding(crate::specs::Command::acts_about_of))]
+fn read_acts_about(path: &str, body: &[u8]) -> Result<Command, ReadFault>
+    ensures { Gives result (acts_about_of path.now body.now) }
+{
+    empty(body)?;
+    let account = word_at(HISTORY_PATH, path, Segment::Account)?;
+    let reference = word_at(HISTORY_PATH, path, Segment::Reference)?;
+    Ok(Command::Clerk(ClerkCommand::ActsAbout(account, reference)))
+}
+
 fn bodiless(command: Command, body: &[u8]) -> Result<Command, ReadFault>
     ensures { Gives result (without_body command body.now) }
 {
@@ -354,6 +419,15 @@ fn number_at(pattern: &str, path: &str, part: Segment) -> Result<u32, ReadFault>
 {
     path::segment(pattern, path, part)
         .and_then(|text| read_number(text.as_bytes()))
+        .ok_or(ReadFault::field(Item::Segment(part)))
+}
+
+// The day where the pattern names this part, as YYYY-MM-DD of the years 2000 to 2999.
+fn day_at(pattern: &str, path: &str, part: Segment) -> Result<Day, ReadFault>
+    ensures { Gives result (segment part read_clock_day pattern.now path.now) }
+{
+    path::segment(pattern, path, part)
+        .and_then(|text| read_clock_day(text.as_bytes()))
         .ok_or(ReadFault::field(Item::Segment(part)))
 }
 

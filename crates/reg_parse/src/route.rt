@@ -16,6 +16,7 @@ pub enum Operation {
     RegistryCsv,
     BlocksCsv,
     PoolList,
+    Token,
     Own,
     OwnOne,
     Submit,
@@ -26,6 +27,8 @@ pub enum Operation {
     Agents,
     Principals,
     PrincipalRows,
+    Times,
+    PrincipalTimes,
     Queue,
     Advise,
     AllRequests,
@@ -43,6 +46,9 @@ pub enum Operation {
     RevokeDigits,
     RevokeAccount,
     CountRows,
+    ActsOn,
+    ActsBy,
+    ActsAbout,
 }
 
 /// What GET, PUT and DELETE (RFC 9110 section 9.3) do at a path.
@@ -113,6 +119,8 @@ pub(crate) const AGENT_PATH: &str = "/agents/{agent}";
 
 pub(crate) const PRINCIPAL_PATH: &str = "/principals/{account}/requests";
 
+pub(crate) const PRINCIPAL_TIMES_PATH: &str = "/principals/{account}/times";
+
 pub(crate) const REVIEW_PATH: &str = "/queue/{account}/{reference}";
 
 pub(crate) const CASE_PATH: &str = "/desk/requests/{account}/{reference}";
@@ -133,8 +141,14 @@ pub(crate) const TOKEN_PATH: &str = "/desk/tokens/{digits}";
 
 pub(crate) const ACCOUNT_PATH: &str = "/desk/accounts/{account}";
 
+pub(crate) const DAY_PATH: &str = "/desk/journal/days/{day}";
+
+pub(crate) const ACTOR_PATH: &str = "/desk/journal/actors/{account}";
+
+pub(crate) const HISTORY_PATH: &str = "/desk/journal/requests/{account}/{reference}";
+
 // Each path, and what the methods do there.
-const ROWS: [(&str, Methods); 29] = [
+const ROWS: [(&str, Methods); 35] = [
     (
         "/registries",
         Methods {
@@ -167,6 +181,13 @@ const ROWS: [(&str, Methods); 29] = [
         "/pool",
         Methods {
             get: Some(Operation::PoolList),
+            ..NONE
+        },
+    ),
+    (
+        "/token",
+        Methods {
+            get: Some(Operation::Token),
             ..NONE
         },
     ),
@@ -224,6 +245,20 @@ const ROWS: [(&str, Methods); 29] = [
         PRINCIPAL_PATH,
         Methods {
             get: Some(Operation::PrincipalRows),
+            ..NONE
+        },
+    ),
+    (
+        "/times",
+        Methods {
+            get: Some(Operation::Times),
+            ..NONE
+        },
+    ),
+    (
+        PRINCIPAL_TIMES_PATH,
+        Methods {
+            get: Some(Operation::PrincipalTimes),
             ..NONE
         },
     ),
@@ -337,6 +372,27 @@ const ROWS: [(&str, Methods); 29] = [
         "/desk/counts",
         Methods {
             get: Some(Operation::CountRows),
+            ..NONE
+        },
+    ),
+    (
+        DAY_PATH,
+        Methods {
+            get: Some(Operation::ActsOn),
+            ..NONE
+        },
+    ),
+    (
+        ACTOR_PATH,
+        Methods {
+            get: Some(Operation::ActsBy),
+            ..NONE
+        },
+    ),
+    (
+        HISTORY_PATH,
+        Methods {
+            get: Some(Operation::ActsAbout),
             ..NONE
         },
     ),

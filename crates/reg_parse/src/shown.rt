@@ -1,12 +1,14 @@
 //! What a log shows of the path of a request.
-ghost use Rattle.std.specs.Prelude.{◌≡◌};
+ghost use Rattle.std.specs.Prelude.{◌≡◌, true};
+ghost use Rattle.reg_parse.specs.Route.{is_of_desk};
 ghost use Rattle.reg_parse.specs.Shown.{are_public, is_open, is_public, pattern_at, pattern_of, shown, text_of};
 
 use crate::command::routed;
 use crate::route::{
-    ACCOUNT_PATH, AGENT_PATH, APPROVAL_PATH, CASE_PATH, DECLINE_PATH, DEFINITION_PATH, EXPERT_PATH,
-    HOLD_PATH, HOLDING_PATH, LISTING_PATH, Methods, Operation, PREFIX_PATH, PRINCIPAL_PATH,
-    REGISTRY_PATH, REQUEST_PATH, REVIEW_PATH, Routes, TOKEN_PATH,
+    ACCOUNT_PATH, ACTOR_PATH, AGENT_PATH, APPROVAL_PATH, CASE_PATH, DAY_PATH, DECLINE_PATH,
+    DEFINITION_PATH, EXPERT_PATH, HISTORY_PATH, HOLD_PATH, HOLDING_PATH, LISTING_PATH, Methods,
+    Operation, PREFIX_PATH, PRINCIPAL_PATH, PRINCIPAL_TIMES_PATH, REGISTRY_PATH, REQUEST_PATH,
+    REVIEW_PATH, Routes, TOKEN_PATH,
 };
 
 /// What stands for a path that has no route.
@@ -100,6 +102,7 @@ impl Operation {
             Operation::RegistryCsv => LISTING_PATH,
             Operation::BlocksCsv => "/listings/blocks",
             Operation::PoolList => "/pool",
+            Operation::Token => "/token",
             Operation::Own => "/requests",
             Operation::OwnOne | Operation::Submit | Operation::Withdraw => REQUEST_PATH,
             Operation::Holdings => "/holdings",
@@ -108,8 +111,20 @@ impl Operation {
             Operation::Agents => "/agents",
             Operation::Principals => "/principals",
             Operation::PrincipalRows => PRINCIPAL_PATH,
+            Operation::Times => "/times",
+            Operation::PrincipalTimes => PRINCIPAL_TIMES_PATH,
             Operation::Queue => "/queue",
             Operation::Advise => REVIEW_PATH,
+            _ => self.desk_pattern(),
+        }
+    }
+
+    // The same of what is at the desk, for clerks alone.
+    fn desk_pattern(self) -> &'static str
+        requires { is_of_desk self ≡ true }
+        ensures { result.now ≡ pattern_of self }
+    {
+        match self {
             Operation::AllRequests => "/desk/requests",
             Operation::OneRequest => CASE_PATH,
             Operation::AssignExpert => EXPERT_PATH,
@@ -124,6 +139,10 @@ impl Operation {
             Operation::RevokeDigits => TOKEN_PATH,
             Operation::RevokeAccount => ACCOUNT_PATH,
             Operation::CountRows => "/desk/counts",
+            Operation::ActsOn => DAY_PATH,
+            Operation::ActsBy => ACTOR_PATH,
+            Operation::ActsAbout => HISTORY_PATH,
+            _ => NO_ROUTE,
         }
     }
 }

@@ -1,14 +1,15 @@
 -- The status and the body of an answer.
 use Rattle.std.specs.Prelude.{ℕ, List}
 use Rattle.reg_core.specs.declared.told.Told.{Told}
-use Rattle.reg_core.specs.declared.told.Told.TheVariants.{Names, Page, Sheet, Pool, Blocks, Made, Row, Rows, Held, Holdings, Agent, Accounts, Item, Items, Desk, Desks, Filed, Marked, Defined, Pooled, Granted, Revoked, Cases, Capabilities, Counts}
+use Rattle.reg_core.specs.declared.told.Told.TheVariants.{Names, Page, Sheet, Pool, Blocks, Made, Row, Rows, Times, Held, Holdings, Agent, Accounts, Item, Items, Desk, Desks, Filed, Marked, Defined, Pooled, Granted, InUse, Revoked, Waiting, Capabilities, Counts, Acts, ActsAbout}
 use Rattle.reg_core.specs.declared.reply.Reply.{Reply}
 use Rattle.reg_core.specs.declared.reply.Reply.TheVariants as reply
 use Rattle.reg_print.specs.declared.answer.Answer.{Answer}
 use Rattle.reg_print.specs.declared.answer.Answer.TheVariants as answer
 use Rattle.reg_print.specs.Body.{Body, json, listing, block_listing, text_of}
+use Rattle.reg_print.specs.Trees.Act.{acts_tree}
 use Rattle.reg_print.specs.Trees.Agent.{agent_tree}
-use Rattle.reg_print.specs.Trees.File.{file_tree, files_tree}
+use Rattle.reg_print.specs.Trees.File.{file_tree, waiting_list_tree}
 use Rattle.reg_print.specs.Trees.Holding.{holding_tree, holdings_tree}
 use Rattle.reg_print.specs.Trees.Members.{names_tree}
 use Rattle.reg_print.specs.Trees.Page.{page_tree, defined_tree, entry_tree}
@@ -19,6 +20,7 @@ use Rattle.reg_print.specs.Trees.Request.{request_tree, requests_tree, desk_tree
 use Rattle.reg_print.specs.Trees.Capability.{cap_rows_tree, cap_tree, revoked_tree}
 use Rattle.reg_print.specs.Trees.Counts.{counts_tree}
 use Rattle.reg_print.specs.Trees.Refusal.{error_tree}
+use Rattle.reg_print.specs.Trees.Times.{times_rows_tree}
 
 -- ---- Status
 
@@ -32,6 +34,7 @@ told_status (Blocks rows) = 200
 told_status (Made request) = 201
 told_status (Row request) = 200
 told_status (Rows requests) = 200
+told_status (Times rows) = 200
 told_status (Held holding) = 200
 told_status (Holdings holdings) = 200
 told_status (Agent agent reads) = 200
@@ -45,10 +48,13 @@ told_status (Marked entry) = 200
 told_status (Defined name) = 200
 told_status (Pooled prefix) = 200
 told_status (Granted cap) = 200
+told_status (InUse cap) = 200
 told_status Revoked = 200
-told_status (Cases files) = 200
+told_status (Waiting files) = 200
 told_status (Capabilities rows) = 200
 told_status (Counts counts) = 200
+told_status (Acts acts) = 200
+told_status (ActsAbout acts) = 200
 
 abbrev pub reply_status : Reply → ℕ
 reply_status (reply.Accepted told) = told_status told
@@ -72,6 +78,7 @@ told_body (Blocks rows) = block_listing rows
 told_body (Made request) = json (request_tree request)
 told_body (Row request) = json (request_tree request)
 told_body (Rows requests) = json (requests_tree requests)
+told_body (Times rows) = json (times_rows_tree rows)
 told_body (Held holding) = json (holding_tree holding)
 told_body (Holdings holdings) = json (holdings_tree holdings)
 told_body (Agent agent reads) = json (agent_tree agent reads)
@@ -85,10 +92,13 @@ told_body (Marked entry) = json (entry_tree entry)
 told_body (Defined name) = json (defined_tree name)
 told_body (Pooled prefix) = json (pooled_tree prefix)
 told_body (Granted cap) = json (cap_tree cap)
+told_body (InUse cap) = json (cap_tree cap)
 told_body Revoked = json revoked_tree
-told_body (Cases files) = json (files_tree files)
+told_body (Waiting files) = json (waiting_list_tree files)
 told_body (Capabilities rows) = json (cap_rows_tree rows)
 told_body (Counts counts) = json (counts_tree counts)
+told_body (Acts acts) = json (acts_tree acts)
+told_body (ActsAbout acts) = json (acts_tree acts)
 
 -- the body of a reply
 abbrev pub reply_body : Reply → Body

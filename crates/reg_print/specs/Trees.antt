@@ -11,4 +11,6 @@ pub mod Holding
 pub mod Agent
 pub mod Capability
 pub mod Counts
+pub mod Act
+pub mod Times
 pub mod Refusal

@@ -95,6 +95,7 @@ fn told_status(told: &Told) -> StatusCode
         | Told::Blocks(_)
         | Told::Row(_)
         | Told::Rows(_)
+        | Told::Times(_)
         | Told::Held(_)
         | Told::Holdings(_)
         | Told::Agent(_, _)
@@ -108,10 +109,13 @@ fn told_status(told: &Told) -> StatusCode
         | Told::Defined(_)
         | Told::Pooled(_)
         | Told::Granted(_)
+        | Told::InUse(_)
         | Told::Revoked
-        | Told::Cases(_)
+        | Told::Waiting(_)
         | Told::Capabilities(_)
-        | Told::Counts(_) => StatusCode::OK,
+        | Told::Counts(_)
+        | Told::Acts(_)
+        | Told::ActsAbout(_) => StatusCode::OK,
     }
 }
 
@@ -156,6 +160,7 @@ fn told_bytes(alloc: Global, told: &Told) -> Result<Vec<u8>, AllocError>
         Told::Blocks(rows) => block_listing(alloc, rows.as_slice()),
         Told::Made(request) | Told::Row(request) => printed::<Itself, _>(alloc, request),
         Told::Rows(requests) => printed::<Itself, _>(alloc, requests),
+        Told::Times(rows) => printed::<Itself, _>(alloc, rows),
         Told::Held(holding) => printed(alloc, holding),
         Told::Holdings(holdings) => printed::<Itself, _>(alloc, holdings),
         Told::Agent(agent, reads) => printed(
@@ -174,10 +179,11 @@ fn told_bytes(alloc: Global, told: &Told) -> Result<Vec<u8>, AllocError>
         Told::Marked(entry) => printed(alloc, entry),
         Told::Defined(name) => printed::<Defined, _>(alloc, name),
         Told::Pooled(prefix) => printed::<Pooled, _>(alloc, prefix),
-        Told::Granted(cap) => printed(alloc, cap),
+        Told::Granted(cap) | Told::InUse(cap) => printed(alloc, cap),
         Told::Revoked => printed(alloc, &Revoked),
-        Told::Cases(files) => printed::<Itself, _>(alloc, files),
+        Told::Waiting(files) => printed::<Itself, _>(alloc, files),
         Told::Capabilities(rows) => printed::<Itself, _>(alloc, rows),
         Told::Counts(counts) => printed(alloc, counts),
+        Told::Acts(acts) | Told::ActsAbout(acts) => printed::<Itself, _>(alloc, acts),
     }
 }

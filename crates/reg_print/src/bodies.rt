@@ -1,5 +1,6 @@
 //! The JSON of what is answered.
 
+pub mod act;
 pub mod advice;
 pub mod agent;
 pub mod ask;
@@ -12,3 +13,4 @@ pub mod pool;
 pub mod queue;
 pub mod refusal;
 pub mod request;
+pub mod times;

@@ -1,22 +1,27 @@
 -- One step of an office by a job.
 use Rattle.std.proofs.Common.{◌≡◌, ℕ, List, Bool, true, false, Option, Some, None, Result, Ok, Err, refl, sym, ap, ◌∙◌, subst, inr, if◌then◌else◌}
+use Rattle.std.specs.Prelude.{option_map}
 use Rattle.std.specs.FinMap.{get}
 use Rattle.std.specs.Io.KnownBytes.{Appends}
 use Rattle.reg_early.specs.Moment.{is_in_clock, utc_day}
 use Rattle.reg_core.specs.Allowance.{◌>>=◌, or_refusal}
-use Rattle.reg_core.specs.Answer.{Answer, admitted, answer as answered, answer_at, as_kind, change_of, expert_answer, own_answer, own_row, public_answer, reply_of, unchanged}
+use Rattle.reg_core.specs.Answer.{Answer, admitted, answer as answered, answer_at, as_kind, change_of, expert_answer, in_force, own_answer, own_row, public_answer, reply_of, times_answer, token_answer, unchanged}
 use Rattle.reg_core.specs.File.{file}
 use Rattle.reg_core.specs.Laws.{is_refused}
 use Rattle.reg_core.specs.Page.{page}
 use Rattle.reg_core.specs.Request.{request_rows}
-use Rattle.reg_core.specs.Step.{acts_as_clerk, answer_to, clerk_answer, clerk_answer_to, Stepped, stepped}
-use Rattle.reg_core.specs.View.{Personal, Published, requests_by, view_of}
-use Rattle.reg_core.specs.World.{World, applied_if}
+use Rattle.reg_core.specs.Step.{acts_as_clerk, answer_to, clerk_answer, clerk_answer_to, stamp_in, Stepped, stepped}
+use Rattle.reg_core.specs.View.{OwnTimes, Personal, Published, requests_by, view_of}
+use Rattle.reg_core.specs.Journal.{acts_where, is_about, recorded_if}
+use Rattle.reg_core.specs.Times.{times_of_requests_by, times_rows}
+use Rattle.reg_core.specs.World.{World}
 use Rattle.reg_core.specs.declared.capability.Cap.{Cap}
 use Rattle.reg_core.specs.declared.capability.Kind.{Kind}
 use Rattle.reg_core.specs.declared.capability.Kind.TheVariants as kind
 use Rattle.reg_core.specs.declared.command.Command.{Command}
-use Rattle.reg_core.specs.declared.command.Command.TheVariants.{Public, Applicant, Expert, Clerk}
+use Rattle.reg_core.specs.declared.command.Command.TheVariants.{Public, Token, Applicant, Times, Expert, Clerk}
+use Rattle.reg_core.specs.declared.command.TimesCommand.{TimesCommand}
+use Rattle.reg_core.specs.declared.command.TimesCommand.TheVariants as times
 use Rattle.reg_core.specs.declared.command.PublicCommand.{PublicCommand}
 use Rattle.reg_core.specs.declared.command.PublicCommand.TheVariants.{Registries, Registry, RegistryCsv, PoolList, BlocksCsv}
 use Rattle.reg_core.specs.declared.command.ApplicantCommand.{ApplicantCommand}
@@ -24,7 +29,8 @@ use Rattle.reg_core.specs.declared.command.ApplicantCommand.TheVariants.{Own, Ow
 use Rattle.reg_core.specs.declared.command.ExpertCommand.{ExpertCommand}
 use Rattle.reg_core.specs.declared.command.ExpertCommand.TheVariants.{Queue, Advise}
 use Rattle.reg_core.specs.declared.command.ClerkCommand.{ClerkCommand}
-use Rattle.reg_core.specs.declared.command.ClerkCommand.TheVariants.{AllRequests, OneRequest, PendingRequests, AllCapabilities, CountRows}
+use Rattle.reg_core.specs.declared.command.ClerkCommand.TheVariants.{AllRequests, OneRequest, PendingRequests, AllCapabilities, CountRows, ActsOn, ActsBy, ActsAbout}
+use Rattle.reg_core.specs.declared.journal.Stamp.{Stamp}
 use Rattle.reg_core.specs.declared.told.Told.TheVariants as tells
 use Rattle.reg_core.specs.declared.refusal.Refusal.{Refusal}
 use Rattle.reg_core.specs.declared.refusal.Refusal.TheVariants as no
@@ -41,23 +47,23 @@ use Rattle.reg_program.specs.declared.faults.Undone.TheVariants.{Fault, Explaine
 -- ---- Refusals
 
 -- a refusal changes nothing
-refusal_stays : (w : World) (a : Answer) → is_refused (reply_of a) ≡ true
-    → applied_if w (change_of a) ≡ w
-refusal_stays w (Ok outcome) h = cc
-refusal_stays w (Err refusal) h = refl
+refusal_stays : (by : Stamp) (w : World) (a : Answer) → is_refused (reply_of a) ≡ true
+    → recorded_if by w (change_of a) ≡ w
+refusal_stays by w (Ok outcome) h = cc
+refusal_stays by w (Err refusal) h = refl
 
 -- where nothing is printed of the reply to a step
-pub unprinted : (old new : World) (a : Answer) (told : Reply) (why : Undone)
-    → told ≡ reply_of a → new ≡ applied_if old (change_of a) → IsRefusedBy told why
-    → IsUnprinted (stepped old a) old new why
-unprinted old new a told (Refused line) replied changed h =
+pub unprinted : (by : Stamp) (old new : World) (a : Answer) (told : Reply) (why : Undone)
+    → told ≡ reply_of a → new ≡ recorded_if by old (change_of a) → IsRefusedBy told why
+    → IsUnprinted (stepped by old a) old new why
+unprinted by old new a told (Refused line) replied changed h =
     let refused = sym (ap is_refused replied) ∙ h.0 in (
       refused,
       h.1 ∙ ap (λ r. answer_line (answer.Reply r)) replied,
-      changed ∙ refusal_stays old a refused,
+      changed ∙ refusal_stays by old a refused,
     )
-unprinted old new a told (Fault failure) replied changed h = inr changed
-unprinted old new a told (Explained failure why) replied changed h = h
+unprinted by old new a told (Fault failure) replied changed h = inr changed
+unprinted by old new a told (Explained failure why) replied changed h = h
 
 -- a refusal, or want of memory, is no fault of the store
 pub refused_may : (fails : Bool) (told : Reply) (why : Undone) → IsRefusedBy told why
@@ -137,6 +143,21 @@ applicant_stays p account my (PrincipalRows principal) h =
     (λ link. refl)
 applicant_stays p account my _ h = cc
 
+token_stays : (me : Option (Cap × Personal)) (moment : ℕ)
+    → change_of (token_answer me moment) ≡ None
+token_stays me moment =
+    after_part (in_force (option_map (λ (of : Cap × Personal). of.0) me) moment)
+    (λ cap. unchanged (tells.InUse cap)) (λ cap. refl)
+
+times_stay : (account : List ℕ) (my : Personal) (seen : Option OwnTimes) (command : TimesCommand)
+    → change_of (times_answer account my seen command) ≡ None
+times_stay account my None command = refl
+times_stay account my (Some seen) times.Own = refl
+times_stay account my (Some seen) (times.Principal principal) =
+    after_found no.Principal (get my.principals (principal, account))
+    (λ link. unchanged (tells.Times (times_rows (times_of_requests_by principal seen.principals))))
+    (λ link. refl)
+
 expert_stays : (account : List ℕ) (my : Personal) (command : ExpertCommand)
     → expert_looks command ≡ true → change_of (expert_answer account my command) ≡ None
 expert_stays account my Queue h = refl
@@ -152,6 +173,12 @@ clerk_stays w in_use moment today (OneRequest account reference) h =
 clerk_stays w in_use moment today PendingRequests h = refl
 clerk_stays w in_use moment today AllCapabilities h = refl
 clerk_stays w in_use moment today CountRows h = refl
+clerk_stays w in_use moment today (ActsOn day) h = refl
+clerk_stays w in_use moment today (ActsBy account) h = refl
+clerk_stays w in_use moment today (ActsAbout account reference) h =
+    after_found no.Request (get w.requests (account, reference))
+    (λ case. unchanged (tells.ActsAbout (acts_where (is_about (account, reference)) w)))
+    (λ case. refl)
 clerk_stays w in_use moment today _ h = cc
 
 -- while the office is open or not
@@ -185,11 +212,18 @@ answer_stays : (w : World) (caller : Option (List ℕ)) (moment : ℕ) (command 
 answer_stays w caller moment (Public command) h =
     seen_stays w caller moment (Public command)
     (public_stays (view_of w caller).published (utc_day moment) command)
+answer_stays w caller moment Token h =
+    seen_stays w caller moment Token (token_stays (view_of w caller).me moment)
 answer_stays w caller moment (Applicant command) h =
     let v = view_of w caller in
     seen_stays w caller moment (Applicant command)
     (for_kind kind.Applicant v.me moment (λ account my. own_answer v.published account my command)
     (λ account my. applicant_stays v.published account my command h))
+answer_stays w caller moment (Times command) h =
+    let v = view_of w caller in
+    seen_stays w caller moment (Times command)
+    (for_kind kind.Applicant v.me moment (λ account my. times_answer account my v.times command)
+    (λ account my. times_stay account my v.times command))
 answer_stays w caller moment (Expert command) h =
     let v = view_of w caller in
     seen_stays w caller moment (Expert command)
@@ -201,4 +235,5 @@ answer_stays w caller moment (Clerk command) h = clerk_to_stays w caller moment 
 pub looks : (w : World) (token : Option (List ℕ)) (moment : ℕ) (command : Command)
     → only_looks command ≡ true → (step_by w token moment command).world ≡ w
 looks w token moment command h =
-    ap (applied_if w) (answer_stays w (caller_of token) moment command h)
+    ap (recorded_if (stamp_in w (caller_of token) moment) w)
+    (answer_stays w (caller_of token) moment command h)

@@ -1,12 +1,12 @@
 -- Offices that a job counts.
-use Rattle.std.proofs.Common.{◌≡◌, ◌++◌, ℕ, ℤ, Bool, true, false, List, Option, Some, None, refl, ap, subst, ◌∙◌, if◌then◌else◌, codes}
+use Rattle.std.proofs.Common.{◌≡◌, [], ◌++◌, ℕ, ℤ, Bool, true, false, List, Option, Some, None, refl, ap, subst, ◌∙◌, if◌then◌else◌, codes}
 use Rattle.std.specs.Fmt.{signed_decimal}
 use Rattle.std.specs.Io.KnownBytes.{Appends}
 use Rattle.reg_early.specs.Moment.{day_of_moment, is_in_clock, utc_day}
 use Rattle.reg_core.specs.World.{World}
 use Rattle.reg_office.specs.Counting.{all_counts}
 use Rattle.reg_office.specs.declared.counting.AllCounts.{AllCounts}
-use Rattle.reg_program.specs.Checking.{IsChecked, counts_text, held_text, published_text, requests_text}
+use Rattle.reg_program.specs.Checking.{IsChecked, counted, counts_text, held_text, published_text, requests_text}
 
 -- ---- The clock
 
@@ -17,10 +17,10 @@ clocked_by false today day h = absurd (cc)
 
 -- ---- What is printed
 
-abbrev pub counts_from : ℤ → List ℕ → List ℕ → List ℕ → List ℕ
-counts_from version published requests held =
+abbrev pub counts_from : ℤ → List ℕ → List ℕ → List ℕ → ℕ → List ℕ
+counts_from version published requests held acts =
     codes "version " ++ (signed_decimal version ++ (codes "\nwell kept\n"
-    ++ (published ++ (requests ++ held))))
+    ++ (published ++ (requests ++ (held ++ counted (codes "acts") acts [])))))
 
 pub is_checked : (version : ℤ) (moment : ℕ) (had has : Option (List ℕ)) (old new : World)
     (today : ℕ) (given : AllCounts) (text : List ℕ) → Some today ≡ day_of_moment moment → new ≡ old
@@ -42,9 +42,11 @@ is_checked version moment had has old new today given text clock same value is w
 pub text_of_parts : (version : ℤ) (given : AllCounts) (published requests held text : List ℕ)
     → published ≡ published_text given.others → requests ≡ requests_text given.requests
     → held ≡ held_text given.others
-    → text ≡ counts_from version published requests held → text ≡ counts_text version given
+    → text ≡ counts_from version published requests held given.acts
+    → text ≡ counts_text version given
 text_of_parts version given published requests held text p r h is =
-    is ∙ ap (λ (xs : List ℕ). counts_from version xs requests held) p
-    ∙ ap (λ (xs : List ℕ). counts_from version (published_text given.others) xs held) r
+    let told = published_text given.others in
+    is ∙ ap (λ (xs : List ℕ). counts_from version xs requests held given.acts) p
+    ∙ ap (λ (xs : List ℕ). counts_from version told xs held given.acts) r
     ∙ ap (λ (xs : List ℕ).
-    counts_from version (published_text given.others) (requests_text given.requests) xs) h
+    counts_from version told (requests_text given.requests) xs given.acts) h

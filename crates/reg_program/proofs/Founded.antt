@@ -25,7 +25,7 @@ may_have_found (found.Fault fault) h = may_fault fault h
 may_have_found _ h = tt
 
 module _ {S : Type 0} (world : S → World) (Holds Sound : S → Type 0) (fails : Bool)
-    (before after : S) (token : List ℕ) where
+    (before after : S) (moment : ℕ) (token : List ℕ) where
   -- no first clerk was made
   pub founds_none : (Done : World → World → Type 0) (result : Result ⊤ Undone) (fault : FoundFault)
       → IsErrAnd result (λ why. why ≡ Fault (found_failure fault))
@@ -33,7 +33,7 @@ module _ {S : Type 0} (world : S → World) (Holds Sound : S → Type 0) (fails 
       → (Holds after → world after ≡ world before)
       → GoesOn Holds Sound before after (MayFound false fault) → MayFound fails fault
       → Does world Holds Sound fails before after result Done
-      (λ old new. IsUnready token old new)
+      (λ old new. IsUnready moment token old new)
   founds_none Done result fault is cause kept goes may =
       let p = err_from_is_err_and result is in
       rw (p.1, p.2) (record {

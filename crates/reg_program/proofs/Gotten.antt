@@ -15,15 +15,17 @@ use Rattle.reg_core.specs.declared.command.PublicCommand.TheVariants as public
 use Rattle.reg_core.specs.declared.command.ApplicantCommand.TheVariants as applicant
 use Rattle.reg_core.specs.declared.command.ClerkCommand.TheVariants as clerk
 use Rattle.reg_core.specs.declared.command.ExpertCommand.TheVariants as expert
+use Rattle.reg_core.specs.declared.command.TimesCommand.TheVariants as times
+use Rattle.reg_early.specs.DayReading.{read_clock_day}
 use Rattle.reg_core.specs.declared.item.Segment.TheVariants as in_path
 use Rattle.reg_core.specs.declared.wire_refusal.WireRefusal.TheVariants as refusal
 use Rattle.reg_parse.specs.Bodies.Members.{Reading, ◌>>=◌, or_refusal}
-use Rattle.reg_parse.specs.Command.{asked, command_of, empty, name_at, one_request_of, own_one_of, principal_rows_of, registry_csv_of, registry_of, routed}
+use Rattle.reg_parse.specs.Command.{acts_about_of, acts_by_of, acts_on_of, asked, command_of, empty, name_at, one_request_of, own_one_of, principal_rows_of, principal_times_of, registry_csv_of, registry_of, routed, segment as read_segment}
 use Rattle.reg_parse.specs.Path.{has_empty_segment}
-use Rattle.reg_parse.specs.Route.{Row, RouteTable, case_path, listing_path, methods_at, operation_for, principal_path, registry_path, request_path, routes, rows, with_row, with_rows, with_scan}
+use Rattle.reg_parse.specs.Route.{Row, RouteTable, actor_path, case_path, day_path, history_path, listing_path, principal_times_path, methods_at, operation_for, principal_path, registry_path, request_path, routes, rows, with_row, with_rows, with_scan}
 use Rattle.reg_parse.specs.declared.route.Methods.{Methods}
 use Rattle.reg_parse.specs.declared.route.Operation.{Operation}
-use Rattle.reg_parse.specs.declared.route.Operation.TheVariants.{Registries, Registry, RegistryCsv, BlocksCsv, PoolList, Own, OwnOne, Holdings, Agents, Principals, PrincipalRows, Queue, AllRequests, OneRequest, PendingRequests, AllCapabilities, CountRows}
+use Rattle.reg_parse.specs.declared.route.Operation.TheVariants.{Registries, Registry, RegistryCsv, BlocksCsv, PoolList, Token, Own, OwnOne, Holdings, Agents, Principals, PrincipalRows, Times, PrincipalTimes, Queue, AllRequests, OneRequest, PendingRequests, AllCapabilities, CountRows, ActsOn, ActsBy, ActsAbout}
 use Rattle.reg_parse.proofs.Formed.{Passes, err-passes, ok-passes}
 use Rattle.reg_program.specs.Looking.{only_looks}
 
@@ -104,18 +106,24 @@ is_look Registry = true
 is_look RegistryCsv = true
 is_look BlocksCsv = true
 is_look PoolList = true
+is_look Token = true
 is_look Own = true
 is_look OwnOne = true
 is_look Holdings = true
 is_look Agents = true
 is_look Principals = true
 is_look PrincipalRows = true
+is_look Times = true
+is_look PrincipalTimes = true
 is_look Queue = true
 is_look AllRequests = true
 is_look OneRequest = true
 is_look PendingRequests = true
 is_look AllCapabilities = true
 is_look CountRows = true
+is_look ActsOn = true
+is_look ActsBy = true
+is_look ActsAbout = true
 is_look _ = false
 
 abbrev GetLooks : Methods → Type 0
@@ -141,7 +149,7 @@ rows-has [] table p h = h
 rows-has (r ∷ more) table p h = rows-has more (with_row r table) p.1 (row-has r table p.0 h)
 
 rows_look : AllByRecursion (λ (r : Row). GetLooks r.1) rows
-rows_look = (refl, (refl, (refl, (refl, (refl, (refl, (refl, (refl, (tt, (refl, (tt, (refl, (refl, (refl, (tt, (refl, (refl, (tt, (tt, (tt, (tt, (tt, (tt, (refl, (tt, (refl, (tt, (tt, (refl, tt)))))))))))))))))))))))))))))
+rows_look = (refl, (refl, (refl, (refl, (refl, (refl, (refl, (refl, (refl, (tt, (refl, (tt, (refl, (refl, (refl, (refl, (refl, (tt, (refl, (refl, (tt, (tt, (tt, (tt, (tt, (tt, (refl, (tt, (refl, (tt, (tt, (refl, (refl, (refl, (refl, tt)))))))))))))))))))))))))))))))))))
 
 routes_look : All RouteLooks routes
 unfolding routes
@@ -172,8 +180,8 @@ plain : (n : Reading ⊤) (c : Command) → only_looks c ≡ true
 plain (Ok n) c h = ok-passes only_looks c h
 plain (Err e) c h = err-passes only_looks e
 
-named : (make : List ℕ → Command) → ((s : List ℕ) → only_looks (make s) ≡ true)
-    → (n : Reading ⊤) (r : Reading (List ℕ))
+named : {A : Type 0} (make : A → Command) → ((s : A) → only_looks (make s) ≡ true)
+    → (n : Reading ⊤) (r : Reading A)
     → Passes only_looks (n >>= (λ nothing. r >>= (λ name. Ok (make name))))
 named make h (Ok n) (Ok r) = ok-passes only_looks (make r) (h r)
 named make h (Ok n) (Err e) = err-passes only_looks e
@@ -191,7 +199,8 @@ two_named make h (Err e) a r = err-passes only_looks e
 
 operation_looks : (o : Operation) (path body : List ℕ) → is_look o ≡ true
     → Passes only_looks (command_of o path body)
-unfolding registry_of registry_csv_of own_one_of principal_rows_of one_request_of
+unfolding registry_of registry_csv_of own_one_of principal_rows_of principal_times_of one_request_of
+    acts_on_of acts_by_of acts_about_of
 operation_looks Registries path body h = plain (empty body) (command.Public public.Registries) refl
 operation_looks Registry path body h =
     named (λ s. command.Public (public.Registry s)) (λ s. refl) (empty body)
@@ -202,6 +211,7 @@ operation_looks RegistryCsv path body h =
 operation_looks BlocksCsv path body h =
     plain (empty body) (command.Public public.BlocksCsv) refl
 operation_looks PoolList path body h = plain (empty body) (command.Public public.PoolList) refl
+operation_looks Token path body h = plain (empty body) command.Token refl
 operation_looks Own path body h = plain (empty body) (command.Applicant applicant.Own) refl
 operation_looks OwnOne path body h =
     named (λ s. command.Applicant (applicant.OwnOne s)) (λ s. refl) (empty body)
@@ -214,6 +224,10 @@ operation_looks Principals path body h =
 operation_looks PrincipalRows path body h =
     named (λ s. command.Applicant (applicant.PrincipalRows s)) (λ s. refl) (empty body)
     (name_at in_path.Account principal_path path)
+operation_looks Times path body h = plain (empty body) (command.Times times.Own) refl
+operation_looks PrincipalTimes path body h =
+    named (λ s. command.Times (times.Principal s)) (λ s. refl) (empty body)
+    (name_at in_path.Account principal_times_path path)
 operation_looks Queue path body h = plain (empty body) (command.Expert expert.Queue) refl
 operation_looks AllRequests path body h =
     plain (empty body) (command.Clerk clerk.AllRequests) refl
@@ -226,6 +240,15 @@ operation_looks AllCapabilities path body h =
     plain (empty body) (command.Clerk clerk.AllCapabilities) refl
 operation_looks CountRows path body h =
     plain (empty body) (command.Clerk clerk.CountRows) refl
+operation_looks ActsOn path body h =
+    named (λ d. command.Clerk (clerk.ActsOn d)) (λ d. refl) (empty body)
+    (read_segment in_path.Day read_clock_day day_path path)
+operation_looks ActsBy path body h =
+    named (λ s. command.Clerk (clerk.ActsBy s)) (λ s. refl) (empty body)
+    (name_at in_path.Account actor_path path)
+operation_looks ActsAbout path body h =
+    two_named (λ a r. command.Clerk (clerk.ActsAbout a r)) (λ a r. refl) (empty body)
+    (name_at in_path.Account history_path path) (name_at in_path.Reference history_path path)
 operation_looks _ path body h = cc
 
 by_operation : (o : Option Operation) (path body : List ℕ) → IfSome o (λ op. is_look op ≡ true)

@@ -1,4 +1,5 @@
-pub mod Asked
+pub mod Acts
+mod Asked
 pub mod Carried
 pub mod Checked
 pub mod Closed

@@ -28,8 +28,8 @@ unrevoked_as moment choice old new _ _ by h same = absurd by
 
 -- they were all taken away, and that could not be printed
 pub printing_unrevoked : (moment : ℕ) (choice : Choice) (old new : World) (rows : List CapRow)
-    (why : Undone) → taken moment choice old ≡ Ok rows → new ≡ revoked rows old → IsOfPrinting why
-    → IsUnrevoked moment choice old new why
+    (why : Undone) → taken moment choice old ≡ Ok rows → new ≡ revoked moment rows old
+    → IsOfPrinting why → IsUnrevoked moment choice old new why
 printing_unrevoked moment choice old new rows (Fault failure) chosen gone of =
     inr (rows, chosen, gone)
 printing_unrevoked moment choice old new rows _ chosen gone of = absurd of

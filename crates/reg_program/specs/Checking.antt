@@ -48,7 +48,8 @@ abbrev pub counts_text : ℤ → AllCounts → List ℕ
 counts_text version given =
     codes "version " ++ (signed_decimal version ++ (codes "\nwell kept\n"
     ++ (published_text given.others
-    ++ (requests_text given.requests ++ held_text given.others))))
+    ++ (requests_text given.requests
+    ++ (held_text given.others ++ counted (codes "acts") given.acts [])))))
 
 -- it is counted as at the moment, on its day, and nothing has changed
 pub record IsChecked (version : ℤ) (moment : ℕ) (had has : Option (List ℕ)) (old new : World) :

@@ -1,9 +1,9 @@
 -- What is printed of the early allocations that expire soon.
 use Rattle.std.specs.Prelude.{◌≡◌, ℕ, List, Option, Some}
 use Rattle.reg_core.specs.View.{Published}
-use Rattle.reg_due.specs.Asking.{due_by}
-use Rattle.reg_due.specs.Table.{IsDueTable}
-use Rattle.reg_due.specs.declared.allocation.DueAllocation.{DueAllocation}
+use Rattle.reg_client.specs.Asking.{due_by}
+use Rattle.reg_client.specs.Table.{IsDueTable}
+use Rattle.reg_client.specs.declared.allocation.DueAllocation.{DueAllocation}
 use Rattle.reg_early.specs.Moment.{day_of_moment}
 use Rattle.reg_source.specs.Source.{Asks}
 use Rattle.reg_program.specs.Printing.{Prints}

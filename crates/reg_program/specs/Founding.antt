@@ -3,7 +3,8 @@ use Rattle.std.specs.Prelude.{◌≡◌, ◌⊎◌, ⊤, ℕ, Bool, true, false,
 use Rattle.std.specs.Io.KnownBytes.{Appends}
 use Rattle.reg_core.specs.World.{World}
 use Rattle.reg_keeper.specs.Keeper.{GoesOn}
-use Rattle.reg_office.specs.Found.{IsCause, MayFound, WasFounded}
+use Rattle.reg_office.specs.Found.{IsCause, MayFound, WasFounded, WasFoundedBy}
+use Rattle.reg_office.specs.Stamps.{job_stamp}
 use Rattle.reg_office.specs.declared.found.FoundFault.{FoundFault}
 use Rattle.reg_wire.specs.Script.Answers.{ServesOver}
 use Rattle.reg_wire.specs.Script.Lines.{AnswersAll, StopsAt}
@@ -16,17 +17,18 @@ use Rattle.reg_program.specs.declared.faults.Undone.TheVariants.{Fault}
 
 -- ---- The job that founds an office
 
--- the first clerk is there, and the job says that the office is ready
-pub record IsReady (token : List ℕ) (had has : Option (List ℕ)) (old new : World) : Type 0 where
-  pub founded : WasFounded old new token
+-- the first clerk is there, made at this moment, and the job says that the office is ready
+pub record IsReady (moment : ℕ) (token : List ℕ) (had has : Option (List ℕ)) (old new : World)
+    : Type 0 where
+  pub founded : WasFoundedBy (job_stamp moment) old new token
   pub wrote : Appends had has (codes "ready\n")
 
 -- no first clerk was made, why, and nothing has changed; or one was, and that could not be printed
-abbrev pub IsUnready : List ℕ → World → World → Undone → Type 0
-IsUnready token old new undone =
+abbrev pub IsUnready : ℕ → List ℕ → World → World → Undone → Type 0
+IsUnready moment token old new undone =
     ((fault : FoundFault) × (undone ≡ Fault (found_failure fault)) × IsCause old token fault
     × (new ≡ old))
-    ⊎ ((undone ≡ Fault Write) × WasFounded old new token)
+    ⊎ ((undone ≡ Fault Write) × WasFoundedBy (job_stamp moment) old new token)
 
 -- ---- The job that runs a script: over the states of a keeper
 

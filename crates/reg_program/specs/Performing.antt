@@ -19,6 +19,7 @@ use Rattle.reg_parse.specs.Command.{asked}
 use Rattle.reg_store.specs.Lists.{world_in}
 use Rattle.reg_store.specs.declared.lists.ListKeeper.{ListKeeper}
 use Rattle.reg_core.specs.World.{empty_world}
+use Rattle.reg_core.specs.declared.journal.Act.{Act}
 use Rattle.reg_program.specs.Asking.{definition_at, listing_at}
 use Rattle.reg_program.specs.Capabilities.{PrintsListed, PrintsRevoked}
 use Rattle.reg_program.specs.Copying.{PrintsCopied}
@@ -26,6 +27,7 @@ use Rattle.reg_program.specs.Expiring.{PrintsTable}
 use Rattle.reg_program.specs.Founding.{RunsAll, told_beside}
 use Rattle.reg_program.specs.Importing.{IsImported}
 use Rattle.reg_program.specs.Inputs.{AreKnown, IsTokenOf, body_in, token_in}
+use Rattle.reg_program.specs.Journal.{TellsActs}
 use Rattle.reg_program.specs.Served.{PrintsAnswer}
 use Rattle.reg_program.specs.Tasks.{Streams}
 use Rattle.reg_program.specs.Verifying.{IsVerifiedBy}
@@ -207,9 +209,11 @@ TellsRevoked source chosen Carried Untouched io done =
     TellsFrom Untouched source (PrintsRevoked io.had io.has)
     (Carries Carried source (IsTakenBy chosen) io) done
 
--- The same of each job. Of one that was looked at `Checked` tells, and of a copy `Copied`.
+-- The same of each job. Of one that was looked at `Checked` tells, of a copy `Copied`, and of the acts
+-- in one `Recorded`.
 module _ (Carried : ToldOfTasks) (Checked : List ℕ → Streams → Result ⊤ Undone → Type 0)
-    (Copied : List ℕ → List ℕ → ℤ → ℕ → Type 0) (Untouched : Type 0) where
+    (Copied : List ℕ → List ℕ → ℤ → ℕ → Type 0) (Recorded : List ℕ → List Act → Type 0)
+    (Untouched : Type 0) where
   -- What a job does, with this result, by what is known of standard input and output and of the
   -- clock. Of what a served office publishes and of help nothing else is said here.
   abbrev pub DoesJob : Streams → Job → Result ⊤ Undone → Type 0
@@ -234,6 +238,9 @@ module _ (Carried : ToldOfTasks) (Checked : List ℕ → Streams → Result ⊤ 
   DoesJob io (job.Copy file folder) done =
       Untouched
       × OnOk done (PrintsCopied (Copied (string_bytes file) (string_bytes folder)) io.had io.has)
+  DoesJob io (job.Journal file digest) done =
+      Untouched
+      × TellsActs (Recorded (string_bytes file)) (option_map string_bytes digest) io.had io.has done
   DoesJob io (job.Tokens source token) done =
       TellsTokens (string_bytes source) Carried Untouched io done
   DoesJob io (job.Revoke source token chosen) done =
@@ -263,15 +270,19 @@ module _ {O : Type 0} (Carried : O → O → ToldOfTasks) (old new : O) where
       → Result ⊤ Undone → Type 0
   TriesIn Does io done = Tries (new ≡ old) (Does (Carried old new) (new ≡ old) io) done
 
--- and any job, with copies of which `Copied` tells
+-- and any job, with copies of which `Copied` tells, and `Recorded` of their acts
 module _ {O : Type 0} (Carried : O → O → ToldOfTasks)
     (Checked : O → O → List ℕ → Streams → Result ⊤ Undone → Type 0)
-    (Copied : List ℕ → List ℕ → ℤ → ℕ → Type 0) (old new : O) (io : Streams) where
+    (Copied : List ℕ → List ℕ → ℤ → ℕ → Type 0) (Recorded : List ℕ → List Act → Type 0)
+    (old new : O) (io : Streams) where
+  -- what is done
+  abbrev pub IsDoneBy : Job → Result ⊤ Undone → Type 0
+  IsDoneBy job done =
+      DoesJob (Carried old new) (Checked old new) Copied Recorded (new ≡ old) io job done
+
   abbrev pub TriesJob : Job → Result ⊤ Undone → Type 0
-  TriesJob job done =
-      Tries (new ≡ old) (DoesJob (Carried old new) (Checked old new) Copied (new ≡ old) io job) done
+  TriesJob job done = Tries (new ≡ old) (IsDoneBy job) done
 
   -- with this exit status
   abbrev pub EndsJob : Job → ℕ → Type 0
-  EndsJob job status =
-      EndsBy (new ≡ old) (DoesJob (Carried old new) (Checked old new) Copied (new ≡ old) io job) status
+  EndsJob job status = EndsBy (new ≡ old) (IsDoneBy job) status

@@ -3,7 +3,7 @@ use Rattle.std.specs.Prelude.{⊤, ℕ, List, Option, OnOk, Result}
 use Rattle.std.specs.declared.time.Duration.{Duration}
 use Rattle.reg_core.specs.View.{Published}
 use Rattle.reg_http.specs.Meeting.{ReadsMoment}
-use Rattle.reg_notes.specs.declared.notes.Notes.{Notes}
+use Rattle.reg_pages.specs.declared.notes.Notes.{Notes}
 use Rattle.reg_publish.specs.Publishing.{PublishesSite}
 use Rattle.reg_program.specs.declared.faults.Undone.{Undone}
 

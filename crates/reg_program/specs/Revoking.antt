@@ -24,7 +24,7 @@ pub record Revokes (moment : ℕ) (choice : Choice) (had has : Option (List ℕ)
     Type 0 where
   pub rows : List CapRow
   pub chosen : taken moment choice old ≡ Ok rows
-  pub gone : new ≡ revoked rows old
+  pub gone : new ≡ revoked moment rows old
   pub clerk : HasClerkAt moment new
   pub prints : Prints had has (IsTokenTable rows)
 
@@ -42,7 +42,7 @@ IsUnrevoked moment choice old new (Refused line) =
     × IsUnrevokedBy cause (Refused line) × (new ≡ old)
 IsUnrevoked moment choice old new (Fault failure) =
     (new ≡ old)
-    ⊎ ((rows : List CapRow) × (taken moment choice old ≡ Ok rows) × (new ≡ revoked rows old))
+    ⊎ ((rows : List CapRow) × (taken moment choice old ≡ Ok rows) × (new ≡ revoked moment rows old))
 IsUnrevoked moment choice old new (Explained failure why) = ⊥
 
 -- a line says that no capability is of such a name; or there was no memory

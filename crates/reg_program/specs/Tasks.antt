@@ -5,7 +5,7 @@ use Rattle.std.specs.declared.time.Duration.{Duration}
 use Rattle.reg_core.specs.View.{published}
 use Rattle.reg_core.specs.World.{World}
 use Rattle.reg_http.specs.Meeting.{ReadsMoment}
-use Rattle.reg_notes.specs.declared.notes.Notes.{Notes}
+use Rattle.reg_pages.specs.declared.notes.Notes.{Notes}
 use Rattle.reg_program.specs.Asking.{PrintsStep, step_of}
 use Rattle.reg_program.specs.Doing.{Does}
 use Rattle.reg_program.specs.Expiring.{PrintsDue}
@@ -59,8 +59,8 @@ IsMoment io moment = ReadsMoment io.readings io.later moment
 abbrev pub Did : {S : Type 0} → (S → World) → (S → Type 0) → (S → Type 0) → Bool → S → S → Streams
     → Result ⊤ Undone → Task → Type 0
 Did world Holds Sound fails before after io result (Found clerk) =
-    Does world Holds Sound fails before after result (IsReady clerk.now io.had io.has)
-    (IsUnready clerk.now)
+    (moment : ℕ) × IsMoment io moment × Does world Holds Sound fails before after result
+    (IsReady moment clerk.now io.had io.has) (IsUnready moment clerk.now)
 Did world Holds Sound fails before after io result (Run clerk) =
     let had = told_beside io.is_watched io.had in
     let has = told_beside io.is_watched io.has in

@@ -49,7 +49,8 @@ fn text_of(alloc: Global, version: i64, counts: &AllCounts) -> Result<String, Al
     let published = published_text(alloc, &counts.others)?;
     let requests = requests_text(alloc, &counts.requests)?;
     let held = held_text(alloc, &counts.others)?;
-    format!(in alloc; "version {version}\nwell kept\n{published}{requests}{held}")
+    let acts = counts.acts;
+    format!(in alloc; "version {version}\nwell kept\n{published}{requests}{held}acts {acts}\n")
 }
 
 fn published_text(alloc: Global, counts: &Counts) -> Result<String, AllocError>

@@ -1,9 +1,10 @@
-//! The job that copies an office.
-ghost use Rattle.std.specs.Prelude.{◌≡◌, ◌++◌, ℕ, IfErr, IfOk, OnErr, OnOk};
+//! The job that copies an office, and what copies offices.
+ghost use Rattle.std.specs.Prelude.{◌≡◌, ◌++◌, ℕ, IfErr, IfOk, OnErr, OnOk, option_map};
 ghost use Rattle.std.specs.String.{string_bytes};
 ghost use Rattle.reg_disk.specs.Disk.{IsLeft, replaces};
 ghost use Rattle.reg_disk.specs.Names.{names_by};
 ghost use Rattle.reg_program.specs.Copying.{IsUncopied, PrintsCopied, copied_line, requests_in};
+ghost use Rattle.reg_program.specs.Journal.{TellsActs};
 
 use crate::asking::print;
 use crate::faults::Undone;
@@ -18,10 +19,14 @@ use std::io::Write;
 /// What copies the offices in files.
 pub trait Copies {
     ghost use Rattle.std.specs.Prelude.{ℕ, ℤ, List};
+    ghost use Rattle.reg_core.specs.declared.journal.Act.{Act as OfJournal};
 
     /// What is known of a copy of the office in the file at a path, in a folder: it is of this version,
     /// and has so many requests.
     ghost Copied: { Self → List ℕ → List ℕ → ℤ → ℕ → Type 0 } = { λ _ _ _ _ _. Unit {0} };
+
+    /// What is known of the acts of a copy of the office in the file at a path.
+    ghost Recorded: { Self → List ℕ → List OfJournal → Type 0 } = { λ _ _ _. Unit {0} };
 
     /// Puts a copy of the office in the file at a path, as it stood at one moment, into a folder, whole
     /// and under the name of the file, and prints its version and how many requests it has. The office
@@ -37,6 +42,20 @@ pub trait Copies {
     ) -> Result<(), Undone>
         ensures { OnOk result (PrintsCopied (Copied self.now path.now folder.now)
             (W.contents output.old) (W.contents output.new)) };
+
+    /// Prints all acts of the office in the file at a path, as it stood at one moment, as `print_acts`
+    /// does over a copy in memory. The office may be served meanwhile, and its files stay as they are.
+    /// `Explained` where there is no office, or one that is not well kept; with `Busy` where it was
+    /// changed each time that it was read.
+    fn tell_acts<W: Write>(
+        &self,
+        rt: &HostRuntime,
+        path: &str,
+        noted: &Option<String>,
+        output: &mut W,
+    ) -> Result<(), Undone>
+        ensures { TellsActs (Recorded self.now path.now) (option_map string_bytes noted.now)
+            (W.contents output.old) (W.contents output.new) result };
 }
 
 /// Lets the bytes of a copy of this version take their place on a disk, and prints the version and how many

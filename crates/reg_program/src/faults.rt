@@ -51,6 +51,8 @@ pub enum JobFailure {
     History,
     /// The file of notes is at fault.
     Notes,
+    /// No act of the journal has the digest that was noted.
+    Journal,
 }
 
 impl From<JobFailure> for Undone {
@@ -175,6 +177,7 @@ impl Display for JobFailure {
             JobFailure::Row(number) => write!(f, "row {number}"),
             JobFailure::History => f.write_str("history"),
             JobFailure::Notes => f.write_str("notes"),
+            JobFailure::Journal => f.write_str("journal"),
         }
     }
 }

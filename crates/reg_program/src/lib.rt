@@ -11,6 +11,7 @@ pub mod expiring;
 pub mod faults;
 pub mod importing;
 pub mod inputs;
+pub mod journal;
 pub mod listening;
 pub mod log;
 pub mod noting;

@@ -3,8 +3,8 @@ ghost use Rattle.std.specs.Prelude.{◌≡◌, is_some, IfOk};
 
 use crate::faults::{JobFailure, Undone};
 use crate::inputs::notes_of;
-use reg_notes::notes::Notes;
-use reg_notes::reading::{NotesFault, NotesPart, read_notes};
+use reg_pages::notes::Notes;
+use reg_pages::reading::{NotesFault, NotesPart, read_notes};
 use std::alloc::{AllocError, Global};
 
 /// The notes in the file at a path, if there is one. `Large` where it has more than 1,048,576 bytes,

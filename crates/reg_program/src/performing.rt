@@ -27,8 +27,8 @@ use crate::version::print_version;
 use reg_http::dates::{Dates, moment_now};
 use reg_jobs::jobs::{Importation, Job, JobFault, Publication, Service};
 use reg_keeper::keeper::Keeper;
-use reg_notes::notes::Notes;
 use reg_office::Office;
+use reg_pages::notes::Notes;
 use reg_store::lists::ListKeeper;
 use std::io::{Read, Write};
 
@@ -46,7 +46,8 @@ pub fn perform<D: Dates, O: Offices, C: Copies, R: Read, W: Write, E: Write>(
     ensures status { (result ≡ 0) ⊎ (result ≡ 1) }
     ensures done { let io = streams_by R.remaining W.contents D.readings console.old console.new dates.old
         dates.new in
-        EndsJob O.Carried O.Checked (C.Copied copies.now) offices.old offices.new io job result }
+        EndsJob O.Carried O.Checked (C.Copied copies.now) (C.Recorded copies.now) offices.old
+        offices.new io job result }
 {
     match attempt(rt, dates, offices, copies, &job, console) {
         Ok(()) => 0,
@@ -102,8 +103,8 @@ fn attempt<D: Dates, O: Offices, C: Copies, R: Read, W: Write, E: Write>(
 ) -> Result<(), Undone>
     ensures { let io = streams_by R.remaining W.contents D.readings console.old console.new dates.old
         dates.new in
-        TriesJob O.Carried O.Checked (C.Copied copies.now) offices.old offices.new io job.now
-        result }
+        TriesJob O.Carried O.Checked (C.Copied copies.now) (C.Recorded copies.now) offices.old
+        offices.new io job.now result }
 {
     match job {
         Job::Script { clerk, file } => script(rt, dates, offices, clerk, file, console),
@@ -118,6 +119,7 @@ fn attempt<D: Dates, O: Offices, C: Copies, R: Read, W: Write, E: Write>(
         Job::Due { source, within } => due_at(rt, dates, offices, source, *within, console),
         Job::Check { file } => offices.check(rt, dates, file, console),
         Job::Copy { file, folder } => copies.copy(rt, file, folder, console.output),
+        Job::Journal { file, digest } => copies.tell_acts(rt, file, digest, console.output),
         Job::Tokens { source, token } => list_tokens(rt, dates, offices, source, token, console),
         Job::Revoke {
             source,

@@ -14,7 +14,7 @@ use reg_disk::disk::SystemDisk;
 use reg_disk::folder::Folder;
 use reg_disk::lock::locked;
 use reg_jobs::jobs::SERVED;
-use reg_notes::notes::Notes;
+use reg_pages::notes::Notes;
 use reg_pages::portions::Portions;
 use reg_publish::faults::{HistoryFault, PublishFault};
 use reg_publish::left_out::LeftOut;

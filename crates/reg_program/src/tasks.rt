@@ -21,8 +21,8 @@ use crate::tokens::{revoke_in, tokens_in};
 use reg_http::dates::{Dates, moment_now};
 use reg_http::peers::Ports;
 use reg_keeper::keeper::Keeper;
-use reg_notes::notes::Notes;
 use reg_office::{Choice, Office};
+use reg_pages::notes::Notes;
 use std::io::{Read, Write};
 
 /// What a job does with the office in a file.
@@ -151,7 +151,7 @@ impl Task<'_> {
     {
         let alloc = rt.alloc();
         match self {
-            Task::Found { clerk } => found_in(office, clerk, console.output),
+            Task::Found { clerk } => found_in(office, moment_now(dates), clerk, console.output),
             Task::Run { clerk } => run_in(rt, office, clerk, console),
             Task::Serve { serving, site: _ } => {
                 serve_in(alloc, ports, dates, office, *serving, console)
@@ -170,18 +170,19 @@ impl Task<'_> {
     }
 }
 
-/// Founds an office, and says that it is ready.
+/// Founds an office at a moment, in seconds since 1970-01-01T00:00:00Z, and says that it is ready.
 pub fn found_in<K: Keeper, W: Write>(
     office: &mut Office<K>,
+    moment: u64,
     clerk: &[u8],
     output: &mut W,
 ) -> Result<(), Undone>
     ensures does { Does K.world K.Holds K.Sound K.FAILS office.old office.new result
-        (λ old new. IsReady clerk.now (W.contents output.old) (W.contents output.new) old new)
-        (λ old new why. IsUnready clerk.now old new why) }
+        (λ old new. IsReady moment clerk.now (W.contents output.old) (W.contents output.new) old new)
+        (λ old new why. IsUnready moment clerk.now old new why) }
     ensures ill_formed { is_token clerk.now ≡ false →
         result ≡ Err (Undone.Fault failure.Token) }
 {
-    office.found(clerk)?;
+    office.found_at(moment, clerk)?;
     print(output, b"ready\n")
 }

@@ -11,7 +11,7 @@ use std::alloc::Global;
 use std::io::Write;
 
 /// The version of the offices that the program keeps in files.
-pub const OFFICE_VERSION: i64 = 3;
+pub const OFFICE_VERSION: i64 = 4;
 
 /// Prints the version of the program, and that of the offices that it keeps, in one line.
 pub fn print_version<W: Write>(alloc: Global, output: &mut W) -> Result<(), Undone>

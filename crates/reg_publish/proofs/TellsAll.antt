@@ -12,7 +12,7 @@ use Rattle.reg_core.specs.declared.reply.Reply.TheVariants.{Accepted}
 use Rattle.reg_core.specs.declared.told.Told.{Told}
 use Rattle.reg_core.specs.declared.told.Told.TheVariants as tells
 use Rattle.reg_changes.specs.declared.change.HistoryRecord.{HistoryRecord}
-use Rattle.reg_notes.specs.declared.notes.Notes.{Notes}
+use Rattle.reg_pages.specs.declared.notes.Notes.{Notes}
 use Rattle.reg_site.specs.Site.{blocks_at, blocks_in, names_in, page_in, pages_at, pool_in, prefixes_at, site, site_files, told_to_all}
 use Rattle.reg_publish.specs.Told.{AreTold, IsTold, blocks_of, facts_at, facts_told, pages_of, prefixes_of}
 use Rattle.reg_publish.specs.declared.told.AllTold.{AllTold}

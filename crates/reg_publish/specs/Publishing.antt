@@ -3,7 +3,7 @@ use Rattle.std.specs.Prelude.{◌≡◌, ℕ, List, ◌++◌, Option}
 use Rattle.reg_core.specs.View.{Published}
 use Rattle.reg_history.specs.History.{Continues, news}
 use Rattle.reg_changes.specs.declared.change.HistoryRecord.{HistoryRecord}
-use Rattle.reg_notes.specs.declared.notes.Notes.{Notes}
+use Rattle.reg_pages.specs.declared.notes.Notes.{Notes}
 use Rattle.reg_site.specs.Files.{path_of}
 use Rattle.reg_site.specs.Site.{site}
 use Rattle.reg_site.specs.Sums.{Files}

@@ -11,7 +11,7 @@ use Rattle.reg_history.specs.Chain.{chained}
 use Rattle.reg_history.specs.Published.{published_facts}
 use Rattle.reg_changes.specs.declared.change.Fact.{Fact}
 use Rattle.reg_changes.specs.declared.change.HistoryRecord.{HistoryRecord}
-use Rattle.reg_notes.specs.declared.notes.Notes.{Notes}
+use Rattle.reg_pages.specs.declared.notes.Notes.{Notes}
 use Rattle.reg_publish.specs.declared.told.AllTold.{AllTold}
 use Rattle.reg_site.specs.IndexTree.{IndexRow}
 use Rattle.reg_site.specs.Site.{blocks_at, blocks_in, index_files, page_in, pages_at, pool_in, prefixes_at, rows_by, shown_files, told_to_all}

@@ -1,6 +1,6 @@
 //! Notes that no page shows.
 use reg_core::told::Told;
-use reg_notes::notes::Notes;
+use reg_pages::notes::Notes;
 use reg_source::told::page_in;
 use reg_source::unpublished::Unpublished;
 use std::alloc::Global;

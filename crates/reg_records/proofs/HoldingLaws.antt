@@ -11,8 +11,7 @@ use Rattle.reg_blocks.specs.declared.size.Size.{Size}
 use Rattle.reg_blocks.specs.declared.size.Size.TheVariants.{MaL}
 use Rattle.reg_ranges.specs.Texts.{is_text}
 use Rattle.reg_core.specs.Names.{is_name}
-use Rattle.reg_core.specs.declared.holding.Holding.{Holding}
-use Rattle.reg_records.specs.Blocks.{block_at, block_in, holding_columns, holding_in, holding_values, is_holding}
+use Rattle.reg_records.specs.Blocks.{block_at, block_cells, block_in, holding_columns, holding_in, holding_values, is_holding}
 use Rattle.reg_records.specs.Columns.{whole_value}
 use Rattle.reg_records.specs.Laws.{KeepsRows}
 use Rattle.reg_records.proofs.ColumnLaws.{both, column-at, column_some, flags, formed_texts, given-at, given_some, keeps_rows, let_through, wholes, words}
@@ -41,10 +40,9 @@ block_at-back : (block : SizedPrefix) → is_block block ≡ true
 block_at-back block form =
     rw (first-divides block.size block.prefix, first-over block.size block.prefix, form) refl
 
-block_back : (holding : Holding) → is_block holding.block ≡ true
-    → block_in (holding_values holding) ≡ Some holding.block
-block_back holding form =
-    let block : SizedPrefix = holding.block in
+pub block_back : (block : SizedPrefix) → is_block block ≡ true
+    → block_in (block_cells block) ≡ Some block
+block_back block form =
     column-at (words sizes_read) block.size refl (λ size. block_at size (first_address block)) _
     (block_at-back block form)
 
@@ -55,12 +53,12 @@ passed true o y h = (refl, h)
 passed false o y h = absurd (none-some y h)
 
 -- the columns that tell a block, and the block
-record TellsBlock (row : Row) (block : SizedPrefix) : Type 0 where
-  first : column row 0 ≡ whole_value (first_address block)
-  size : column row 1 ≡ Text (word_of block.size)
-  form : is_block block ≡ true
+pub record TellsBlock (row : Row) (block : SizedPrefix) : Type 0 where
+  pub first : column row 0 ≡ whole_value (first_address block)
+  pub size : column row 1 ≡ Text (word_of block.size)
+  pub form : is_block block ≡ true
 
-block_read : (row : Row) (block : SizedPrefix) → block_in row ≡ Some block → TellsBlock row block
+pub block_read : (row : Row) (block : SizedPrefix) → block_in row ≡ Some block → TellsBlock row block
 block_read row block h =
     column_some wholes (column row 0) _ block h (λ first is0 form0 h.
     column_some (words sizes_read) (column row 1) _ block h (λ size is1 form1 h.
@@ -81,7 +79,7 @@ holdings_kept =
     keeps_rows (λ holding form.
     both _ _ form (λ block form. both _ _ form (λ form address.
     both _ _ form (λ holder organization.
-    given-at (block_back holding block) _ _ (
+    given-at (block_back holding.block block) _ _ (
     column-at (formed_texts is_name) holding.holder holder _ _ (
     column-at (formed_texts is_text) holding.organization organization _ _ (
     column-at (formed_texts is_text) holding.address address _ _ (

@@ -15,3 +15,5 @@ pub mod VersionLaws
 pub mod RequestLaws
 pub mod QueuedLaws
 pub mod AdvisedLaws
+pub mod DeedLaws
+pub mod ActLaws

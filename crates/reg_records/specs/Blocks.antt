@@ -19,6 +19,10 @@ block_at size first =
     (if first % address_count size == 0 then make_block size (first / address_count size)
     else None)
 
+-- the columns that tell a block: first, size
+abbrev pub block_cells : SizedPrefix → Row
+block_cells block = whole_value (first_address block) ∷ Text (word_of block.size) ∷ []
+
 -- the columns that are selected: first, size, holder, organization, address, private
 abbrev pub holding_columns : Row → Row
 holding_columns row =

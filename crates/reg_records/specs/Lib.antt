@@ -1,8 +1,10 @@
+pub mod Acts
 pub mod Advice
 pub mod Advised
 pub mod Blocks
 pub mod Caps
 pub mod Columns
+pub mod Deeds
 pub mod Entries
 pub mod Holds
 pub mod Laws

@@ -68,8 +68,8 @@ fn block_in(row: &Row) -> Option<Block>
     block_at(size, first)
 }
 
-// The block of this size whose first address this is.
-fn block_at(size: Size, first: u64) -> Option<Block>
+/// The block of this size whose first address this is.
+pub(crate) fn block_at(size: Size, first: u64) -> Option<Block>
     ensures { result ≡ block_at size first }
 {
     let count = address_count(size);

@@ -1,16 +1,18 @@
 //! Columns of rows: what a column holds, where it has its form, and what is written in it.
-ghost use Rattle.std.specs.Prelude.{◌≡◌, ◌<◌, ◌^◌, IfOk, option_map};
+ghost use Rattle.std.specs.Prelude.{◌≡◌, ◌<◌, ◌^◌, ◌-◌, IfOk, option_map};
 ghost use Rattle.sqlite.specs.Order.{column};
 ghost use Rattle.sqlite.specs.Value.{owned};
 ghost use Rattle.sqlite.specs.declared.types.Value.TheVariants.{Text as TextValue};
 ghost use Rattle.reg_ranges.specs.Texts.{is_text};
 ghost use Rattle.reg_records.specs.Columns.{int_in, whole_in, number_in, is_number, flag_in, text_in, read_in, formed_in, is_null as null, or_null_in, whole_value, flag_value};
+ghost use Rattle.reg_records.specs.Requests.Reading.{are_null};
 
 use crate::word::Worded;
 use reg_core::text::{Form, Text, Word};
 use sqlite::Row;
 use sqlite::types::ValueRef;
 use std::alloc::{AllocError, Global};
+use std::ops::Range;
 
 /// The whole number in a column.
 pub fn int(row: &Row, at: usize) -> Option<i64>
@@ -88,6 +90,23 @@ pub fn is_null(row: &Row, at: usize) -> bool
     matches!(row.get_ref(at), Ok(ValueRef::Null) | Err(_))
 }
 
+/// Whether these columns are all NULL.
+pub fn are_null(row: &Row, mut columns: Range<usize>) -> bool
+    ensures { result ≡ are_null row.now columns.start (columns.end - columns.start) }
+{
+    columns.all(|at| is_null(row, at))
+}
+
+/// The whole number in a column that may be NULL, which is not negative.
+pub fn whole_or_null(row: &Row, at: usize) -> Option<Option<u64>>
+    ensures { result ≡ or_null_in whole_in (column row.now at) }
+{
+    if is_null(row, at) {
+        return Some(None);
+    }
+    whole(row, at).map(Some)
+}
+
 /// The number of 32 bits in a column that may be NULL.
 pub fn number_or_null(row: &Row, at: usize) -> Option<Option<u32>>
     ensures { result ≡ or_null_in (number_in is_number) (column row.now at) }
@@ -106,6 +125,16 @@ pub fn word_or_null<W: Worded>(row: &Row, at: usize) -> Option<Option<W>>
         return Some(None);
     }
     word(row, at).map(Some)
+}
+
+/// The name in a column that may be NULL.
+pub fn name_or_null<F: Form<N>, const N: usize>(row: &Row, at: usize) -> Option<Option<Word<F, N>>>
+    ensures { result ≡ or_null_in (formed_in F.fits) (column row.now at) }
+{
+    if is_null(row, at) {
+        return Some(None);
+    }
+    name(row, at).map(Some)
 }
 
 /// The printable text in a column that may be NULL.

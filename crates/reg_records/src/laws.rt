@@ -1,4 +1,5 @@
 //! The laws of rows and records. Each function is its contract.
+ghost use Rattle.reg_records.specs.Acts.{act_columns, act_in, act_values, is_numbered_act};
 ghost use Rattle.reg_records.specs.Links.{is_link, link_columns, link_in, link_values};
 ghost use Rattle.reg_records.specs.Advice.{advice_columns, advice_in, advice_values, is_expert_advice};
 ghost use Rattle.reg_records.specs.Blocks.{holding_columns, holding_in, holding_values, is_holding};
@@ -29,4 +30,5 @@ pub fn rows_read_back()
     ensures holds { KeepsRows hold_columns hold_in hold_values is_hold }
     ensures minutes { KeepsRows minute_columns minute_in minute_values is_minute }
     ensures agents { KeepsRows link_columns link_in link_values is_link }
+    ensures journal { KeepsRows act_columns act_in act_values is_numbered_act }
 {}

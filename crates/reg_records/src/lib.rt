@@ -1,6 +1,7 @@
 //! The rows of an office as records of tables.
 #![tactic(auto)]
 
+pub mod acts;
 pub mod advice;
 pub mod advised;
 pub mod blocks;

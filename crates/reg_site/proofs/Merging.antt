@@ -2,9 +2,9 @@
 use Rattle.std.proofs.Common.{◌≡◌, ℕ, ◌+◌, ◌<◌, ◌≤◌, true, false, List, ◌∷◌, ◌++◌, length, get_or, drop, map, if◌then◌else◌, sym, ap, ◌∙◌}
 use Rattle.std.proofs.lemmas.List.{drop_all}
 use Rattle.reg_core.specs.declared.entry.PageEntry.{PageEntry}
-use Rattle.reg_html.specs.Appended.{Shown}
-use Rattle.reg_html.specs.Markup.{all_of, markup_then}
-use Rattle.reg_html.proofs.Pieces.{Leads, shown}
+use Rattle.reg_pages.specs.Appended.{Shown}
+use Rattle.reg_pages.specs.Markup.{all_of, markup_then}
+use Rattle.reg_pages.proofs.Pieces.{Leads, shown}
 use Rattle.reg_pages.proofs.Portioned.{at_place}
 use Rattle.reg_site.specs.Bar.{entry_part, joined, joins, merged, part}
 use Rattle.reg_site.specs.declared.bar.PicturePart.{PicturePart}

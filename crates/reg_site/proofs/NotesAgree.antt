@@ -9,8 +9,8 @@ use Rattle.reg_history.specs.Chain.{chained, last_digest}
 use Rattle.reg_history.specs.Moment.{moment_text}
 use Rattle.reg_changes.specs.Recorded.{last_changed}
 use Rattle.reg_changes.specs.declared.change.HistoryRecord.{HistoryRecord}
-use Rattle.reg_notes.specs.Notes.{entry_thing}
-use Rattle.reg_notes.specs.declared.notes.Notes.{Notes}
+use Rattle.reg_pages.specs.Notes.{entry_thing}
+use Rattle.reg_pages.specs.declared.notes.Notes.{Notes}
 use Rattle.reg_print.specs.Listing.{ListedRow, closed_status, entry_row, free_row, free_rows, is_in, page_rows, range_rows, rows_by, rows_from}
 use Rattle.reg_print.specs.declared.listing.rows.RowStatus.{RowStatus}
 use Rattle.reg_ranges.specs.declared.range.Range.{Range}

@@ -15,7 +15,7 @@ use Rattle.reg_print.specs.Trees.Page.{entry_tree}
 use Rattle.reg_print.specs.declared.answer.Answer.TheVariants.{Reply}
 use Rattle.reg_print.proofs.ComparedTexts.{body_text-page}
 use Rattle.reg_print.proofs.ListingText.{record_then}
-use Rattle.reg_html.specs.Markup.{markup_then}
+use Rattle.reg_pages.specs.Markup.{markup_then}
 use Rattle.reg_pages.specs.Noted.{noted_in}
 use Rattle.reg_pages.proofs.Portioned.{at_place}
 use Rattle.reg_site.specs.Records as records
@@ -23,8 +23,8 @@ use Rattle.reg_site.specs.Registry as registry
 use Rattle.reg_site.specs.Listing.{records as listed_records}
 use Rattle.reg_site.specs.Tree.{entries_left}
 use Rattle.reg_site.specs.declared.summary.Summary.{Summary}
-use Rattle.reg_notes.specs.declared.note.Note.{Note}
-use Rattle.reg_notes.specs.declared.notes.Notes.{Notes}
+use Rattle.reg_pages.specs.declared.note.Note.{Note}
+use Rattle.reg_pages.specs.declared.notes.Notes.{Notes}
 
 -- ---- The page of a registry
 

@@ -16,8 +16,8 @@ use Rattle.reg_core.specs.declared.told.Told.TheVariants as tells
 use Rattle.reg_early.specs.Moment.{utc_day}
 use Rattle.reg_history.specs.Chain.{chained}
 use Rattle.reg_changes.specs.declared.change.HistoryRecord.{HistoryRecord}
-use Rattle.reg_notes.specs.declared.note.Note.{Note}
-use Rattle.reg_notes.specs.declared.notes.Notes.{Notes}
+use Rattle.reg_pages.specs.declared.note.Note.{Note}
+use Rattle.reg_pages.specs.declared.notes.Notes.{Notes}
 use Rattle.reg_ranges.specs.Tables.{Table}
 use Rattle.reg_site.specs.Laws.{FilesStayInside, ListingsAreOfPages, MomentsStandOnTheIndex, PrivateHoldersAreUnpublished, SameRegistersSameSite, SitesAreOfAnswers, PathStaysInside}
 use Rattle.reg_site.specs.IndexTree.{IndexRow}

@@ -4,8 +4,8 @@ use Rattle.std.specs.Fmt.{decimal}
 use Rattle.reg_core.specs.declared.entry.PageEntry.{PageEntry}
 use Rattle.reg_early.specs.declared.term.Status.{Status}
 use Rattle.reg_early.specs.declared.term.Status.TheVariants as status
-use Rattle.reg_html.specs.Document.{attribute, plain}
-use Rattle.reg_html.specs.Markup.{Attribute, Markup, nothing, text, element, beside, all_of}
+use Rattle.reg_pages.specs.Document.{attribute, plain}
+use Rattle.reg_pages.specs.Markup.{Attribute, Markup, nothing, text, element, beside, all_of}
 use Rattle.reg_site.specs.Summary.{rest_of}
 use Rattle.reg_site.specs.declared.bar.PartKind.{PartKind}
 use Rattle.reg_site.specs.declared.bar.PartKind.TheVariants.{Assigned, Temporary, Expired, Free as FreeKind, SetAside as SetAsideKind, Reserved as ReservedKind}

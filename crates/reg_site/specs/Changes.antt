@@ -2,10 +2,10 @@
 use Rattle.std.specs.Prelude.{ℕ, List, [], ◌∷◌, ◌++◌, take, map, codes, Option, Some, if◌then◌else◌}
 use Rattle.std.specs.Fmt.{decimal}
 use Rattle.std.specs.Str.{bytes_eq}
-use Rattle.reg_html.specs.Document.{attribute, document, link, page_with_feed, plain}
-use Rattle.reg_html.specs.Markup.{Attribute, Markup, nothing, text, element, beside, all_of, markup_then}
-use Rattle.reg_html.specs.Table.{cell, head_cell, row_of, table}
-use Rattle.reg_notes.specs.declared.note.Note.{Note}
+use Rattle.reg_pages.specs.Document.{attribute, document, link, page_with_feed, plain}
+use Rattle.reg_pages.specs.Markup.{Attribute, Markup, nothing, text, element, beside, all_of, markup_then}
+use Rattle.reg_pages.specs.Table.{cell, head_cell, row_of, table}
+use Rattle.reg_pages.specs.declared.note.Note.{Note}
 use Rattle.reg_pages.specs.Noted.{apply_line}
 use Rattle.reg_site.specs.declared.changes.ChangeRow.{ChangeRow}
 

@@ -8,13 +8,13 @@ use Rattle.reg_blocks.specs.declared.size.Size.TheVariants.{MaL, MaM, MaS}
 use Rattle.reg_core.specs.declared.holding.Listed.{Listed}
 use Rattle.reg_print.specs.Listing.{run_text}
 use Rattle.reg_pages.specs.Blocks.{rows_of}
-use Rattle.reg_html.specs.Document.{attribute, document, link, page_with_feed, plain}
-use Rattle.reg_html.specs.Markup.{Markup, nothing, text, element, beside, all_of}
+use Rattle.reg_pages.specs.Document.{attribute, document, link, page_with_feed, plain}
+use Rattle.reg_pages.specs.Markup.{Markup, nothing, text, element, beside, all_of}
 use Rattle.reg_history.specs.Moment.{moment_text}
 use Rattle.reg_site.specs.Policy.{treatment_name}
-use Rattle.reg_html.specs.Table.{head_of, row_of, table}
-use Rattle.reg_notes.specs.declared.note.Note.{Note}
-use Rattle.reg_notes.specs.declared.notes.Notes.{Notes}
+use Rattle.reg_pages.specs.Table.{head_of, row_of, table}
+use Rattle.reg_pages.specs.declared.note.Note.{Note}
+use Rattle.reg_pages.specs.declared.notes.Notes.{Notes}
 use Rattle.reg_pages.specs.Noted.{apply_line, noted_in}
 use Rattle.reg_site.specs.Records.{title_of}
 use Rattle.reg_site.specs.IndexTree.{IndexRow}

@@ -20,8 +20,8 @@ use Rattle.reg_core.specs.declared.reply.Reply.TheVariants.{Accepted}
 use Rattle.reg_core.specs.declared.told.Told.TheVariants as tells
 use Rattle.reg_history.specs.Chain.{chained}
 use Rattle.reg_changes.specs.declared.change.HistoryRecord.{HistoryRecord}
-use Rattle.reg_notes.specs.Notes.{entry_thing}
-use Rattle.reg_notes.specs.declared.notes.Notes.{Notes}
+use Rattle.reg_pages.specs.Notes.{entry_thing}
+use Rattle.reg_pages.specs.declared.notes.Notes.{Notes}
 use Rattle.reg_pages.specs.Blocks.{block_row, row_by}
 use Rattle.reg_pages.specs.Noted.{noted_in}
 use Rattle.reg_site.specs.Site.{blocks_at, pages_at, prefixes_at, site, site_files, steady_files, told_to_all}

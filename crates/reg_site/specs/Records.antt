@@ -2,10 +2,10 @@
 use Rattle.std.specs.Prelude.{ℕ, List, [], ◌∷◌, ◌++◌, drop, map, codes, Option, Some, None, option_map}
 use Rattle.reg_core.specs.declared.page.Page.{Page}
 use Rattle.reg_early.specs.declared.term.Status.TheVariants as term
-use Rattle.reg_html.specs.Document.{attribute, plain}
-use Rattle.reg_html.specs.Markup.{Attribute, Markup, nothing, text, element, beside, all_of, markup_then, opening_then}
-use Rattle.reg_notes.specs.declared.note.Note.{Note}
-use Rattle.reg_notes.specs.declared.notes.Notes.{Notes}
+use Rattle.reg_pages.specs.Document.{attribute, plain}
+use Rattle.reg_pages.specs.Markup.{Attribute, Markup, nothing, text, element, beside, all_of, markup_then, opening_then}
+use Rattle.reg_pages.specs.declared.note.Note.{Note}
+use Rattle.reg_pages.specs.declared.notes.Notes.{Notes}
 use Rattle.reg_print.specs.Listing.{ListedRow, expiry_text, first_text, page_rows, row_view, run_text, whole}
 use Rattle.reg_print.specs.declared.listing.rows.RowStatus.{RowStatus}
 use Rattle.reg_print.specs.declared.listing.rows.RowStatus.TheVariants.{Unassigned, Reserved, PrivateUse, ExperimentalUse, HierarchicalAllocation, Entry}

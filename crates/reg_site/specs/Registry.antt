@@ -5,16 +5,16 @@ use Rattle.reg_core.specs.declared.entry.PageEntry.{PageEntry}
 use Rattle.reg_core.specs.declared.page.Page.{Page}
 use Rattle.reg_print.specs.Listing.{ListedRow, assignee_text, expiry_text, first_text, page_rows, row_view, run_text, whole}
 use Rattle.reg_site.specs.Bar.{bar}
-use Rattle.reg_notes.specs.declared.note.Note.{Note}
-use Rattle.reg_notes.specs.declared.notes.Notes.{Notes}
+use Rattle.reg_pages.specs.declared.note.Note.{Note}
+use Rattle.reg_pages.specs.declared.notes.Notes.{Notes}
 use Rattle.reg_pages.specs.Noted.{apply_line, note_of_row, noted, noted_in}
 use Rattle.reg_site.specs.Policy.{named_policy, treatment_name}
 use Rattle.reg_site.specs.Status.{shown_status}
-use Rattle.reg_html.specs.Document.{document, link, page, page_start, plain}
-use Rattle.reg_html.specs.Markup.{Markup, nothing, text, beside, all_of, markup_then}
+use Rattle.reg_pages.specs.Document.{document, link, page, page_start, plain}
+use Rattle.reg_pages.specs.Markup.{Markup, nothing, text, beside, all_of, markup_then}
 use Rattle.reg_site.specs.Summary.{summary}
 use Rattle.reg_site.specs.declared.summary.Summary.{Summary}
-use Rattle.reg_html.specs.Table.{below_rows, cell, head_cell, row, row_of, table, table_start}
+use Rattle.reg_pages.specs.Table.{below_rows, cell, head_cell, row, row_of, table, table_start}
 use Rattle.reg_pages.specs.declared.portions.Next.{Next}
 use Rattle.reg_pages.specs.declared.portions.Next.TheVariants as next
 use Rattle.reg_site.specs.declared.registry.RegistryPage.{RegistryPage}

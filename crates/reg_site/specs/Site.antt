@@ -17,8 +17,8 @@ use Rattle.reg_history.specs.Chain.{chained, last_digest}
 use Rattle.reg_history.specs.Moment.{moment_text}
 use Rattle.reg_changes.specs.Recorded.{last_changed}
 use Rattle.reg_changes.specs.declared.change.HistoryRecord.{HistoryRecord}
-use Rattle.reg_notes.specs.declared.note.Note.{Note}
-use Rattle.reg_notes.specs.declared.notes.Notes.{Notes}
+use Rattle.reg_pages.specs.declared.note.Note.{Note}
+use Rattle.reg_pages.specs.declared.notes.Notes.{Notes}
 use Rattle.reg_print.specs.Answer.{body_text}
 use Rattle.reg_print.specs.declared.answer.Answer.TheVariants as answer
 use Rattle.reg_pages.specs.Blocks.{assignments_text, blocks_page}

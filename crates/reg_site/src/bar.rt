@@ -1,14 +1,14 @@
 //! A picture of a registry's values, and its legend in words.
 ghost use Rattle.std.specs.Prelude.{◌≡◌, ◌≤◌, codes, map, string_bytes, IfOk, OnOk};
-ghost use Rattle.reg_html.specs.Appended.{Appended, Shown};
-ghost use Rattle.reg_html.specs.Markup.{all_of, opening_then};
+ghost use Rattle.reg_pages.specs.Appended.{Appended, Shown};
+ghost use Rattle.reg_pages.specs.Markup.{all_of, opening_then};
 ghost use Rattle.reg_site.specs.Bar.{bar, cell_count, cell_of, counted, end_of, entry_part, entry_parts, joined, joins, item, kind_class, kind_height, kind_of_rest, kind_of_status, kind_top, legend, merged, part, picture, picture_attributes, rect, same_kind, share_part, view};
 
 use crate::summary::{RangeShare, Rest, Summary, rest_of};
 use reg_core::entry::PageEntry;
 use reg_early::term::Status;
-use reg_html::markup::Piece::{Markup, Number, Text};
-use reg_html::markup::{push, push_all};
+use reg_pages::markup::Piece::{Markup, Number, Text};
+use reg_pages::markup::{push, push_all};
 use std::alloc::{AllocError, Global};
 
 /// How many cells a picture has at most.

@@ -1,17 +1,17 @@
 //! The last changes of the registers, as a page and as a feed (RFC 4287).
 ghost use Rattle.std.specs.Prelude.{◌≡◌, ◌++◌, codes, map, string_bytes, take, IfOk, OnOk};
 ghost use Rattle.std.specs.Option.{option_copied};
-ghost use Rattle.reg_html.specs.Appended.{Appended, Shown};
-ghost use Rattle.reg_html.specs.Escape.{escaped};
-ghost use Rattle.reg_html.specs.Markup.{all_of, opening_then};
+ghost use Rattle.reg_pages.specs.Appended.{Appended, Shown};
+ghost use Rattle.reg_pages.specs.Escape.{escaped};
+ghost use Rattle.reg_pages.specs.Markup.{all_of, opening_then};
 ghost use Rattle.reg_site.specs.Changes.{change_entry, change_links, change_row, change_title, changes_feed, changes_page, changes_shown, changes_table, entry_by, feed_attributes, feed_head, last_moment, place_of, row_by, said_of, shown, subject_of, urn};
 
-use reg_html::document::{push_end, push_start_with_feed};
-use reg_html::markup::Piece::{Link, Markup, Text};
-use reg_html::markup::{push, push_all};
-use reg_html::table;
-use reg_notes::note::Note;
+use reg_pages::document::{push_end, push_start_with_feed};
+use reg_pages::markup::Piece::{Link, Markup, Text};
+use reg_pages::markup::{push, push_all};
+use reg_pages::note::Note;
 use reg_pages::noted::push_apply;
+use reg_pages::table;
 use std::alloc::{AllocError, Global};
 
 /// How many changes the page shows.

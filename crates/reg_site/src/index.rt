@@ -1,9 +1,9 @@
 //! The first page of the site.
 ghost use Rattle.std.specs.Prelude.{◌≡◌, codes, map, string_bytes, IfOk, OnOk};
 ghost use Rattle.std.specs.Option.{option_copied};
-ghost use Rattle.reg_html.specs.Appended.{Shown};
-ghost use Rattle.reg_html.specs.Document.{plain};
-ghost use Rattle.reg_html.specs.Markup.{all_of};
+ghost use Rattle.reg_pages.specs.Appended.{Shown};
+ghost use Rattle.reg_pages.specs.Document.{plain};
+ghost use Rattle.reg_pages.specs.Markup.{all_of};
 ghost use Rattle.reg_site.specs.IndexTree.{row_of};
 ghost use Rattle.reg_site.specs.Index.{as_of, as_of_text, authority_said, block_counts, changed_part, counted_file, front, index_page, item, linked_cell, more_links, name_cell, number_cell, page_place, pool_list, prefix_item, prefix_list, register_row, registries_shown, registries_table, registry_row, said, share_item, share_texts, size_item, title_part, titled};
 
@@ -17,14 +17,14 @@ use reg_blocks::size::Size;
 use reg_core::holding::Listed;
 use reg_core::text::Name;
 use reg_history::moment::moment_text;
-use reg_html::document::{push_end, push_start_with_feed};
-use reg_html::markup::Piece::{Link, Markup, Number, Text};
-use reg_html::markup::{push, push_all};
-use reg_html::table;
-use reg_notes::note::Note;
-use reg_notes::notes::Notes;
 use reg_pages::blocks::count_of;
+use reg_pages::document::{push_end, push_start_with_feed};
+use reg_pages::markup::Piece::{Link, Markup, Number, Text};
+use reg_pages::markup::{push, push_all};
+use reg_pages::note::Note;
 use reg_pages::noted::{of_authority, of_registry, push_apply};
+use reg_pages::notes::Notes;
+use reg_pages::table;
 use std::alloc::{AllocError, Global};
 
 /// The first page: the moment, in seconds since 1970-01-01T00:00:00Z; what is noted about the authority,

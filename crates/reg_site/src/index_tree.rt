@@ -1,10 +1,10 @@
 //! The index of a site for programs (JSON, RFC 8259).
 ghost use Rattle.std.specs.Prelude.{◌≡◌, ◌++◌, map, string_bytes, IfOk, OnOk};
-ghost use Rattle.reg_html.specs.Appended.{Appended};
+ghost use Rattle.reg_pages.specs.Appended.{Appended};
 ghost use Rattle.reg_site.specs.IndexTree.{counts_text, files_text, front_rest, index_tree, json_byte, json_text, more_then, next_then, register, register_text, registers_then, row_of};
 
 use crate::summary::Summary;
-use reg_html::markup::push;
+use reg_pages::markup::push;
 use std::alloc::{AllocError, Global};
 
 /// A register beside others: its counts, and the moment of its last change, which is empty where it is
@@ -77,7 +77,7 @@ fn push_registers(out: &mut Vec<u8>, rows: &[Register<'_>]) -> Result<(), AllocE
     }
 }
 
-#[tactic(auto, using(reg_html::proofs::Pieces::joined))]
+#[tactic(auto, using(reg_pages::proofs::Pieces::joined))]
 fn push_all<'a>(
     out: &mut Vec<u8>,
     first: &Register<'a>,
@@ -100,7 +100,7 @@ fn push_more(out: &mut Vec<u8>, rows: &[Register<'_>]) -> Result<(), AllocError>
     Ok(())
 }
 
-#[tactic(auto, using(reg_html::proofs::Pieces::joined))]
+#[tactic(auto, using(reg_pages::proofs::Pieces::joined))]
 fn push_next(out: &mut Vec<u8>, row: &Register<'_>) -> Result<(), AllocError>
     ensures { OnOk result (Appended out.old.items out.new.items (next_then (row_of row.now))) }
 {

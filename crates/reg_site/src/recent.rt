@@ -8,7 +8,7 @@ ghost use Rattle.reg_site.specs.Recent.{changed, day_part, early_words, feed_id,
 use crate::changes::ChangeRow;
 use reg_changes::change::{Class, HistoryRecord, PublishedChange};
 use reg_history::overview::{Overview, Tied};
-use reg_notes::words::as_text;
+use reg_pages::words::as_text;
 use std::alloc::{AllocError, Global};
 use std::collections::VecDeque;
 

@@ -1,8 +1,8 @@
 //! A registry in the form in which IANA publishes registries (XML 1.0), a record at a time.
 ghost use Rattle.std.specs.Prelude.{◌≡◌, ◌++◌, codes, map, string_bytes, IfOk, OnOk};
 ghost use Rattle.std.specs.Option.{option_copied};
-ghost use Rattle.reg_html.specs.Appended.{Appended, Shown};
-ghost use Rattle.reg_html.specs.Markup.{all_of, opening_then};
+ghost use Rattle.reg_pages.specs.Appended.{Appended, Shown};
+ghost use Rattle.reg_pages.specs.Markup.{all_of, opening_then};
 ghost use Rattle.reg_print.specs.Listing.{row_view};
 ghost use Rattle.reg_pages.specs.Noted.{noted_in};
 ghost use Rattle.reg_site.specs.Records.{above_records, dated, described, early_text, noted_xref, range_by, range_of, record_by, record_of, records_left, records_text, title_of, title_or, title_start, updated};
@@ -10,11 +10,11 @@ ghost use Rattle.reg_site.specs.Records.{above_records, dated, described, early_
 use crate::policy::treatment_name;
 use reg_core::page::Page;
 use reg_early::term;
-use reg_html::markup::Piece::{Markup, Text};
-use reg_html::markup::{push, push_all};
-use reg_notes::note::Note;
-use reg_notes::notes::Notes;
+use reg_pages::markup::Piece::{Markup, Text};
+use reg_pages::markup::{push, push_all};
+use reg_pages::note::Note;
 use reg_pages::noted::{of_registry, of_row};
+use reg_pages::notes::Notes;
 use reg_pages::portions::{Next, Portions};
 use reg_pages::reference::push_xref;
 use reg_print::listing::registry::{expiry_text, first_text};

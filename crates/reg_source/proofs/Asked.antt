@@ -7,11 +7,14 @@ use Rattle.reg_ranges.specs.Tables.{Table}
 use Rattle.reg_core.specs.Allowance.{◌>>=◌, or_refusal}
 use Rattle.reg_core.specs.Answer.{Answer, change_of, public_answer, reply_of, unchanged}
 use Rattle.reg_core.specs.Page.{page}
+use Rattle.reg_core.specs.Step.{stamp_in}
 use Rattle.reg_core.specs.View.{Published, published}
-use Rattle.reg_core.specs.World.{World, applied_if}
+use Rattle.reg_core.specs.Journal.{recorded_if}
+use Rattle.reg_core.specs.World.{World}
 use Rattle.reg_core.specs.declared.command.Command.TheVariants.{Public}
 use Rattle.reg_core.specs.declared.command.PublicCommand.{PublicCommand}
 use Rattle.reg_core.specs.declared.command.PublicCommand.TheVariants.{Registries, Registry, RegistryCsv, PoolList, BlocksCsv}
+use Rattle.reg_core.specs.declared.journal.Stamp.{Stamp}
 use Rattle.reg_core.specs.declared.told.Told.{Told}
 use Rattle.reg_core.specs.declared.told.Told.TheVariants as tells
 use Rattle.reg_core.specs.declared.refusal.Refusal.TheVariants as no
@@ -58,10 +61,10 @@ by_clock : (is_open : Bool) (a : Answer) (told : Told)
 by_clock true a told h = h
 by_clock false a told h = cc
 
-stays_by_clock : (w : World) (is_open : Bool) (a : Answer) → change_of a ≡ None
-    → applied_if w (change_of (if is_open then a else Err no.Clock)) ≡ w
-stays_by_clock w true a h = ap (applied_if w) h
-stays_by_clock w false a h = refl
+stays_by_clock : (by : Stamp) (w : World) (is_open : Bool) (a : Answer) → change_of a ≡ None
+    → recorded_if by w (change_of (if is_open then a else Err no.Clock)) ≡ w
+stays_by_clock by w true a h = ap (recorded_if by w) h
+stays_by_clock by w false a h = refl
 
 -- what is told is told to all
 told_is_told_to_all : (w : World) (moment : ℕ) (command : PublicCommand) (told : Told)
@@ -75,7 +78,7 @@ told_is_told_to_all w moment command told h =
 world_stays : (w : World) (moment : ℕ) (command : PublicCommand)
     → (step_by w None moment (Public command)).world ≡ w
 world_stays w moment command =
-    stays_by_clock w (is_in_clock moment) (public_answer (published w) (utc_day moment) command)
+    stays_by_clock (stamp_in w None moment) w (is_in_clock moment) (public_answer (published w) (utc_day moment) command)
     (nothing_changes (published w) (utc_day moment) command)
 
 -- so an office is a source

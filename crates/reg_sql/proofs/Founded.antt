@@ -1,5 +1,5 @@
 -- The tables that an office is founded in hold the empty office.
-use Rattle.std.proofs.Common.{◌≡◌, List, [], refl, sym, ap, subst, ◌∙◌}
+use Rattle.std.proofs.Common.{◌≡◌, List, [], length, refl, sym, ap, subst, ◌∙◌}
 use Rattle.std.specs.Prelude.{Option, Some, None, IsSome, is_some, option_and_then}
 use Rattle.std.specs.declared.cmp.Ordering.{Ordering}
 use Rattle.std.specs.FinMap.{contains_key, empty, get, get-empty}
@@ -13,7 +13,7 @@ use Rattle.reg_core.specs.Entry.{with_hold}
 use Rattle.reg_core.specs.Minutes.{with_minute}
 use Rattle.sqlite.specs.State.{State}
 use Rattle.reg_core.specs.WellKept.{WellKept}
-use Rattle.reg_core.specs.World.{empty_world, name_cmp, place_cmp}
+use Rattle.reg_core.specs.World.{World, empty_world, name_cmp, place_cmp}
 use Rattle.reg_core.proofs.Keeping.FirstWorlds.{first_worlds_kept}
 use Rattle.reg_core.proofs.KeyOrders.{name_keys, place_keys}
 use Rattle.reg_vacancies.specs.Vacancies.{AreVacancies, AreVacanciesOf}
@@ -26,7 +26,8 @@ use Rattle.reg_tables.specs.Version.{newest, number_of}
 use Rattle.reg_tables.proofs.GrowLemmas.{none_before}
 use Rattle.reg_statements.specs.Content.{AreKept, HasVersionRow, IsStored, content, content_of, registry_table}
 use Rattle.reg_statements.specs.Tables.{Tables, tables_in}
-use Rattle.reg_sql.specs.Keeping.{KeepsOffice}
+use Rattle.reg_statements.proofs.Numbering.{none_counted, none_latest}
+use Rattle.reg_sql.specs.Keeping.{CountsTo, KeepsOffice}
 use Rattle.reg_sql.specs.Opening.{HasNoTables}
 
 -- tables that are empty but for the version
@@ -50,6 +51,7 @@ are_bare db it =
       holds = e.1.1.1.1.1.1.1.1.1.0 i;
       minutes = e.1.1.1.1.1.1.1.1.1.1.0 i;
       agents = e.1.1.1.1.1.1.1.1.1.1.1.0 i;
+      journal = e.1.1.1.1.1.1.1.1.1.1.1.1.0 i;
     }
 
 select-empty : {K X Y : Type 0} {R : K → K → Ordering} (o : IsKeyOrder R) (f : K → X → Option Y)
@@ -72,6 +74,7 @@ bare_kept rows version = record {
     ranges = λ place some. absent _ (get-empty place_cmp place) some;
     holds = λ place marked. absent _ (get-empty place_cmp place) marked;
     minutes = λ name some. absent _ (get-empty name_cmp name) some;
+    acts = none_counted;
   };
 }
 
@@ -82,6 +85,7 @@ bare_content rows = λ i. record empty_world {
   entries =
       select-empty place_keys (λ place a. Some (with_hold (contains_key {X = Unit {0}} {R = place_cmp} empty place) a)) i;
   requests = select-empty name_keys (λ name case. Some (with_minute (get {R = name_cmp} empty name) case)) i;
+  journal = none_latest i;
 }
 
 first_version : (db : Database) → IsFounded db
@@ -106,6 +110,11 @@ keeps_founded s idle founded v are = record {
   kept = λ h. subst WellKept (sym (founded_empty s.now (founded h))) first_worlds_kept.0;
   follows = λ h. subst (λ w. AreVacanciesOf w v) (sym (founded_empty s.now (founded h))) are;
 }
+
+-- and has no act
+pub counts_founded : (s : State) → (Holds s → IsFounded s.now) → CountsTo 0 s
+counts_founded s founded h =
+    ap (λ (w : World). length w.journal) (sym (founded_empty s.now (founded h)))
 
 -- a store without tables has none that are not empty
 pub blank : (db : Database) → HasNoTables db → IsBlank no_schema db

@@ -1,4 +1,5 @@
 mod Changing
+mod Counting
 mod Failed
 mod Founded
 mod Giving

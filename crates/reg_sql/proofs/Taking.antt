@@ -13,7 +13,6 @@ use Rattle.sqlite_trees.proofs.ListLemmas.{all-append}
 use Rattle.reg_core.specs.WellKept.{WellKept}
 use Rattle.reg_core.specs.World.{empty_world}
 use Rattle.reg_keeper.specs.declared.keeper.Fault.{Fault as KeeperFault}
-use Rattle.reg_vacancies.specs.declared.vacancies.Vacancies.{Vacancies}
 use Rattle.reg_tables.specs.Connection.{Holds, IsIdle, Works}
 use Rattle.reg_tables.specs.Editing.{AreKeyed}
 use Rattle.reg_tables.specs.Having.{AreFree, AreFreeLater, Extends, FindsTablesOf, GainsTables, HasTable, HasTables}
@@ -22,7 +21,7 @@ use Rattle.reg_tables.specs.Schema.{office_schema, office_table}
 use Rattle.reg_tables.specs.Selecting.{BeginsWith}
 use Rattle.reg_tables.specs.Version.{later_than, newest, number_of, schema_of, table_count, tables_of}
 use Rattle.reg_tables.specs.declared.version.Version.{Version}
-use Rattle.reg_tables.specs.declared.version.Version.TheVariants.{First, Second, Third}
+use Rattle.reg_tables.specs.declared.version.Version.TheVariants.{First, Second, Third, Fourth}
 use Rattle.reg_tables.proofs.HavingLemmas.{all_has, version_found}
 use Rattle.reg_tables.proofs.Library.GrowingSchemas.{still_has}
 use Rattle.reg_tables.proofs.PartLemmas.{part_before}
@@ -31,13 +30,14 @@ use Rattle.reg_migration.specs.Beside.{IsSole, UpgradesBeside}
 use Rattle.reg_statements.specs.Content.{IsStoredAs, content_at, content_of, world_in}
 use Rattle.reg_statements.proofs.Migrated.{migrated_same, version_is}
 use Rattle.reg_opening.specs.Opening.{FindsKind, HasVersionTables, ComesFirst, IsFoundAs, LeavesRoom, IsOfVersion, IsOurs, kind_of}
+use Rattle.reg_opening.specs.Acts.{StandsBeside}
+use Rattle.reg_opening.specs.declared.beside.Beside.{Beside}
 use Rattle.reg_opening.proofs.Versions.{first_begins, schema_first}
 use Rattle.reg_opening.specs.declared.flaw.Flaw.{Flaw}
 use Rattle.reg_opening.specs.declared.kind.Found.{Found}
 use Rattle.reg_opening.specs.declared.kind.Found.TheVariants as finding
 use Rattle.reg_opening.specs.declared.kind.StoreKind.TheVariants as kinds
-use Rattle.reg_vacancies.specs.Vacancies.{AreVacanciesOf}
-use Rattle.reg_sql.specs.Keeping.{KeepsOffice}
+use Rattle.reg_sql.specs.Keeping.{KeepsBeside}
 use Rattle.reg_sql.specs.Opening.{Brings, HasNoTables, IsAsItWas, IsRefused, IsTakenOver, TakesOver}
 use Rattle.reg_sql.specs.declared.open.OpenFault.{OpenFault}
 use Rattle.reg_sql.specs.declared.open.OpenFault.TheVariants as refusals
@@ -99,8 +99,8 @@ module _ (old new : State) (idle : IsIdle old) (free : AreFree old.now.schema) w
     was_alone = λ is. inr (was is);
   }
 
-  pub founded_over : (result : Result Vacancies OpenFault) → IsIdle new → (Works new → Works old)
-      → IfOk result (λ v. KeepsOffice (Some v) new)
+  pub founded_over : (result : Result Beside OpenFault) → IsIdle new → (Works new → Works old)
+      → IfOk result (λ v. KeepsBeside v new)
       → (Works new → IfOk result (λ v. HasTables new.now.schema))
       → (Works new → IfOk result (λ v. HasNoTables old.now → new.now.schema ≡ office_schema))
       → (Holds new → IfOk result (λ v. HasNoTables old.now × (world_in new ≡ empty_world)))
@@ -136,13 +136,20 @@ one_version First _ schema a b =
 one_version _ First schema a b =
     let named = a.0.1.1.1.1.1.1.1.1.1.1.0.has.named in let free = rw named at b.1.0 in absurd (cc)
 one_version Second Second schema a b = refl
-one_version Second Third schema a b =
+one_version Second _ schema a b =
     let named = b.0.1.1.1.1.1.1.1.1.1.1.1.1.0.has.named in
     let free = rw named at a.1.0 in absurd (cc)
-one_version Third Second schema a b =
+one_version _ Second schema a b =
     let named = a.0.1.1.1.1.1.1.1.1.1.1.1.1.0.has.named in
     let free = rw named at b.1.0 in absurd (cc)
 one_version Third Third schema a b = refl
+one_version Third Fourth schema a b =
+    let named = b.0.1.1.1.1.1.1.1.1.1.1.1.1.1.0.has.named in
+    let free = rw named at a.1.0 in absurd (cc)
+one_version Fourth Third schema a b =
+    let named = a.0.1.1.1.1.1.1.1.1.1.1.1.1.1.0.has.named in
+    let free = rw named at b.1.0 in absurd (cc)
+one_version Fourth Fourth schema a b = refl
 
 -- nor to have those of one, where it is that of another
 only_version : (v u : Version) (schema : Schema) → schema ≡ schema_of u
@@ -225,7 +232,7 @@ module _ (fresh : Bool) (old new : State) (idle : IsIdle old) {E : Type 0} (f : 
       let none = told (finding.NotOurs flaw) is w in
       (none.0.0, none.0.1, taken, none.1))
 
-  module _ (v : Version) (free : Vacancies) (is : f ≡ finding.Ours v free) where
+  module _ (v : Version) (free : Beside) (is : f ≡ finding.Ours v free) where
     -- and it still is one
     pub found_still : Works new → IsFoundAs new.now (kinds.Ours v)
     found_still w =
@@ -239,7 +246,7 @@ module _ (fresh : Bool) (old new : State) (idle : IsIdle old) {E : Type 0} (f : 
     ours_was : Works new → old.now.schema ≡ schema_of v → IsOurs v old.now
     ours_was w alone = (told (finding.Ours v free) is w).1 alone
 
-    free_was : Works new → old.now.schema ≡ schema_of v → AreVacanciesOf (content_at v old.now) free
+    free_was : Works new → old.now.schema ≡ schema_of v → StandsBeside (content_at v old.now) free
     free_was w alone = (subst (LeavesRoom old.now) is (finds.free w)) (schema_first v alone)
 
     -- its rows are an office's where its tables come first
@@ -256,7 +263,7 @@ module _ (fresh : Bool) (old new : State) (idle : IsIdle old) {E : Type 0} (f : 
 
   -- ---- Of the newest version
 
-  module _ (free : Vacancies) (is : f ≡ finding.Ours newest free) where
+  module _ (free : Beside) (is : f ≡ finding.Ours newest free) where
     ours_at : Holds new → IsOurs newest new.now
     ours_at h = subst (IsOurs newest) (sym (stays_same finds.stays h))
         (ours_was newest free is h.works (stays_held finds.stays h).tables)
@@ -279,13 +286,19 @@ module _ (fresh : Bool) (old new : State) (idle : IsIdle old) {E : Type 0} (f : 
           was_alone = λ is. inl (newest, ap (λ (db : Database). db.schema) (sym same) ∙ is);
         }
 
-    ours_kept : KeepsOffice (Some free) new
+    beside_at : (h : Holds new) → StandsBeside (world_in new) free
+    beside_at h =
+        subst (λ (db : Database). StandsBeside (content_of db) free) (sym (stays_same finds.stays h))
+        (free_was newest free is h.works (stays_held finds.stays h).tables)
+
+    ours_kept : KeepsBeside free new
     ours_kept = record {
-      keeping = record { idle = finds.rest; stored = λ h. (ours_at h).0 };
-      kept = λ h. (ours_at h).1;
-      follows = λ h. subst (λ (db : Database). AreVacanciesOf (content_of db) free)
-          (sym (stays_same finds.stays h))
-          (free_was newest free is h.works (stays_held finds.stays h).tables);
+      office = record {
+        keeping = record { idle = finds.rest; stored = λ h. (ours_at h).0 };
+        kept = λ h. (ours_at h).1;
+        follows = λ h. (beside_at h).0;
+      };
+      counts = λ h. (beside_at h).1;
     }
 
     pub ours_over : TakesOver fresh old new (Ok free)
@@ -308,9 +321,9 @@ module _ (fresh : Bool) (old new : State) (idle : IsIdle old) {E : Type 0} (f : 
 
   -- ---- Of an older version
 
-  module _ (v : Version) (free : Vacancies) (is : f ≡ finding.Ours v free) (older : v ≢ newest)
+  module _ (v : Version) (free : Beside) (is : f ≡ finding.Ours v free) (older : v ≢ newest)
       (last : State) where
-    pub older_over : (result : Result Vacancies OpenFault) → Brings v free new last result
+    pub older_over : (result : Result Beside OpenFault) → Brings v free new last result
         → TakesOver fresh old last result
     older_over (Err e) brings =
         refused_over fresh old last idle brings.rest e (λ w. finds.stays.worked (brings.worked w))
@@ -329,16 +342,19 @@ module _ (fresh : Bool) (old new : State) (idle : IsIdle old) {E : Type 0} (f : 
         let alone = before h.works h.tables in
         migrated_same v old.now last.now (ours_was v free is (brings.worked h.works) alone).0
         (migrated h.works alone) in
+        let beside = λ (h : Holds last). subst (λ w. StandsBeside w kept) (sym (stays h).1)
+        (subst (StandsBeside (content_at v old.now)) (sym brings.free)
+        (free_was v free is (brings.worked h.works) (before h.works h.tables))) in
         record {
           worked = λ w. finds.stays.worked (brings.worked w);
           keeps = record {
-            keeping = record { idle = brings.rest; stored = λ h. (stays h).0 };
-            kept = λ h. subst WellKept (sym (stays h).1)
-                (ours_was v free is (brings.worked h.works) (before h.works h.tables)).1;
-            follows = λ h. subst (λ w. AreVacanciesOf w kept) (sym (stays h).1)
-                (subst (λ (free : Vacancies). AreVacanciesOf (content_at v old.now) free)
-                (sym brings.free)
-                (free_was v free is (brings.worked h.works) (before h.works h.tables)));
+            office = record {
+              keeping = record { idle = brings.rest; stored = λ h. (stays h).0 };
+              kept = λ h. subst WellKept (sym (stays h).1)
+                  (ours_was v free is (brings.worked h.works) (before h.works h.tables)).1;
+              follows = λ h. (beside h).0;
+            };
+            counts = λ h. (beside h).1;
           };
           taken = λ w.
               let tables = had v free is (brings.worked w) in

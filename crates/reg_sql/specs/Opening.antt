@@ -17,7 +17,6 @@ use Rattle.sqlite.specs.declared.error.ErrorCode.TheVariants.{NotADatabase, Data
 use Rattle.reg_core.specs.World.{World, empty_world}
 use Rattle.reg_keeper.specs.declared.keeper.Fault.{Fault as Given}
 use Rattle.reg_keeper.specs.declared.keeper.Fault.TheVariants.{Memory, Store}
-use Rattle.reg_vacancies.specs.declared.vacancies.Vacancies.{Vacancies}
 use Rattle.reg_tables.specs.Connection.{Holds, IsIdle, Works}
 use Rattle.reg_tables.specs.Having.{AreFree, GainsTables, HasTables}
 use Rattle.reg_tables.specs.Making.{HasCounter, HasVersion, IsBegunBeside, IsMigrated, no_schema}
@@ -28,7 +27,8 @@ use Rattle.reg_tables.specs.declared.version.Version.{Version}
 use Rattle.reg_migration.specs.Beside.{IsSole, IsUpgradedBeside, UpgradesBeside}
 use Rattle.reg_statements.specs.Content.{IsStoredAs, content_at, world_in}
 use Rattle.reg_opening.specs.Opening.{HasVersionTables, ComesFirst, IsOfVersion, IsOurs}
-use Rattle.reg_sql.specs.Keeping.{IsHonest, KeepsOffice}
+use Rattle.reg_opening.specs.declared.beside.Beside.{Beside}
+use Rattle.reg_sql.specs.Keeping.{IsHonest, KeepsBeside}
 use Rattle.reg_sql.specs.declared.open.OpenFault.{OpenFault}
 use Rattle.reg_sql.specs.declared.open.OpenFault.TheVariants as refusals
 
@@ -89,7 +89,7 @@ pub record IsTakenOver (fresh : Bool) (old new : Database) : Type 0 where
   pub was_alone : new.schema ≡ office_schema → StandsAlone old
 
 -- why there is no office in a store that was opened: the row of the version says one that is none of
--- the three, whatever tables there are; no office, neither alone nor before other tables, and no such version, and a name is
+-- the four, whatever tables there are; no office, neither alone nor before other tables, and no such version, and a name is
 -- taken where a new one is wanted; a fault
 abbrev pub IsRefused : Bool → Database → OpenFault → Type 0
 IsRefused fresh db (refusals.Version n) = IsOfVersion n db × IsOther n
@@ -113,20 +113,20 @@ pub record IsAsItWas (old new : State) : Type 0 where
   pub committed : Works new → new.committed ≡ old.committed
 
 -- A call that takes a store over, or leaves it as it was.
-pub record TakesOver (fresh : Bool) (old new : State) (result : Result Vacancies OpenFault)
+pub record TakesOver (fresh : Bool) (old new : State) (result : Result Beside OpenFault)
     : Type 0 where
   pub worked : Works new → Works old
-  pub keeps : IfOk result (λ vacancies. KeepsOffice (Some vacancies) new)
-  pub taken : Works new → IfOk result (λ vacancies. IsTakenOver fresh old.now new.now)
-  pub opened : Holds new → IfOk result (λ vacancies. IsOpened fresh old.now (world_in new))
-  pub live : IsHonest new → IfOk result (λ vacancies. StaysLive old new)
+  pub keeps : IfOk result (λ beside. KeepsBeside beside new)
+  pub taken : Works new → IfOk result (λ beside. IsTakenOver fresh old.now new.now)
+  pub opened : Holds new → IfOk result (λ beside. IsOpened fresh old.now (world_in new))
+  pub live : IsHonest new → IfOk result (λ beside. StaysLive old new)
   pub refused : old.in_transaction ≡ false → Works new → IfErr result (IsRefused fresh old.now)
   pub unchanged : IfErr result (λ fault. IsAsItWas old new)
 
--- A call that brings an office of an older version to the newest, or leaves it as it was. What was
--- free in it is handed back.
-pub record Brings (v : Version) (was : Vacancies) (old new : State)
-    (result : Result Vacancies OpenFault) : Type 0 where
+-- A call that brings an office of an older version to the newest, or leaves it as it was. What stood
+-- beside it is handed back.
+pub record Brings (v : Version) (was : Beside) (old new : State)
+    (result : Result Beside OpenFault) : Type 0 where
   pub rest : IsIdle new
   pub worked : Works new → Works old
   pub live : HasCleanDisk new → IfOk result (λ kept. IsTrue new.is_open)

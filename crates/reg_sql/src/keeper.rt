@@ -1,5 +1,5 @@
 //! The keeper over tables.
-ghost use Rattle.std.specs.Prelude.{◌≡◌, false, Some};
+ghost use Rattle.std.specs.Prelude.{◌≡◌, false};
 ghost use Rattle.sqlite.specs.Held.{state};
 ghost use Rattle.reg_tables.specs.Connection.{Holds};
 ghost use Rattle.reg_tables.specs.Version.{newest};
@@ -9,13 +9,16 @@ ghost use Rattle.reg_opening.specs.Opening.{IsOurs};
 ghost use Rattle.reg_core.specs.BlockDue.{due_in};
 ghost use Rattle.reg_core.specs.WellKept.{CanApply, WellKept};
 ghost use Rattle.reg_core.specs.World.{applied};
-ghost use Rattle.reg_sql.specs.Keeping.{KeepsOffice};
+ghost use Rattle.reg_keeper.specs.Keeper.{applied_with};
+ghost use Rattle.reg_sql.specs.Keeping.{KeepsBeside};
 
 use crate::following::followed;
 use crate::vacancies::vacancies_of;
 use reg_blocks::block::Block;
 use reg_blocks::pool::Pool;
 use reg_blocks::size::Size;
+use reg_content::acts::{acts, acts_about, acts_by, acts_on};
+use reg_content::arrivals::arrival;
 use reg_content::blocks::{blocks, holding, holdings};
 use reg_content::caps::cap;
 use reg_content::change;
@@ -32,12 +35,15 @@ use reg_core::case_file::CaseFile;
 use reg_core::change::Change;
 use reg_core::entry::Entry;
 use reg_core::holding::{Holding, Listed};
+use reg_core::journal::{Act, Arrival};
 use reg_core::link::LinkRow;
 use reg_core::queue::QueueRow;
 use reg_core::request::Request;
 use reg_core::rows::Rows;
 use reg_core::text::{Account, Digest, Name, Ref};
+use reg_early::day::Day;
 use reg_keeper::keeper::{Fault, Keeper};
+use reg_opening::beside::Beside;
 use reg_ranges::policy::Policy;
 use reg_ranges::table::RangeTable;
 use reg_statements::loads::Loads;
@@ -47,13 +53,14 @@ use sqlite::{Alter, Connection};
 use std::alloc::Global;
 use std::marker::Model;
 
-/// The content of an office in the thirteen tables of a store.
+/// The content of an office in the fourteen tables of a store.
 ///
 /// A row by its key takes a statement by that key, and a list one by the first columns of a key; that
 /// of a queue joins its assignments with their requests and advice. Those that wait are found among all
 /// requests, and the experts of each take a statement more. The mark of an entry that expires
 /// and the minute of a renewal take a statement more. A change is one transaction, with
-/// a statement for each row that it touches. What is free is kept beside the tables: the least value
+/// a statement for each row that it touches, and one for each of its acts. The number of the last act
+/// is kept beside the tables, and so is what is free: the least value
 /// without an entry takes O(log n) for each range of its policy, the block due O(log n). It is found
 /// with the rows when the office is opened, follows each change, and is made anew of the rows after
 /// one that was not made.
@@ -63,13 +70,14 @@ pub struct SqlKeeper<S: Alter> {
     ghost well: { Holds (state S.Store tables) → WellKept (world_in (state S.Store tables)) },
 }
 
-/// The connection to the tables of an office, at rest, and what is free in it, where that is known.
-/// It is seen as the connection.
+/// The connection to the tables of an office, at rest, and what is free in it, where that is known,
+/// and the number of the last act, 0 where there is none. It is seen as the connection.
 #[derive(Drop)]
 struct Tables<S: Alter> {
     alloc: Global,
     conn: Connection<S>,
     vacancies: Option<Vacancies>,
+    last: u32,
 }
 
 impl<S: Alter> Model for Tables<S> {
@@ -82,7 +90,8 @@ impl<S: Alter> Model for Tables<S> {
 
     ghost view = { λ tables. tables.conn };
 
-    ghost invariant = { λ tables. IsFollowed tables.vacancies (state S.Store tables.conn) };
+    ghost invariant = { λ tables. IsFollowed tables.vacancies tables.last
+        (state S.Store tables.conn) };
 }
 
 impl<S: Reports + Loads> Tables<S> {
@@ -99,8 +108,7 @@ impl<S: Reports + Loads> Tables<S> {
         Ok(due)
     }
 
-    /// Makes a change in one transaction. What is free follows it; where the change is not made,
-    /// that is forgotten.
+    /// Makes a change in one transaction, without an act.
     fn apply(&mut self, change: &Change) -> Result<(), Fault>
         requires well { Holds (state S.Store self.old) → WellKept (world_in (state S.Store self.old)) }
         requires fits { Holds (state S.Store self.old)
@@ -108,8 +116,20 @@ impl<S: Reports + Loads> Tables<S> {
         ensures { Alters (state S.Store self.old) (state S.Store self.new) result
             (λ w. applied w change.now) }
     {
+        self.record(change, &[])
+    }
+
+    /// Makes a change and adds its acts in one transaction. What is free follows it; where the change is
+    /// not made, that is forgotten.
+    fn record(&mut self, change: &Change, acts: &[Act]) -> Result<(), Fault>
+        requires well { Holds (state S.Store self.old) → WellKept (world_in (state S.Store self.old)) }
+        requires fits { Holds (state S.Store self.old)
+            → CanApply (world_in (state S.Store self.old)) change.now }
+        ensures { Alters (state S.Store self.old) (state S.Store self.new) result
+            (λ w. applied_with acts.now w change.now) }
+    {
         let vacancies = self.vacancies.take();
-        change::apply(self.alloc, &mut self.conn, change)?;
+        self.last = change::record(self.alloc, &mut self.conn, change, acts, self.last)?;
         self.vacancies = followed(vacancies, change);
         Ok(())
     }
@@ -117,15 +137,17 @@ impl<S: Reports + Loads> Tables<S> {
 
 impl<S: Alter> SqlKeeper<S> {
     /// The keeper of a store whose content is known to be well kept.
-    pub(crate) fn new(alloc: Global, conn: Connection<S>, vacancies: Vacancies) -> Self
-        requires { KeepsOffice (Some vacancies) (state S.Store conn) }
+    pub(crate) fn new(alloc: Global, conn: Connection<S>, beside: Beside) -> Self
+        requires { KeepsBeside beside (state S.Store conn) }
         ensures { result.tables ≡ conn }
     {
+        let Beside { vacancies, last } = beside;
         SqlKeeper {
             tables: Tables {
                 alloc,
                 conn,
                 vacancies: Some(vacancies),
+                last,
             },
         }
     }
@@ -141,6 +163,7 @@ impl<S: Alter> SqlKeeper<S> {
             alloc: _,
             conn,
             vacancies,
+            last: _,
         } = tables;
         drop(vacancies);
         conn
@@ -289,8 +312,35 @@ impl<S: Reports + Loads> Keeper for SqlKeeper<S> {
         links(self.tables.alloc, &mut self.tables.conn)
     }
 
+    fn acts(&mut self) -> Result<Rows<Act>, Fault> {
+        acts(self.tables.alloc, &mut self.tables.conn)
+    }
+
+    fn acts_on(&mut self, day: Day) -> Result<Rows<Act>, Fault> {
+        acts_on(self.tables.alloc, &mut self.tables.conn, day)
+    }
+
+    fn acts_by(&mut self, account: &Account) -> Result<Rows<Act>, Fault> {
+        acts_by(self.tables.alloc, &mut self.tables.conn, account)
+    }
+
+    fn acts_about(&mut self, account: &Account, reference: &Ref) -> Result<Rows<Act>, Fault> {
+        acts_about(self.tables.alloc, &mut self.tables.conn, account, reference)
+    }
+
+    fn arrival(&mut self, account: &Account, reference: &Ref) -> Result<Arrival, Fault> {
+        arrival(self.tables.alloc, &mut self.tables.conn, account, reference)
+    }
+
     fn apply(&mut self, change: Change) -> Result<(), Fault> {
         let made = self.tables.apply(&change);
+        drop(change);
+        made
+    }
+
+    #[tactic(auto, using(reg_core::proofs::Keeping::OtherMaps::with_journal))]
+    fn record(&mut self, change: Change, acts: &[Act]) -> Result<(), Fault> {
+        let made = self.tables.record(&change, acts);
         drop(change);
         made
     }

@@ -1,5 +1,5 @@
 //! Stores that an office is opened from.
-ghost use Rattle.std.specs.Prelude.{◌≡◌, ◌≢◌, ◌⊎◌, true, false, IfErr, IfOk, IsTrue, Some};
+ghost use Rattle.std.specs.Prelude.{◌≡◌, ◌≢◌, ◌⊎◌, true, false, IfErr, IfOk, IsTrue};
 ghost use Rattle.std.specs.Bool.{Decides};
 ghost use Rattle.sqlite.specs.Files.{file_state};
 ghost use Rattle.sqlite.specs.Held.{state};
@@ -18,7 +18,7 @@ ghost use Rattle.reg_opening.specs.Causes.{TellsError};
 ghost use Rattle.reg_opening.specs.Opening.{IsFoundAs};
 ghost use Rattle.reg_opening.specs.declared.kind.StoreKind.TheVariants as kinds;
 ghost use Rattle.reg_sql.specs.Failing.{IsFailed, IsFailedBy};
-ghost use Rattle.reg_sql.specs.Keeping.{IsHonest, KeepsOffice};
+ghost use Rattle.reg_sql.specs.Keeping.{IsHonest, KeepsBeside};
 ghost use Rattle.reg_sql.specs.Opening.{Brings, HasNoTables, IsAsItWas, IsOpened, IsOpenedBy, IsRefused};
 ghost use Rattle.reg_sql.specs.Opening.{RefusesOpening, IsTakenOver, StandsAlone, TakesOver};
 ghost use Rattle.reg_sql.specs.Opening.{OpensFiles, refusal_of};
@@ -29,6 +29,7 @@ use crate::keeper::SqlKeeper;
 use crate::opener::{Opener, SystemFiles};
 use reg_keeper::keeper::Fault;
 use reg_migration::migrate::migrate;
+use reg_opening::beside::Beside;
 use reg_opening::kind::{Found, find};
 use reg_opening::opens::Opens;
 use reg_statements::write::fault;
@@ -94,19 +95,19 @@ impl<S: Opens> SqlKeeper<S> {
             fresh (state S.Store conn) (state S.Store refusal.1) refusal.0) }
     {
         match take_over(alloc, &mut conn, fresh) {
-            Ok(vacancies) => Ok(SqlKeeper::new(alloc, conn, vacancies)),
+            Ok(beside) => Ok(SqlKeeper::new(alloc, conn, beside)),
             Err(fault) => Err((fault, conn)),
         }
     }
 }
 
-/// Founds an office where one is wanted, or finds the one that is there, and what is free in it, and
-/// brings it to the newest version.
+/// Founds an office where one is wanted, or finds the one that is there, and what stands beside it,
+/// and brings it to the newest version.
 fn take_over<S: Opens>(
     alloc: Global,
     conn: &mut Connection<S>,
     fresh: bool,
-) -> Result<Vacancies, OpenFault>
+) -> Result<Beside, OpenFault>
     ensures takes { TakesOver fresh (state S.Store conn.old) (state S.Store conn.new) result }
     ensures cause { IfErr result (IsFailed S.Reported (S.Unloaded ⊎ S.Ungrown) S.Store
         fresh (state S.Store conn.old) (state S.Store conn.new)) }
@@ -118,8 +119,8 @@ fn take_over<S: Opens>(
         return found(alloc, conn);
     }
     match find(alloc, conn)? {
-        Found::Ours(version, vacancies) if is_newest(version) => Ok(vacancies),
-        Found::Ours(older, vacancies) => bring(conn, older, vacancies),
+        Found::Ours(version, beside) if is_newest(version) => Ok(beside),
+        Found::Ours(older, beside) => bring(conn, older, beside),
         Found::OtherVersion(version) => Err(OpenFault::Version(version)),
         Found::NotOurs(_) => Err(OpenFault::NotOurs),
     }
@@ -130,28 +131,28 @@ fn is_newest(version: Version) -> bool
     ensures { Decides result (version ≡ newest) }
 {
     match version {
-        Version::Third => true,
-        Version::First | Version::Second => false,
+        Version::Fourth => true,
+        Version::First | Version::Second | Version::Third => false,
     }
 }
 
-/// Brings an office of an older version to the newest. What is free in it stays so, and nothing is
+/// Brings an office of an older version to the newest. What stands beside it stays so, and nothing is
 /// read once its tables are changed.
 fn bring<S: Opens>(
     conn: &mut Connection<S>,
     older: Version,
-    vacancies: Vacancies,
-) -> Result<Vacancies, OpenFault>
+    beside: Beside,
+) -> Result<Beside, OpenFault>
     requires idle { IsIdle (state S.Store conn.old) }
     requires version { older ≢ newest }
     requires found { Works (state S.Store conn.old)
         → IsFoundAs (state S.Store conn.old).now (kinds.Ours older) }
-    ensures brings { Brings older vacancies (state S.Store conn.old) (state S.Store conn.new) result }
+    ensures brings { Brings older beside (state S.Store conn.old) (state S.Store conn.new) result }
     ensures cause { IfErr result (IsFailed S.Reported (S.Unloaded ⊎ S.Ungrown) S.Store
         false (state S.Store conn.old) (state S.Store conn.new)) }
 {
     match migrate(conn, older) {
-        Ok(()) => Ok(vacancies),
+        Ok(()) => Ok(beside),
         Err(error) => Err(OpenFault::Fault(fault(&error))),
     }
 }
@@ -172,27 +173,26 @@ fn is_to_found<S: Opens>(alloc: Global, conn: &Connection<S>, fresh: bool) -> Re
 }
 
 /// Founds an office beside what stands in a store.
-fn found<S: Opens>(alloc: Global, conn: &mut Connection<S>) -> Result<Vacancies, OpenFault>
+fn found<S: Opens>(alloc: Global, conn: &mut Connection<S>) -> Result<Beside, OpenFault>
     requires idle { IsIdle (state S.Store conn.old) }
     requires free { AreFree (state S.Store conn.old).now.schema }
     ensures rest { IsIdle (state S.Store conn.new) }
     ensures worked { Works (state S.Store conn.new) → Works (state S.Store conn.old) }
-    ensures keeps { IfOk result (λ vacancies.
-        KeepsOffice (Some vacancies) (state S.Store conn.new)) }
+    ensures keeps { IfOk result (λ beside. KeepsBeside beside (state S.Store conn.new)) }
     ensures has { Works (state S.Store conn.new)
-        → IfOk result (λ vacancies. HasTables (state S.Store conn.new).now.schema) }
+        → IfOk result (λ beside. HasTables (state S.Store conn.new).now.schema) }
     ensures alone { Works (state S.Store conn.new)
-        → IfOk result (λ vacancies. HasNoTables (state S.Store conn.old).now
+        → IfOk result (λ beside. HasNoTables (state S.Store conn.old).now
         → (state S.Store conn.new).now.schema ≡ office_schema) }
     ensures empty { Holds (state S.Store conn.new)
-        → IfOk result (λ vacancies. HasNoTables (state S.Store conn.old).now
+        → IfOk result (λ beside. HasNoTables (state S.Store conn.old).now
         × (world_in (state S.Store conn.new) ≡ empty_world)) }
     ensures beside { Works (state S.Store conn.new)
-        → IfOk result (λ vacancies. AreFree (state S.Store conn.old).now.schema
+        → IfOk result (λ beside. AreFree (state S.Store conn.old).now.schema
         → HasCounter (state S.Store conn.old).now.schema
         → IsBegunBeside (state S.Store conn.old).now (state S.Store conn.new).now) }
     ensures live { HasCleanDisk (state S.Store conn.new)
-        → IfOk result (λ vacancies. IsTrue (state S.Store conn.new).is_open) }
+        → IfOk result (λ beside. IsTrue (state S.Store conn.new).is_open) }
     ensures fault { IfErr result (λ refusal. (given : KeeperFault) × (refusal ≡ refusals.Fault given)) }
     ensures unchanged { Works (state S.Store conn.new)
         → IfErr result (λ refusal. (state S.Store conn.new).now ≡ (state S.Store conn.old).now) }
@@ -200,7 +200,10 @@ fn found<S: Opens>(alloc: Global, conn: &mut Connection<S>) -> Result<Vacancies,
         true (state S.Store conn.old) (state S.Store conn.new)) }
 {
     match make_office(conn) {
-        Ok(()) => Ok(Vacancies::new(alloc)),
+        Ok(()) => Ok(Beside {
+            vacancies: Vacancies::new(alloc),
+            last: 0,
+        }),
         Err(error) => Err(OpenFault::Fault(fault(&error))),
     }
 }
@@ -222,8 +225,8 @@ impl SqlKeeper<MemStore> {
             × (refusal ≡ refusals.Fault given)) }
     {
         let mut conn = empty_memory(alloc)?;
-        let vacancies = found(alloc, &mut conn)?;
-        Ok(SqlKeeper::new(alloc, conn, vacancies))
+        let beside = found(alloc, &mut conn)?;
+        Ok(SqlKeeper::new(alloc, conn, beside))
     }
 }
 

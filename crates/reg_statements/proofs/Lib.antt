@@ -7,6 +7,7 @@ pub mod OneTable
 pub mod Defined
 pub mod Office
 pub mod Marks
+pub mod Numbering
 pub mod Minutes
 pub mod Bare
 pub mod Migrated

@@ -36,6 +36,7 @@ tables_same held new rows = λ i. record {
   holds = rows.1.1.1.1.1.1.1.1.1.0 i;
   minutes = rows.1.1.1.1.1.1.1.1.1.1.0 i;
   agents = rows.1.1.1.1.1.1.1.1.1.1.1.0 i;
+  journal = rows.1.1.1.1.1.1.1.1.1.1.1.1.0 i;
 }
 
 kept_with : (v w : Version) (t : Tables) (rows : List Row) → AreKept v t

@@ -1,5 +1,5 @@
 -- The definitions of an office's tables are right.
-use Rattle.std.proofs.Common.{◌≡◌, ℕ, pos, ◌==◌, Bool, true, false, ◌&&◌, List, ◌∷◌, take, bytes_eq}
+use Rattle.std.proofs.Common.{◌≡◌, ℕ, pos, ◌==◌, Bool, true, false, ◌&&◌, List, ◌∷◌, ◌++◌, take, bytes_eq}
 use Rattle.std.proofs.Common.{Some, option_map, refl, ap, ◌∙◌, arith}
 use Rattle.std.proofs.Math.Bool.{and-true}
 use Rattle.std.proofs.lemmas.Bool.Decides.{nat_tests}
@@ -19,10 +19,15 @@ use Rattle.reg_core.specs.declared.ask.Ask.{Ask}
 use Rattle.reg_core.specs.declared.ask.Ask.TheVariants as ask
 use Rattle.reg_core.specs.declared.request.Request.{Request}
 use Rattle.reg_core.proofs.KeyOrders.{block_keys, link_keys, name_keys, place_keys, seat_keys}
+use Rattle.reg_records.proofs.ActLaws.{acts_kept}
 use Rattle.reg_records.proofs.AdviceLaws.{advice_kept}
 use Rattle.reg_records.proofs.EntryLaws.{entries_kept}
 use Rattle.reg_records.proofs.GrantLaws.{grants_kept}
+use Rattle.reg_records.specs.Acts.{act_values, stamp_values}
+use Rattle.reg_records.specs.Columns.{whole_value}
 use Rattle.reg_records.specs.Requests.Values.{request_values}
+use Rattle.reg_records.specs.declared.acts.NumberedAct.{NumberedAct}
+use Rattle.reg_records.proofs.DeedLaws.{deed_cells}
 use Rattle.reg_records.proofs.HoldingLaws.{holdings_kept}
 use Rattle.reg_records.proofs.HoldLaws.{holds_kept}
 use Rattle.reg_records.proofs.LinkLaws.{links_kept}
@@ -35,7 +40,7 @@ use Rattle.reg_records.proofs.SeatLaws.{seats_kept}
 use Rattle.reg_tables.specs.Editing.{has_all}
 use Rattle.reg_tables.specs.Selecting.{stored}
 use Rattle.reg_tables.specs.Version.{newest}
-use Rattle.reg_statements.specs.Content.{advice_at, cap_at, case_at, hold_at, holder_at, link_at}
+use Rattle.reg_statements.specs.Content.{act_at, advice_at, cap_at, case_at, hold_at, holder_at, link_at}
 use Rattle.reg_statements.specs.Content.{AreWhole, parts_in}
 use Rattle.reg_statements.specs.Content.{max_at, minute_at, prefix_at, range_at, registration_at, seat_at}
 use Rattle.reg_statements.specs.Defined.{IsDefined, IsKey}
@@ -113,6 +118,10 @@ stored_row : (id : Value) (a : Ask) (r : Request) → r.ask ≡ a
     → stored 25 (id ∷ request_values r) ≡ request_values r
 stored_row id (ask.Code a) r is = rw is refl
 stored_row id _ r is = rw is refl
+
+stored_act : (id : Value) (a : NumberedAct) → stored 13 (id ∷ act_values a) ≡ act_values a
+stored_act id a =
+    ap (λ cells. whole_value a.number ∷ stamp_values a.act.stamp ++ cells) (deed_cells a.act.deed)
 
 -- A definition of a table is right where its key is, its rows keep what is written, and the rest
 -- computes: what follows the two about rows is found by refl.
@@ -232,5 +241,13 @@ unfolding link_at
 agents =
     defined_by office.agents link_is_key links_kept.back (λ row. links_kept.exact (stored 2 row)) refl
     (λ t. refl) (λ id t. refl) (λ t. refl) (λ row k. refl) (λ trees. refl) (λ trees. refl)
-    (λ trees rows. refl) (λ trees was. was.1.1.1.1.1.1.1.1.1.1.1.1)
-    (λ trees rows held was. (was.0, (was.1.0, (was.1.1.0, (was.1.1.1.0, (was.1.1.1.1.0, (was.1.1.1.1.1.0, (was.1.1.1.1.1.1.0, (was.1.1.1.1.1.1.1.0, (was.1.1.1.1.1.1.1.1.0, (was.1.1.1.1.1.1.1.1.1.0, (was.1.1.1.1.1.1.1.1.1.1.0, (was.1.1.1.1.1.1.1.1.1.1.1.0, held)))))))))))))
+    (λ trees rows. refl) (λ trees was. was.1.1.1.1.1.1.1.1.1.1.1.1.0)
+    (λ trees rows held was. (was.0, (was.1.0, (was.1.1.0, (was.1.1.1.0, (was.1.1.1.1.0, (was.1.1.1.1.1.0, (was.1.1.1.1.1.1.0, (was.1.1.1.1.1.1.1.0, (was.1.1.1.1.1.1.1.1.0, (was.1.1.1.1.1.1.1.1.1.0, (was.1.1.1.1.1.1.1.1.1.1.0, (was.1.1.1.1.1.1.1.1.1.1.1.0, (held, was.1.1.1.1.1.1.1.1.1.1.1.1.1))))))))))))))
+
+pub journal : IsDefined office.journal
+unfolding act_at
+journal =
+    defined_by office.journal number_is_key acts_kept.back (λ row. acts_kept.exact (stored 13 row)) refl
+    (λ t. refl) stored_act (λ t. refl) (λ row k. refl) (λ trees. refl) (λ trees. refl)
+    (λ trees rows. refl) (λ trees was. was.1.1.1.1.1.1.1.1.1.1.1.1.1)
+    (λ trees rows held was. (was.0, (was.1.0, (was.1.1.0, (was.1.1.1.0, (was.1.1.1.1.0, (was.1.1.1.1.1.0, (was.1.1.1.1.1.1.0, (was.1.1.1.1.1.1.1.0, (was.1.1.1.1.1.1.1.1.0, (was.1.1.1.1.1.1.1.1.1.0, (was.1.1.1.1.1.1.1.1.1.1.0, (was.1.1.1.1.1.1.1.1.1.1.1.0, (was.1.1.1.1.1.1.1.1.1.1.1.1.0, held))))))))))))))

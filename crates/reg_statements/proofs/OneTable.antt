@@ -6,7 +6,7 @@ use Rattle.sqlite.specs.Tree.{Trees}
 use Rattle.reg_tables.specs.Schema.{office_schema, office_table, caps_table, registries_table}
 use Rattle.reg_tables.specs.Schema.{ranges_table, entries_table, requests_table, queue_table}
 use Rattle.reg_tables.specs.Schema.{advice_table, pool_table, blocks_table, holds_table}
-use Rattle.reg_tables.specs.Schema.{minutes_table, agents_table}
+use Rattle.reg_tables.specs.Schema.{minutes_table, agents_table, journal_table}
 use Rattle.reg_tables.proofs.InsertLemmas.{is_apart, unindexed}
 use Rattle.reg_statements.specs.Tables.{OthersStay, put_tree, tables_in}
 
@@ -33,4 +33,5 @@ module _ (t : ℕ) (old new : Trees) (rest : OthersStay t old new) where
     holds = at holds_table.tree refl i;
     minutes = at minutes_table.tree refl i;
     agents = at agents_table.tree refl i;
+    journal = at journal_table.tree refl i;
   }

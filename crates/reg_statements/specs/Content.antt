@@ -1,6 +1,7 @@
 -- What the tables of an office hold.
-use Rattle.std.specs.Prelude.{◌≡◌, ℕ, ℤ, true, false, List, [], ◌∷◌, Option, Some, IsSome, option_map, map}
-use Rattle.std.specs.FinMap.{FinMap, contains_key, entries, get}
+use Rattle.std.specs.Prelude.{◌≡◌, ℕ, ℤ, true, false, List, [], ◌∷◌, length, map, reverse, Option, Some, IsSome, option_map}
+use Rattle.std.specs.FinMap.{FinMap, contains_key, entries, get, keys, values}
+use Rattle.std.specs.List.{range_with_len}
 use Rattle.std.specs.Ordering.{nat_cmp}
 use Rattle.sqlite.specs.Effect.{Database}
 use Rattle.sqlite.specs.Order.{Row}
@@ -18,7 +19,9 @@ use Rattle.reg_core.specs.declared.advice.Advice.{Advice}
 use Rattle.reg_core.specs.declared.capability.Cap.{Cap}
 use Rattle.reg_core.specs.declared.entry.Registration.{Registration}
 use Rattle.reg_core.specs.declared.holding.Holder.{Holder}
+use Rattle.reg_core.specs.declared.journal.Act.{Act}
 use Rattle.reg_core.specs.declared.request.Case.{Case}
+use Rattle.reg_records.specs.Acts.{act_in}
 use Rattle.reg_records.specs.Advice.{advice_in}
 use Rattle.reg_records.specs.Links.{link_in}
 use Rattle.reg_records.specs.Blocks.{holding_in}
@@ -86,6 +89,9 @@ minute_at row =
 unfoldable pub link_at : Row → Option (Link × Unit {0})
 link_at row = option_map (λ l. ((l.principal, l.agent), tt)) (link_in (stored 2 row))
 
+unfoldable pub act_at : Row → Option (ℕ × Act)
+act_at row = option_map (λ a. (a.number, a.act)) (act_in (stored 13 row))
+
 -- ---- What the tables hold
 
 abbrev pub maxes_in : Tables → FinMap text_cmp ℕ
@@ -122,6 +128,14 @@ AreUnheld m = (place : Place) (a : Registration) → get m place ≡ Some a → 
 abbrev pub AreBare : FinMap name_cmp Case → Type 0
 AreBare m = (name : RequestName) (case : Case) → get m name ≡ Some case → is_bare case.ask ≡ true
 
+-- acts by their numbers, from the greatest on
+abbrev pub latest_first : FinMap nat_cmp Act → List Act
+latest_first acts = reverse (values acts)
+
+-- their numbers are 1, 2, 3 ..
+abbrev pub AreCounted : FinMap nat_cmp Act → Type 0
+AreCounted acts = keys acts ≡ range_with_len 1 (length (entries acts))
+
 abbrev pub parts_in : Tables → Parts
 parts_in t = record {
   caps = held_in cap_at t.caps;
@@ -136,6 +150,7 @@ parts_in t = record {
   holds = held_in hold_at t.holds;
   minutes = held_in minute_at t.minutes;
   agents = held_in link_at t.agents;
+  journal = held_in act_at t.journal;
 }
 
 -- the world that the parts make
@@ -150,6 +165,7 @@ assembled p = record {
   pool = p.pool;
   blocks = p.blocks;
   agents = p.agents;
+  journal = latest_first p.journal;
 }
 
 abbrev pub content : Tables → World
@@ -168,20 +184,24 @@ AreWhole v t =
     × (IsTable name_cmp case_at t.requests × (IsTable seat_cmp seat_at t.queue
     × (IsTable seat_cmp advice_at t.advice × (IsTable nat_cmp prefix_at t.pool
     × (IsTable block_cmp holder_at t.blocks × (IsTable place_cmp hold_at t.holds
-    × (IsTable name_cmp minute_at t.minutes × IsTable link_cmp link_at t.agents)))))))))))
+    × (IsTable name_cmp minute_at t.minutes × (IsTable link_cmp link_at t.agents
+    × IsTable nat_cmp act_at t.journal))))))))))))
 
--- a range is a registry's that is there, a mark an entry's that expires, and a minute a renewal's
+-- a range is a registry's that is there, a mark an entry's that expires, and a minute a renewal's;
+-- and the numbers of acts are 1, 2, 3 ..
 pub record AreTiedBy (largest : FinMap text_cmp ℕ) (spans : FinMap place_cmp Range)
     (marks : FinMap place_cmp (Unit {0})) (registered : FinMap place_cmp Registration)
-    (texts : FinMap name_cmp (List ℕ)) (cases : FinMap name_cmp Case) : Type 0 where
+    (texts : FinMap name_cmp (List ℕ)) (cases : FinMap name_cmp Case)
+    (numbered : FinMap nat_cmp Act) : Type 0 where
   pub ranges : (place : Place) → IsSome (get spans place) → IsSome (get largest place.0)
   pub holds : (place : Place) → contains_key marks place ≡ true
       → (a : Registration) × (get registered place ≡ Some a) × IsSome a.term.expires
   pub minutes : (name : RequestName) → IsSome (get texts name)
       → (case : Case) × (get cases name ≡ Some case) × (is_renewal case.ask ≡ true)
+  pub acts : AreCounted numbered
 
 abbrev pub AreTied : Parts → Type 0
-AreTied p = AreTiedBy p.maxes p.ranges p.holds p.entries p.minutes p.requests
+AreTied p = AreTiedBy p.maxes p.ranges p.holds p.entries p.minutes p.requests p.journal
 
 pub record AreKept (v : Version) (t : Tables) : Type 0 where
   pub whole : AreWhole v t

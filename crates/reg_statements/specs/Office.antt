@@ -6,6 +6,7 @@ use Rattle.reg_core.specs.Holding.{holder_in, holding_row}
 use Rattle.reg_core.specs.Request.{case_of, request_row}
 use Rattle.reg_core.specs.declared.holding.Holder.{Holder}
 use Rattle.reg_core.specs.declared.holding.Holding.{Holding}
+use Rattle.reg_core.specs.declared.journal.Act.{Act}
 use Rattle.reg_core.specs.declared.request.Case.{Case}
 use Rattle.reg_core.specs.declared.request.Request.{Request}
 use Rattle.reg_core.specs.Entry.{entry_row, registration_in}
@@ -14,6 +15,7 @@ use Rattle.reg_core.specs.declared.advice.Advice.{Advice}
 use Rattle.reg_core.specs.declared.capability.Cap.{Cap}
 use Rattle.reg_core.specs.declared.entry.Entry.{Entry}
 use Rattle.reg_core.specs.declared.entry.Registration.{Registration}
+use Rattle.reg_records.specs.Acts.{act_in, act_values, is_numbered_act}
 use Rattle.reg_records.specs.Advice.{advice_in, advice_values, is_expert_advice}
 use Rattle.reg_records.specs.Links.{is_link, link_in, link_values}
 use Rattle.reg_records.specs.Caps.{grant_in, grant_values, is_grant}
@@ -30,6 +32,7 @@ use Rattle.reg_records.specs.declared.ranges.RegistryRange.{RegistryRange}
 use Rattle.reg_records.specs.declared.registries.Registry.{Registry}
 use Rattle.reg_records.specs.Pool.{is_prefix, prefix_in, prefix_values}
 use Rattle.reg_records.specs.Queue.{is_seat, seat_in, seat_values}
+use Rattle.reg_records.specs.declared.acts.NumberedAct.{NumberedAct}
 use Rattle.reg_records.specs.declared.advice.ExpertAdvice.{ExpertAdvice}
 use Rattle.reg_records.specs.declared.links.Link as linked
 use Rattle.reg_records.specs.declared.caps.Grant.{Grant}
@@ -38,8 +41,8 @@ use Rattle.reg_records.specs.declared.minutes.Minute.{Minute}
 use Rattle.reg_records.specs.declared.queue.Seat as queued
 use Rattle.reg_tables.specs.Schema.{advice_table, blocks_table, caps_table, entries_table, pool_table}
 use Rattle.reg_tables.specs.Schema.{queue_table, ranges_table, registries_table, requests_table}
-use Rattle.reg_tables.specs.Schema.{agents_table, holds_table, minutes_table}
-use Rattle.reg_statements.specs.Content.{advice_at, cap_at, case_at, hold_at, holder_at, link_at}
+use Rattle.reg_tables.specs.Schema.{agents_table, holds_table, journal_table, minutes_table}
+use Rattle.reg_statements.specs.Content.{act_at, advice_at, cap_at, case_at, hold_at, holder_at, link_at}
 use Rattle.reg_statements.specs.Content.{max_at, minute_at, prefix_at, range_at, registration_at, seat_at}
 use Rattle.reg_statements.specs.Parts.{TableDef, block_key, link_key, name_key, number_key, place_key}
 use Rattle.reg_statements.specs.Parts.{seat_key, text_key}
@@ -249,4 +252,21 @@ agents = record {
   rows = λ t. t.agents;
   part = λ p. p.agents;
   put = λ m p. record p { agents = m };
+}
+
+abbrev pub journal : TableDef NumberedAct ℕ Act
+journal = record {
+  key = number_key;
+  table = journal_table;
+  slot = 13;
+  width = 13;
+  read = act_in;
+  values = act_values;
+  form = is_numbered_act;
+  pair = λ a. (a.number, a.act);
+  item = λ number act. record { number = number; act = act };
+  at = act_at;
+  rows = λ t. t.journal;
+  part = λ p. p.journal;
+  put = λ m p. record p { journal = m };
 }

@@ -17,6 +17,7 @@ use Rattle.reg_core.specs.declared.advice.Advice.{Advice}
 use Rattle.reg_core.specs.declared.capability.Cap.{Cap}
 use Rattle.reg_core.specs.declared.entry.Registration.{Registration}
 use Rattle.reg_core.specs.declared.holding.Holder.{Holder}
+use Rattle.reg_core.specs.declared.journal.Act.{Act}
 use Rattle.reg_core.specs.declared.request.Case.{Case}
 use Rattle.reg_records.specs.Columns.{whole_value}
 use Rattle.reg_tables.specs.Values.{same_value}
@@ -24,7 +25,7 @@ use Rattle.reg_statements.specs.Tables.{Tables}
 
 -- what each table holds; of a registry its largest value, and its ranges by their first values; of
 -- entries and requests what their own rows have, and in parts of their own the marks of those that
--- are held and the minutes of those that name one
+-- are held and the minutes of those that name one; acts by their numbers
 pub record Parts : Type 0 where
   pub caps : FinMap text_cmp Cap
   pub maxes : FinMap text_cmp ℕ
@@ -38,6 +39,7 @@ pub record Parts : Type 0 where
   pub holds : FinMap place_cmp (Unit {0})
   pub minutes : FinMap name_cmp (List ℕ)
   pub agents : FinMap link_cmp (Unit {0})
+  pub journal : FinMap nat_cmp Act
 
 -- ---- Keys
 

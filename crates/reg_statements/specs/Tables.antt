@@ -4,7 +4,7 @@ use Rattle.sqlite.specs.Order.{Row}
 use Rattle.sqlite.specs.Tree.{Trees}
 use Rattle.sqlite_rules.specs.Edit.{IsNoIndex}
 use Rattle.reg_tables.specs.Schema.{office_schema, office_table, caps_table, registries_table, ranges_table, entries_table, requests_table, queue_table, advice_table, pool_table, blocks_table}
-use Rattle.reg_tables.specs.Schema.{holds_table, minutes_table, agents_table}
+use Rattle.reg_tables.specs.Schema.{holds_table, minutes_table, agents_table, journal_table}
 
 -- the rows of the tables; those of a database
 pub record Tables : Type 0 where
@@ -21,6 +21,7 @@ pub record Tables : Type 0 where
   pub holds : List Row
   pub minutes : List Row
   pub agents : List Row
+  pub journal : List Row
 
 abbrev pub tables_in : Trees → Tables
 tables_in trees = record {
@@ -37,6 +38,7 @@ tables_in trees = record {
   holds = trees holds_table.tree;
   minutes = trees minutes_table.tree;
   agents = trees agents_table.tree;
+  journal = trees journal_table.tree;
 }
 
 -- each tree that is neither this one nor an index's is as it was

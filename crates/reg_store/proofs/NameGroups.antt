@@ -9,7 +9,7 @@ use Rattle.reg_maps.proofs.Orderings.{tie}
 use Rattle.reg_core.specs.File.{same_name, seats_of}
 use Rattle.reg_core.specs.World.{RequestName, name_cmp, seat_cmp}
 
-same_name-tie : (q a : RequestName) → same_name q a ≡ is_at (name_cmp q) a
+pub same_name-tie : (q a : RequestName) → same_name q a ≡ is_at (name_cmp q) a
 same_name-tie q a =
     (λ i. sym (is_eq-slice_cmp q.0 a.0) i && sym (is_eq-slice_cmp q.1 a.1) i)
     ∙ sym (tie (text_cmp q.0 a.0) (text_cmp q.1 a.1))

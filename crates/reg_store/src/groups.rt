@@ -1,12 +1,12 @@
 //! Rows in groups: a map of maps.
-ghost use Rattle.std.specs.Prelude.{◌≡◌, None, map, IfOk, OnOk, OnErr, option_and_then};
+ghost use Rattle.std.specs.Prelude.{◌≡◌, None, map, IfOk, OnOk, OnErr, IsSome, option_and_then};
 ghost use Rattle.std.specs.Fn.{FnOnceReturnsAtMut};
 ghost use Rattle.std.specs.Option.{option_copied};
 ghost use Rattle.std.specs.BTreeMap as tree;
 ghost use Rattle.std.specs.FinMap as fin;
 ghost use Rattle.reg_maps.specs.Maps.{update};
 ghost use Rattle.reg_maps.specs.Groups.{pair_map, group_at, group_rows, rows_of};
-ghost use Rattle.reg_store.specs.Maps.{Computes};
+ghost use Rattle.reg_store.specs.Maps.{Computes, HasOneMore, HaveSameItems};
 
 use crate::maps::{Key, change_at, push_rows};
 use std::alloc::{AllocError, Global};
@@ -120,4 +120,25 @@ pub fn take_row<A: Key, B: Key + Drop, V: Drop>(
     if let Some(group) = groups.get_mut(first) {
         group.remove(second);
     }
+}
+
+/// Pushes an item to the list at two keys.
+pub fn push_item<A: Key, B: Key, T: Drop>(
+    groups: &mut BTreeMap<A, BTreeMap<B, Vec<T>>>,
+    first: &A,
+    second: &B,
+    item: T,
+) -> Result<(), AllocError>
+    requires { IsSome (fin.get (pair_map A.cmp B.cmp groups.old) (first.now, second.now)) }
+    ensures ok { OnOk result (HasOneMore (pair_map A.cmp B.cmp groups.old)
+        (pair_map A.cmp B.cmp groups.new) (first.now, second.now) item) }
+    ensures err { OnErr result (HaveSameItems (pair_map A.cmp B.cmp groups.old)
+        (pair_map A.cmp B.cmp groups.new)) }
+{
+    if let Some(group) = groups.get_mut(first) {
+        if let Some(list) = group.get_mut(second) {
+            list.push(item)?;
+        }
+    }
+    Ok(())
 }

@@ -6,7 +6,7 @@ use Rattle.sqlite_tied.specs.Compute.{everything}
 use Rattle.reg_tables.specs.Having.{AreDefined, AreNamed, Defines, unplaced}
 use Rattle.reg_tables.specs.Making.{AreCountless}
 use Rattle.reg_tables.specs.Schema.{advice_table, agents_table, blocks_table, caps_table, entries_table}
-use Rattle.reg_tables.specs.Schema.{holds_table, minutes_table, office_schema, office_table, office_texts}
+use Rattle.reg_tables.specs.Schema.{holds_table, journal_table, minutes_table, office_schema, office_table, office_texts}
 use Rattle.reg_tables.specs.Schema.{pool_table, queue_table, ranges_table, registries_table, requests_table}
 use Rattle.reg_tables.specs.declared.texts.TheConstants as texts
 
@@ -62,8 +62,12 @@ agents_defined : Defines texts.MAKE_AGENTS.now (unplaced agents_table)
 unfolding everything
 agents_defined = record { parsed = _; is = refl; makes = refl; whole = refl; defined = refl }
 
+journal_defined : Defines texts.MAKE_JOURNAL.now (unplaced journal_table)
+unfolding everything
+journal_defined = record { parsed = _; is = refl; makes = refl; whole = refl; defined = refl }
+
 pub all_defined : AreDefined office_texts office_schema.tables
-all_defined = (office_defined, (caps_defined, (registries_defined, (ranges_defined, (entries_defined, (requests_defined, (queue_defined, (advice_defined, (pool_defined, (blocks_defined, (holds_defined, (minutes_defined, (agents_defined, tt)))))))))))))
+all_defined = (office_defined, (caps_defined, (registries_defined, (ranges_defined, (entries_defined, (requests_defined, (queue_defined, (advice_defined, (pool_defined, (blocks_defined, (holds_defined, (minutes_defined, (agents_defined, (journal_defined, tt))))))))))))))
 
 pub all_named : AreNamed office_schema.tables
 unfolding same_name

@@ -18,7 +18,7 @@ use Rattle.reg_tables.specs.Connection.{Works}
 use Rattle.reg_tables.specs.Having.{AreFreeLater, FindsTable, FindsTablesOf, HasTable}
 use Rattle.reg_tables.specs.Version.{later_than, schema_of, table_count, tables_of}
 use Rattle.reg_tables.specs.declared.version.Version.{Version}
-use Rattle.reg_tables.specs.declared.version.Version.TheVariants.{First, Second, Third}
+use Rattle.reg_tables.specs.declared.version.Version.TheVariants.{First, Second, Third, Fourth}
 use Rattle.reg_tables.specs.Making.{IsBlank, no_schema}
 use Rattle.reg_tables.specs.Schema.{office_schema}
 use Rattle.reg_tables.proofs.Library.EachOf.{all_if, all_then}
@@ -88,12 +88,14 @@ unfolding same_name
 version_has First = found_from (schema_of First) [] (tables_of First) refl refl
 version_has Second = found_from (schema_of Second) [] (tables_of Second) refl refl
 version_has Third = found_from (schema_of Third) [] (tables_of Third) refl refl
+version_has Fourth = found_from (schema_of Fourth) [] (tables_of Fourth) refl refl
 
 version_lacks : (v : Version) → AreFreeLater v (schema_of v)
 unfolding same_name
 version_lacks First = free_by (schema_of First) (later_than First) refl
 version_lacks Second = free_by (schema_of Second) (later_than Second) refl
 version_lacks Third = free_by (schema_of Third) (later_than Third) refl
+version_lacks Fourth = free_by (schema_of Fourth) (later_than Fourth) refl
 
 -- the schema of a version has its tables, and no name of those that it lacks
 pub version_found : (v : Version) (schema : Schema) → schema ≡ schema_of v

@@ -4,7 +4,7 @@ use Rattle.sqlite.specs.Listing.{understood}
 use Rattle.sqlite_tied.specs.Compute.{everything}
 use Rattle.reg_tables.specs.Schema.{office_table, caps_table, registries_table, ranges_table}
 use Rattle.reg_tables.specs.Schema.{requests_table, queue_table, pool_table}
-use Rattle.reg_tables.specs.Schema.{blocks_table, holds_table, minutes_table, agents_table}
+use Rattle.reg_tables.specs.Schema.{blocks_table, holds_table, minutes_table, agents_table, journal_table}
 use Rattle.reg_tables.specs.declared.texts.TheConstants as texts
 use Rattle.reg_tables.proofs.GivenRows.{AddsGiven}
 
@@ -51,3 +51,7 @@ adds_minutes = record { slot = refl; is = refl; plain = (refl, refl); counts = r
 pub adds_agents : AddsGiven texts.INSERT_AGENTS.now 12 agents_table
 unfolding understood everything
 adds_agents = record { slot = refl; is = refl; plain = (refl, refl); counts = refl; stamps = refl; writes = refl }
+
+pub adds_acts : AddsGiven texts.INSERT_JOURNAL.now 13 journal_table
+unfolding understood everything
+adds_acts = record { slot = refl; is = refl; plain = (refl, refl); counts = refl; stamps = refl; writes = refl }

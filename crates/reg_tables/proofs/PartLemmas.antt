@@ -10,10 +10,11 @@ use Rattle.sqlite_rules.proofs.ListLemmas.{all_has, has_got}
 use Rattle.sqlite_schema.specs.Names.{same_name, table_named}
 use Rattle.sqlite_schema.specs.declared.schema.Index.{Index}
 use Rattle.reg_tables.specs.Having.{FindsTable, FindsTablesOf, GainsTables, keys_of}
-use Rattle.reg_tables.specs.Schema.{agents_table, blocks_table, minutes_table, office_schema}
+use Rattle.reg_tables.specs.Schema.{agents_table, blocks_table, journal_table, minutes_table}
+use Rattle.reg_tables.specs.Schema.{office_schema}
 use Rattle.reg_tables.specs.Version.{index_count, later_than, schema_of, table_count, tables_of}
 use Rattle.reg_tables.specs.declared.version.Version.{Version}
-use Rattle.reg_tables.specs.declared.version.Version.TheVariants.{First, Second, Third}
+use Rattle.reg_tables.specs.declared.version.Version.TheVariants.{First, Second, Third, Fourth}
 
 -- ---- Numbers below one
 
@@ -36,6 +37,7 @@ abbrev last_of : Version → Table
 last_of First = blocks_table
 last_of Second = minutes_table
 last_of Third = agents_table
+last_of Fourth = journal_table
 
 -- the schema with the office's first so many tables, and these indexes
 abbrev with_first : ℕ → List Index → Schema

@@ -4,7 +4,7 @@ use Rattle.sqlite.specs.Listing.{understood}
 use Rattle.sqlite_tied.specs.Compute.{everything}
 use Rattle.reg_tables.specs.Joining.{queued_query}
 use Rattle.reg_tables.specs.Schema.{advice_table, agents_table, blocks_table, caps_table, entries_table}
-use Rattle.reg_tables.specs.Schema.{holds_table, minutes_table, office_table, pool_table, queue_table}
+use Rattle.reg_tables.specs.Schema.{holds_table, journal_table, minutes_table, office_table, pool_table, queue_table}
 use Rattle.reg_tables.specs.Schema.{ranges_table, registries_table, requests_table}
 use Rattle.reg_tables.specs.Seats.{seats_query}
 use Rattle.reg_tables.specs.Selecting.{IsTextOf, SelectsFrom, column_names, columns_of, equals, ordered_by}
@@ -167,3 +167,24 @@ pub principals_of_agent : SelectsFrom 13 texts.SELECT_PRINCIPALS_OF.now 25 (equa
     (columns_of 2) (ordered_by (1 ∷ []))
 unfolding understood everything
 principals_of_agent = record { names = column_names agents_table; is = λ _ _. refl; plain = (refl, refl); unlisted = λ _ _. refl }
+
+-- ---- Acts
+
+pub all_acts : SelectsFrom 14 texts.SELECT_JOURNAL.now 28 [] (columns_of 13) (ordered_by (1 ∷ []))
+unfolding understood everything
+all_acts = record { names = column_names journal_table; is = λ _ _. refl; plain = (refl, refl); unlisted = λ _ _. refl }
+
+pub acts_of_day : SelectsFrom 14 texts.SELECT_ACTS_ON.now 28 (equals ((2, 0) ∷ []))
+    (columns_of 13) (ordered_by (1 ∷ []))
+unfolding understood everything
+acts_of_day = record { names = column_names journal_table; is = λ _ _. refl; plain = (refl, refl); unlisted = λ _ _. refl }
+
+pub acts_of_actor : SelectsFrom 14 texts.SELECT_ACTS_BY.now 28 (equals ((4, 0) ∷ []))
+    (columns_of 13) (ordered_by (1 ∷ []))
+unfolding understood everything
+acts_of_actor = record { names = column_names journal_table; is = λ _ _. refl; plain = (refl, refl); unlisted = λ _ _. refl }
+
+pub acts_of_request : SelectsFrom 14 texts.SELECT_ACTS_ABOUT.now 28 (equals ((7, 0) ∷ (8, 1) ∷ []))
+    (columns_of 13) (ordered_by (1 ∷ []))
+unfolding understood everything
+acts_of_request = record { names = column_names journal_table; is = λ _ _. refl; plain = (refl, refl); unlisted = λ _ _. refl }

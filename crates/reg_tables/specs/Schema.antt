@@ -86,7 +86,7 @@ office_table = table (codes "office") 0
     []
     []
 
--- the thirteen tables with their indexes; the table that a CREATE TABLE makes, for each of them
+-- the fourteen tables with their indexes; the table that a CREATE TABLE makes, for each of them
 abbrev pub caps_table : Table
 caps_table = table (codes "caps") 1
     (text (codes "digest") ∷
@@ -223,6 +223,25 @@ agents_table = table (codes "agents") 25
     ((1 ∷ 2 ∷ []) ∷ (2 ∷ 1 ∷ []) ∷ [])
     []
 
+abbrev pub journal_table : Table
+journal_table = table (codes "journal") 28
+    (whole (codes "number") ∷
+    whole_or_null (codes "day") ∷
+    whole_or_null (codes "second") ∷
+    text_or_null (codes "actor") ∷
+    text_or_null (codes "token") ∷
+    text (codes "kind") ∷
+    text_or_null (codes "account") ∷
+    text_or_null (codes "reference") ∷
+    text_or_null (codes "other") ∷
+    text_or_null (codes "verdict") ∷
+    text_or_null (codes "registry") ∷
+    whole_or_null (codes "value") ∷
+    text_or_null (codes "size") ∷
+    [])
+    ((1 ∷ []) ∷ (7 ∷ 8 ∷ 1 ∷ []) ∷ [])
+    []
+
 -- the texts that make the tables, in order
 abbrev pub office_texts : List (List ℕ)
 office_texts =
@@ -239,6 +258,7 @@ office_texts =
     texts.MAKE_HOLDS.now ∷
     texts.MAKE_MINUTES.now ∷
     texts.MAKE_AGENTS.now ∷
+    texts.MAKE_JOURNAL.now ∷
     []
 
 abbrev pub office_schema : Schema
@@ -257,6 +277,7 @@ office_schema = record {
       holds_table ∷
       minutes_table ∷
       agents_table ∷
+      journal_table ∷
       [];
   indexes =
       index (codes "sqlite_autoindex_caps_1") 2 1 (1 ∷ []) ∷
@@ -274,6 +295,8 @@ office_schema = record {
       index (codes "sqlite_autoindex_minutes_1") 24 23 (1 ∷ 2 ∷ []) ∷
       index (codes "sqlite_autoindex_agents_1") 26 25 (1 ∷ 2 ∷ []) ∷
       index (codes "sqlite_autoindex_agents_2") 27 25 (2 ∷ 1 ∷ []) ∷
+      index (codes "sqlite_autoindex_journal_1") 29 28 (1 ∷ []) ∷
+      index (codes "sqlite_autoindex_journal_2") 30 28 (7 ∷ 8 ∷ 1 ∷ []) ∷
       [];
   views = [];
 }

@@ -6,27 +6,30 @@ use Rattle.sqlite_catalog.specs.Change.{next_tree}
 use Rattle.sqlite.specs.Table.{Table}
 use Rattle.reg_tables.specs.Schema.{office_schema}
 use Rattle.reg_tables.specs.declared.version.Version.{Version}
-use Rattle.reg_tables.specs.declared.version.Version.TheVariants.{First, Second, Third}
+use Rattle.reg_tables.specs.declared.version.Version.TheVariants.{First, Second, Third, Fourth}
 
 -- how many tables a version has, and how many indexes
 abbrev pub table_count : Version → ℕ
 table_count First = 10
 table_count Second = 12
 table_count Third = 13
+table_count Fourth = 14
 
 abbrev pub index_count : Version → ℕ
 index_count First = 11
 index_count Second = 13
 index_count Third = 15
+index_count Fourth = 17
 
 abbrev pub number_of : Version → ℤ
 number_of First = pos 1
 number_of Second = pos 2
 number_of Third = pos 3
+number_of Fourth = pos 4
 
 -- the version that the tables are made of
 abbrev pub newest : Version
-newest = Third
+newest = Fourth
 
 -- the tables of a version are the first of the newest's: a later version only adds some
 abbrev pub tables_of : Version → List Table

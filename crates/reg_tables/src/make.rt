@@ -20,7 +20,7 @@ use sqlite::types::ValueRef;
 use sqlite::{Connection, Error, Transaction};
 
 /// The statements that make the tables, in the order in which the versions brought them.
-const TABLES: [&str; 13] = [
+const TABLES: [&str; 14] = [
     texts::MAKE_OFFICE,
     texts::MAKE_CAPS,
     texts::MAKE_REGISTRIES,
@@ -34,6 +34,7 @@ const TABLES: [&str; 13] = [
     texts::MAKE_HOLDS,
     texts::MAKE_MINUTES,
     texts::MAKE_AGENTS,
+    texts::MAKE_JOURNAL,
 ];
 
 /// Those of them that make the tables that a version lacks.

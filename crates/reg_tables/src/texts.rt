@@ -70,6 +70,12 @@ pub const MAKE_AGENTS: &str =
     "CREATE TABLE agents (principal TEXT NOT NULL, agent TEXT NOT NULL, PRIMARY KEY (principal, \
      agent), UNIQUE (agent, principal)) STRICT";
 
+/// Makes the table of acts.
+pub const MAKE_JOURNAL: &str =
+    "CREATE TABLE journal (number INT NOT NULL PRIMARY KEY, day INTEGER, second INTEGER, actor \
+     TEXT, token TEXT, kind TEXT NOT NULL, account TEXT, reference TEXT, other TEXT, verdict TEXT, \
+     registry TEXT, value INTEGER, size TEXT, UNIQUE (account, reference, number)) STRICT";
+
 /// The version of the schema.
 pub const SELECT_VERSION: &str = "SELECT version FROM office";
 
@@ -204,6 +210,26 @@ pub const SELECT_AGENTS_OF: &str =
 pub const SELECT_PRINCIPALS_OF: &str =
     "SELECT principal, agent FROM agents WHERE agent = ?1 ORDER BY principal";
 
+/// All acts, by their numbers.
+pub const SELECT_JOURNAL: &str =
+    "SELECT number, day, second, actor, token, kind, account, reference, other, verdict, registry, \
+     value, size FROM journal ORDER BY number";
+
+/// The acts of a day, by their numbers.
+pub const SELECT_ACTS_ON: &str =
+    "SELECT number, day, second, actor, token, kind, account, reference, other, verdict, registry, \
+     value, size FROM journal WHERE day = ?1 ORDER BY number";
+
+/// The acts that an account made, by their numbers.
+pub const SELECT_ACTS_BY: &str =
+    "SELECT number, day, second, actor, token, kind, account, reference, other, verdict, registry, \
+     value, size FROM journal WHERE actor = ?1 ORDER BY number";
+
+/// The acts about a request, by their numbers.
+pub const SELECT_ACTS_ABOUT: &str =
+    "SELECT number, day, second, actor, token, kind, account, reference, other, verdict, registry, \
+     value, size FROM journal WHERE account = ?1 AND reference = ?2 ORDER BY number";
+
 /// Adds the row that says the version.
 pub const INSERT_VERSION: &str = "INSERT INTO office (version) VALUES (?1)";
 
@@ -246,6 +272,12 @@ pub const INSERT_MINUTES: &str =
 
 /// Makes an account the agent of a principal.
 pub const INSERT_AGENTS: &str = "INSERT INTO agents (principal, agent) VALUES (?1, ?2)";
+
+/// Adds an act.
+pub const INSERT_JOURNAL: &str =
+    "INSERT INTO journal (number, day, second, actor, token, kind, account, reference, other, \
+     verdict, registry, value, size) VALUES (?1, ?2, ?3, ?4, ?5, ?6, ?7, ?8, ?9, ?10, ?11, ?12, \
+     ?13)";
 
 /// Adds the advice of an expert on a request, or puts it in the place of what the expert gave.
 pub const PUT_ADVICE: &str =

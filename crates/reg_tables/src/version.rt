@@ -9,10 +9,11 @@ pub enum Version {
     First,
     Second,
     Third,
+    Fourth,
 }
 
 /// The version that the tables are made of.
-pub const NEWEST: Version = Version::Third;
+pub const NEWEST: Version = Version::Fourth;
 
 impl Version {
     /// The number by which a store says its version.
@@ -23,6 +24,7 @@ impl Version {
             Version::First => 1,
             Version::Second => 2,
             Version::Third => 3,
+            Version::Fourth => 4,
         }
     }
 
@@ -34,6 +36,7 @@ impl Version {
             Version::First => 10,
             Version::Second => 12,
             Version::Third => 13,
+            Version::Fourth => 14,
         }
     }
 }

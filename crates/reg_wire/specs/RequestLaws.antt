@@ -1,7 +1,7 @@
 -- The laws of requests and answers over HTTP.
 use Rattle.std.specs.Prelude.{◌≡◌, ◌≢◌, ℕ, List, [], ◌∷◌, ◌++◌, Bool, true, false, not, map, filter, filter_map, Option, None, Some, Result, Ok, Err}
 use Rattle.std.specs.List.{AllZip}
-use Rattle.reg_core.specs.Striking.{AreAlikeTo, HasNoneUnseen, ShowSame, reply_lists_others, reply_without}
+use Rattle.reg_core.specs.Striking.{AreAlikeTo, ListsNoneUnseen, ShowSame, reply_lists_others, reply_without}
 use Rattle.reg_core.specs.Unseen.{Stage, stages, is_unseen, kept_stages, struck}
 use Rattle.reg_core.specs.Run.{run, world_after}
 use Rattle.reg_core.specs.View.{cap_at, view_of}
@@ -133,7 +133,7 @@ pub record AreWrittenAlike (account : List ℕ) (unseen : RequestName → Bool) 
         → reply_text (answer.Reply s.reply) ≡ reply_text (answer.Reply t.reply)
     pub rows : reply_text (answer.Reply (reply_without unseen s.reply))
         ≡ reply_text (answer.Reply (reply_without unseen t.reply))
-    pub without : HasNoneUnseen unseen t.before
+    pub without : ListsNoneUnseen unseen t.before t.reply
         → reply_text (answer.Reply t.reply)
         ≡ reply_text (answer.Reply (reply_without unseen s.reply))
 

@@ -4,12 +4,12 @@ ghost use Rattle.std.specs.List.Sorted.{IsStrictlyIncreasing};
 
 use crate::reading::blocks::text_of;
 use crate::reading::members::Members;
-use jiff::civil::Date;
 use json::Scratch;
 use reg_core::entry::PageEntry;
 use reg_core::page::{Page, PageEntries};
 use reg_core::text::{Account, Name, Text};
 use reg_early::day::Day;
+use reg_early::day_reading::read_day;
 use reg_early::term::{Status, Term};
 use reg_print::parts::front;
 use reg_ranges::policy::Treatment;
@@ -189,27 +189,6 @@ fn day_if(text: Option<&str>) -> Result<Option<Day>, Unpublished> {
 
 fn day_of(text: &str) -> Result<Day, Unpublished> {
     read_day(text.as_bytes()).ok_or(Unpublished::Read)
-}
-
-// The day that is written as YYYY-MM-DD.
-fn read_day(text: &[u8]) -> Option<Day> {
-    let (year, rest) = text.split_at_checked(4)?;
-    let (month, day) = rest.strip_prefix(b"-".as_slice())?.split_at_checked(2)?;
-    let day = day.strip_prefix(b"-".as_slice())?;
-    let year = i16::try_from(digits_of(year)?).ok()?;
-    let month = i8::try_from(digits_of(month)?).ok()?;
-    let day = i8::try_from(digits_of(day)?).ok()?;
-    let date = Date::new(year, month, day).ok()?;
-    let days = date.to_plain().to_unix_epoch_day();
-    Day::from_days(u32::try_from(days).ok()?)
-}
-
-// The number that these digits write, with leading zeros.
-fn digits_of(text: &[u8]) -> Option<u32> {
-    if !text.iter().all(|byte| byte.is_ascii_digit()) {
-        return None;
-    }
-    str::from_utf8(text).ok()?.parse().ok()
 }
 
 fn read_ranges(alloc: Global, members: &mut Members<'_>) -> Result<Vec<Range>, Unpublished> {

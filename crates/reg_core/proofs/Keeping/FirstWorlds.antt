@@ -5,10 +5,14 @@ use Rattle.std.specs.FinMap.{get-empty}
 use Rattle.std.specs.Ordering.{nat_cmp}
 use Rattle.reg_maps.specs.Maps.{text_cmp}
 use Rattle.reg_blocks.specs.Block.{block_cmp}
+use Rattle.reg_core.specs.Journal.{acts_of, stamp_of_job, with_acts}
 use Rattle.reg_core.specs.Laws.{FirstWorldsAreWellKept, clerk_cap}
 use Rattle.reg_core.specs.WellKept.{WellKept}
-use Rattle.reg_core.specs.World.{name_cmp, place_cmp, seat_cmp, link_cmp, empty_world}
+use Rattle.reg_core.specs.World.{name_cmp, place_cmp, seat_cmp, link_cmp, empty_world, applied}
+use Rattle.reg_core.specs.declared.change.Change.{Change}
+use Rattle.reg_core.specs.declared.change.Change.TheVariants.{Grant}
 use Rattle.reg_core.proofs.Keeping.Changes.{can_grant}
+use Rattle.reg_core.proofs.Keeping.OtherMaps.{with_journal}
 
 -- a map without rows has none
 absent : {A P : Type 0} {o : Option A} {x : A} → o ≡ None → o ≡ Some x → P
@@ -41,6 +45,9 @@ pub first_worlds_kept : FirstWorldsAreWellKept
 first_worlds_kept = (
   empty_kept,
   λ digest form.
+      let first : Change = Grant digest clerk_cap in
+      with_journal (applied empty_world first)
       (can_grant empty_world digest clerk_cap empty_kept (both_true form refl)
-      (get-empty text_cmp digest)).1,
+      (get-empty text_cmp digest)).1
+      (with_acts (acts_of (stamp_of_job None) empty_world first) empty_world.journal),
 )

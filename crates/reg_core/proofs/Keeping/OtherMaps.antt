@@ -18,6 +18,7 @@ use Rattle.reg_core.specs.declared.advice.Advice.{Advice}
 use Rattle.reg_core.specs.declared.capability.Cap.{Cap}
 use Rattle.reg_core.specs.declared.entry.Registration.{Registration}
 use Rattle.reg_core.specs.declared.holding.Holder.{Holder}
+use Rattle.reg_core.specs.declared.journal.Act.{Act}
 use Rattle.reg_core.specs.declared.request.Case.{Case}
 use Rattle.reg_maps.proofs.KeySets.{each_key, still_in, still_at}
 use Rattle.reg_core.proofs.KeyOrders.{name_keys, place_keys, block_keys, link_keys}
@@ -99,6 +100,10 @@ module _ (w : World) (kept : WellKept w) where
       → ((link : Link) → contains_key agents link ≡ true → has_link_form link ≡ true)
       → WellKept (record w { agents = agents })
   with_agents agents forms = assumption
+
+  -- nothing is said of the journal
+  pub with_journal : (journal : List Act) → WellKept (record w { journal = journal })
+  with_journal journal = assumption
 
 -- ---- One row more, or another in its place
 

@@ -1,9 +1,10 @@
 -- Every run from a well kept world ends in one.
 use Rattle.std.proofs.Common.{◌≡◌, true, List, [], ◌∷◌, ℕ}
 use Rattle.reg_core.proofs.Common.{first_so, second_so, has_command_form, Event, have_forms, step_of}
-use Rattle.reg_core.proofs.Common.{WellKept, World, applied_if}
+use Rattle.reg_core.proofs.Common.{WellKept, World, acts_of, applied, carried, stamp_in, with_acts}
 use Rattle.reg_core.specs.Laws.{GivesDigests, RunsKeepWell}
 use Rattle.reg_core.proofs.Fitting.{due_fits}
+use Rattle.reg_core.proofs.Keeping.OtherMaps.{with_journal}
 use Rattle.reg_core.proofs.Outcomes.Dues.{each_step}
 
 module _ (digest_of : List ℕ → List ℕ) (digests : GivesDigests digest_of) where
@@ -11,9 +12,11 @@ module _ (digest_of : List ℕ → List ℕ) (digests : GivesDigests digest_of) 
       → WellKept (step_of digest_of w e).world
   step_keeps_well w kept e form =
       each_step digest_of w e.caller e.moment e.command
-      (λ change. WellKept (applied_if w change)) kept
+      (λ change. WellKept (carried w e.caller e.moment change)) kept
       (λ change is.
-      (due_fits w kept e.caller e.moment is.is_open change is.due (is.form digests form)).1)
+      with_journal (applied w change)
+      (due_fits w kept e.caller e.moment is.is_open change is.due (is.form digests form)).1
+      (with_acts (acts_of (stamp_in w e.caller e.moment) w change) w.journal))
 
   pub runs_keep : RunsKeepWell digest_of
   runs_keep w [] kept forms = kept

@@ -5,7 +5,7 @@ use Rattle.reg_core.proofs.Common.{nat_tests, first_so, second_so, get, contains
 use Rattle.reg_core.proofs.Common.{utc_day, Outcome, Answer, change_by, by_rule, case_by, own_row}
 use Rattle.reg_core.proofs.Common.{made_row, item, public_answer, as_kind, own_answer, expert_answer}
 use Rattle.reg_core.proofs.Common.{answer_at, answer, begins_with, is_of, cap_list, caps_that, same_kind}
-use Rattle.reg_core.proofs.Common.{counts, file, waiting_files, was_advised, page_entry, with_hold}
+use Rattle.reg_core.proofs.Common.{counts, file, was_advised, page_entry, with_hold}
 use Rattle.reg_core.proofs.Common.{holding_row, holding_rows, listed_rows, with_mark, agent_rows}
 use Rattle.reg_core.proofs.Common.{principal_names, page, queue_rows, with_advice, private_rule}
 use Rattle.reg_core.proofs.Common.{advise_rule, is_clerk, acts_as_clerk, desk_by, clerk_answer}
@@ -14,16 +14,19 @@ use Rattle.reg_core.proofs.Common.{queue_of, agents_of, principals_of, personal,
 use Rattle.reg_core.proofs.Common.{view_of, World, RequestName, Cap, Kind, Command, ApplicantCommand}
 use Rattle.reg_core.proofs.Common.{ExpertCommand, ClerkCommand, PublicCommand, Told, Decision, Refusal}
 use Rattle.reg_core.proofs.Common.{SizedPrefix, Holder, Case, by_test, queued_found, own_agent}
-use Rattle.reg_core.proofs.Common.{own_principal, own_principal_rows}
+use Rattle.reg_core.proofs.Common.{own_principal, own_principal_rows, own_principal_times}
+use Rattle.reg_core.proofs.Common.{acts_where, is_about, is_by, is_on, own_times, times_answer, times_by}
+use Rattle.reg_core.proofs.Common.{same_text, times_rows, token_answer, unchanged, waiting_list, TimesCommand}
 use Rattle.std.proofs.lemmas.Result.{IfOk-at_ok, IfOk-weaker}
 use Rattle.std.specs.Prelude.{Option, Some, None, Result, Ok, Err, IfOk, is_some, option_map, nat_le, nat_lt, if◌then◌else◌}
 use Rattle.reg_core.specs.Allowance.{◌>>=◌, or_refusal, allowed, ground_of}
 use Rattle.reg_core.specs.Request.{request_rows, word_of}
 use Rattle.reg_core.specs.declared.capability.Kind.TheVariants as kind
-use Rattle.reg_core.specs.declared.command.Command.TheVariants.{Public, Applicant, Expert, Clerk}
+use Rattle.reg_core.specs.declared.command.Command.TheVariants.{Public, Token, Applicant, Times, Expert, Clerk}
+use Rattle.reg_core.specs.declared.command.TimesCommand.TheVariants as times
 use Rattle.reg_core.specs.declared.command.ApplicantCommand.TheVariants.{Own, OwnOne, Submit, Withdraw, Holdings, SetListing, SetAgent, Agents, Principals, PrincipalRows}
 use Rattle.reg_core.specs.declared.command.ExpertCommand.TheVariants.{Queue, Advise}
-use Rattle.reg_core.specs.declared.command.ClerkCommand.TheVariants.{AllRequests, OneRequest, AssignExpert, Approve, Decline, SetHold, Define, AddPool, Grant, Revoke, PendingRequests, AllCapabilities, RevokeDigits, RevokeAccount, CountRows}
+use Rattle.reg_core.specs.declared.command.ClerkCommand.TheVariants.{AllRequests, OneRequest, AssignExpert, Approve, Decline, SetHold, Define, AddPool, Grant, Revoke, PendingRequests, AllCapabilities, RevokeDigits, RevokeAccount, CountRows, ActsOn, ActsBy, ActsAbout}
 use Rattle.reg_core.specs.declared.command.PublicCommand.TheVariants.{Registries, Registry, RegistryCsv, PoolList, BlocksCsv}
 use Rattle.reg_core.specs.declared.told.Told.TheVariants as tells
 use Rattle.reg_core.specs.declared.refusal.Refusal.TheVariants as no
@@ -98,6 +101,13 @@ OwnSo w account (PrincipalRows principal) o =
     Row (get w.agents (principal, account))
     (λ link. Tells (tells.Rows (request_rows (requests_of principal w))) o)
 
+abbrev pub TimesSo : World → List ℕ → TimesCommand → Outcome → Type 0
+TimesSo w account times.Own o =
+    Tells (tells.Times (times_rows (times_by (λ applicant. same_text applicant account) w))) o
+TimesSo w account (times.Principal principal) o =
+    Row (get w.agents (principal, account)) (λ link.
+    Tells (tells.Times (times_rows (times_by (λ applicant. same_text applicant principal) w))) o)
+
 -- the request is there, and assigned to the account
 pub record Assigned (w : World) (name : RequestName) (account : List ℕ)
     (So : Case → Type 0) : Type 0 where
@@ -150,7 +160,7 @@ ClerkSo digest_of w in_use moment today (Revoke token) o =
     Comes (Revokes in_use (get w.caps (digest_of token)) (digest_of token))
     (λ decision. tells.Revoked) o
 ClerkSo digest_of w in_use moment today PendingRequests o =
-    Tells (tells.Cases (waiting_files w)) o
+    Tells (tells.Waiting (waiting_list w)) o
 ClerkSo digest_of w in_use moment today AllCapabilities o =
     Tells (tells.Capabilities (cap_list w.caps)) o
 ClerkSo digest_of w in_use moment today (RevokeDigits digits) o =
@@ -161,6 +171,12 @@ ClerkSo digest_of w in_use moment today (RevokeAccount account) o =
     Comes (RevokesAll in_use rows) (λ decision. tells.Capabilities rows) o
 ClerkSo digest_of w in_use moment today CountRows o =
     Tells (tells.Counts (counts moment today w)) o
+ClerkSo digest_of w in_use moment today (ActsOn day) o = Tells (tells.Acts (acts_where (is_on day) w)) o
+ClerkSo digest_of w in_use moment today (ActsBy account) o =
+    Tells (tells.Acts (acts_where (is_by account) w)) o
+ClerkSo digest_of w in_use moment today (ActsAbout account reference) o =
+    Row (get w.requests (account, reference))
+    (λ case. Tells (tells.ActsAbout (acts_where (is_about (account, reference)) w)) o)
 
 -- ---- Whose command it was
 
@@ -171,6 +187,14 @@ pub record Serves (w : World) (caller : Option (List ℕ)) (moment : ℕ) (kind 
   pub of_kind : same_kind cap.kind kind ≡ true
   pub valid : moment < cap.until
 
+-- the caller has a capability, which is valid at the moment
+pub record HasValid (w : World) (caller : Option (List ℕ)) (moment : ℕ) (So : Cap → Type 0) : Type 0
+  where
+    pub cap : Cap
+    pub is_there : cap_at w caller ≡ Some cap
+    pub valid : moment < cap.until
+    pub so : So cap
+
 -- the caller is a clerk, known by the digest of its token
 pub record ClerkServes (w : World) (caller : Option (List ℕ)) (moment : ℕ) : Type 0 where
   pub digest : List ℕ
@@ -180,8 +204,11 @@ pub record ClerkServes (w : World) (caller : Option (List ℕ)) (moment : ℕ) :
 module _ (digest_of : List ℕ → List ℕ) (w : World) (caller : Option (List ℕ)) (moment : ℕ) where
   abbrev pub CommandSo : Command → Outcome → Type 0
   CommandSo (Public command) o = PublicSo w (utc_day moment) command o
+  CommandSo Token o = HasValid w caller moment (λ cap. Tells (tells.InUse cap) o)
   CommandSo (Applicant command) o =
       (by : Serves w caller moment kind.Applicant) × OwnSo w by.cap.account command o
+  CommandSo (Times command) o =
+      (by : Serves w caller moment kind.Applicant) × TimesSo w by.cap.account command o
   CommandSo (Expert command) o =
       (by : Serves w caller moment kind.Expert) × ExpertSo w by.cap.account command o
   CommandSo (Clerk command) o =
@@ -268,6 +295,16 @@ module _ (w : World) (today : ℕ) where
       (own_principal_rows account principal w (ap is_some is))))
   own_so account command = refl
 
+  times_so : (account : List ℕ) (command : TimesCommand)
+      → IfOk (times_answer account (personal account w) (Some (own_times account w)) command)
+      (TimesSo w account command)
+  times_so account times.Own = refl
+  times_so account (times.Principal principal) =
+      rw own_principal
+      (row_so no.Principal (get w.agents (principal, account)) _ _ (λ link is.
+      ap (λ m. record { told = tells.Times (times_rows m); change = None })
+      (own_principal_times account principal w (ap is_some is))))
+
   expert_so : (account : List ℕ) (command : ExpertCommand)
       → IfOk (expert_answer account (personal account w) command) (ExpertSo w account command)
   expert_so account Queue = refl
@@ -291,6 +328,8 @@ module _ (w : World) (today : ℕ) where
       → IfOk (clerk_answer digest_of w in_use moment today command)
       (ClerkSo digest_of w in_use moment today command)
   clerk_so digest_of in_use moment (OneRequest account reference) =
+      row_so no.Request (get w.requests (account, reference)) _ _ (λ case is. refl)
+  clerk_so digest_of in_use moment (ActsAbout account reference) =
       row_so no.Request (get w.requests (account, reference)) _ _ (λ case is. refl)
   clerk_so digest_of in_use moment (AssignExpert account reference expert) =
       row_so no.Request (get w.requests (account, reference)) _ _ (λ case is.
@@ -366,6 +405,28 @@ module _ (w : World) (caller : Option (List ℕ)) (moment : ℕ) where
           (each by))
           (λ other. tt))
 
+  -- of what anybody with a valid token is answered about it
+  token_so : IfOk (token_answer (option_map (with_personal w) (cap_at w caller)) moment)
+      (λ o. HasValid w caller moment (λ cap. Tells (tells.InUse cap) o))
+  token_so = by_cap (cap_at w caller) refl
+    where
+      Served : Outcome → Type 0
+      Served o = HasValid w caller moment (λ cap. Tells (tells.InUse cap) o)
+
+      by_cap : (o : Option Cap) → cap_at w caller ≡ o
+          → IfOk (token_answer (option_map (with_personal w) o) moment) Served
+      by_cap None is = tt
+      by_cap (Some cap) is =
+          let P : Result Cap Refusal → Type 0 =
+          λ r. IfOk (r >>= (λ (c : Cap). unchanged (tells.InUse c))) Served in
+          by_test P (nat_le cap.until moment) (Err no.Token) (Ok cap) (λ past. tt)
+          (λ late. record {
+            cap = cap;
+            is_there = is;
+            valid = late_is moment cap.until late;
+            so = refl;
+          })
+
   module _ (digest_of : List ℕ → List ℕ) where
     abbrev Accepts : Command → Outcome → Type 0
     Accepts command o = IsAccepted digest_of w caller moment command o
@@ -376,10 +437,16 @@ module _ (w : World) (caller : Option (List ℕ)) (moment : ℕ) where
     at_so (Public given) now =
         IfOk-weaker _ (PublicSo w (utc_day moment) given) (Accepts (Public given))
         (λ o so. record { is_open = now; so = so }) (public_so w (utc_day moment) given)
+    at_so Token now =
+        IfOk-weaker _ _ (Accepts Token) (λ o so. record { is_open = now; so = so }) token_so
     at_so (Applicant given) now =
         IfOk-weaker _ _ (Accepts (Applicant given)) (λ o so. record { is_open = now; so = so })
         (kind_so kind.Applicant _ (λ by. OwnSo w by.cap.account given)
         (λ by. own_so w (utc_day moment) by.cap.account given))
+    at_so (Times given) now =
+        IfOk-weaker _ _ (Accepts (Times given)) (λ o so. record { is_open = now; so = so })
+        (kind_so kind.Applicant _ (λ by. TimesSo w by.cap.account given)
+        (λ by. rw by.is_there (times_so w (utc_day moment) by.cap.account given)))
     at_so (Expert given) now =
         IfOk-weaker _ _ (Accepts (Expert given)) (λ o so. record { is_open = now; so = so })
         (kind_so kind.Expert _ (λ by. ExpertSo w by.cap.account given)
@@ -416,8 +483,10 @@ module _ (digest_of : List ℕ → List ℕ) (w : World) where
       → IfOk (answer_to digest_of w caller moment command)
       (IsAccepted digest_of w caller moment command)
   answer_to_so caller moment (Public given) = view_so w caller moment digest_of (Public given)
+  answer_to_so caller moment Token = view_so w caller moment digest_of Token
   answer_to_so caller moment (Applicant given) =
       view_so w caller moment digest_of (Applicant given)
+  answer_to_so caller moment (Times given) = view_so w caller moment digest_of (Times given)
   answer_to_so caller moment (Expert given) = view_so w caller moment digest_of (Expert given)
   answer_to_so None moment (Clerk given) = view_so w None moment digest_of (Clerk given)
   answer_to_so (Some digest) moment (Clerk given) =

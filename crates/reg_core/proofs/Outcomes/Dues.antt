@@ -20,7 +20,8 @@ use Rattle.reg_core.specs.Request.{word_of}
 use Rattle.reg_core.specs.declared.ask.Ask.TheVariants.{Block}
 use Rattle.reg_core.specs.declared.capability.Kind.TheVariants as kind
 use Rattle.reg_core.specs.declared.change.Change.TheVariants.{Grant, Revoke, RevokeAll, Define, AddPool, Submit, Close, Assign, Advise, GiveValue, GiveBlock, SetPrivate, SetHold, SetAgent}
-use Rattle.reg_core.specs.declared.command.Command.TheVariants.{Public, Applicant, Expert, Clerk}
+use Rattle.reg_core.specs.declared.command.Command.TheVariants.{Public, Token, Applicant, Times, Expert, Clerk}
+use Rattle.reg_core.specs.declared.command.TimesCommand.TheVariants as times
 use Rattle.reg_core.specs.declared.command.ApplicantCommand.TheVariants as applicant
 use Rattle.reg_core.specs.declared.command.ExpertCommand.TheVariants as expert
 use Rattle.reg_core.specs.declared.command.ClerkCommand.TheVariants as clerk
@@ -321,6 +322,7 @@ module _ (digest_of : List ℕ → List ℕ) (w : World) (caller : Option (List 
   due_so (Public (public.RegistryCsv name)) o change a made =
       absurd (nothing_made a.so.so made)
   due_so (Public command) o change a made = absurd (nothing_made a.so made)
+  due_so Token o change a made = absurd (nothing_made a.so.so made)
   due_so (Applicant (applicant.OwnOne reference)) o change a made =
       absurd (nothing_made a.so.1.so made)
   due_so (Applicant (applicant.Submit reference ask)) o change a made =
@@ -351,6 +353,7 @@ module _ (digest_of : List ℕ → List ℕ) (w : World) (caller : Option (List 
       ))
   due_so (Applicant (applicant.PrincipalRows principal)) o change a made =
       absurd (nothing_made a.so.1.so made)
+  due_so (Times (times.Principal principal)) o change a made = absurd (nothing_made a.so.1.so made)
   due_so (Expert (expert.Advise account reference advice)) o change a made =
       let is = a.so.1 in
       due_by a.is_open is.so made (λ word. (
@@ -365,6 +368,8 @@ module _ (digest_of : List ℕ → List ℕ) (w : World) (caller : Option (List 
             second_so (is_name account && is_name reference) (has_advice_form advice) form,
       ))
   due_so (Clerk (clerk.OneRequest account reference)) o change a made =
+      absurd (nothing_made a.so.1.so made)
+  due_so (Clerk (clerk.ActsAbout account reference)) o change a made =
       absurd (nothing_made a.so.1.so made)
   due_so (Clerk (clerk.AssignExpert account reference expert)) o change a made =
       due_by a.is_open a.so.1.so made (λ facts. (

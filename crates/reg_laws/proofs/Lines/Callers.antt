@@ -4,18 +4,20 @@ use Rattle.std.specs.Prelude.{Option, Some, None, Ok, Err, option_map, nat_le, n
 use Rattle.reg_core.proofs.Common.{first_so, second_so, both_true, get, nat_tests, is_in_clock, utc_day}
 use Rattle.reg_core.proofs.Common.{Answer, as_kind, answer_at, answer, same_kind, is_clerk}
 use Rattle.reg_core.proofs.Common.{acts_as_clerk, clerk_answer, answer_to, Personal, personal}
-use Rattle.reg_core.proofs.Common.{with_personal, cap_at, view_of, WellKept, World}
+use Rattle.reg_core.proofs.Common.{with_personal, cap_at, view_of, WellKept, World, stamp_in}
+use Rattle.reg_core.proofs.Common.{token_answer, unchanged as only_tells}
 use Rattle.reg_laws.proofs.Types.{Cap, Kind, Command}
 use Rattle.reg_core.proofs.Common.{same_kind-decides, by_test}
 use Rattle.reg_laws.proofs.Types.{ClerkCommand}
 use Rattle.reg_core.specs.Allowance.{◌>>=◌}
 use Rattle.reg_core.specs.declared.capability.Kind.TheVariants as kind
-use Rattle.reg_core.specs.declared.command.Command.TheVariants.{Public, Applicant, Expert, Clerk}
+use Rattle.reg_core.specs.declared.command.Command.TheVariants.{Public, Token, Applicant, Times, Expert, Clerk}
 use Rattle.reg_core.specs.declared.refusal.Refusal.TheVariants as no
-use Rattle.reg_laws.proofs.Lines.Commands.{public_goes, own_goes, expert_goes, clerk_goes}
-use Rattle.reg_laws.proofs.Lines.Turns.{By, fails}
-use Rattle.reg_laws.specs.AnswerLines.{Lines, refuses, ◌or_else◌}
-use Rattle.reg_laws.specs.CommandLines.{clerk_lines, IsOutsideYears, kind_lines, open_lines, command_lines, CommandsGoByTheirLines}
+use Rattle.reg_core.specs.declared.told.Told.TheVariants as tells
+use Rattle.reg_laws.proofs.Lines.Commands.{public_goes, own_goes, times_goes, expert_goes, clerk_goes}
+use Rattle.reg_laws.proofs.Lines.Turns.{By, by_any, fails}
+use Rattle.reg_laws.specs.AnswerLines.{Lines, refuses, unchanged, ◌or_else◌}
+use Rattle.reg_laws.specs.CommandLines.{clerk_lines, IsOutsideYears, kind_lines, token_lines, open_lines, command_lines, CommandsGoByTheirLines}
 
 -- ---- Moments
 
@@ -89,6 +91,18 @@ module _ (w : World) (moment : ℕ) where
           inr (valid cap.until moment l, inl (other_kind cap.kind kind s, refl))
       by false true l s =
           admits kind cap lines _ (valid cap.until moment l) s (each cap refl l s)
+
+  -- anybody with a valid token is told of it
+  token_goes : (o : Option Cap)
+      → By w (token_lines moment o) (token_answer (option_map (with_personal w) o) moment)
+  token_goes None = refl
+  token_goes (Some cap) = by (nat_le cap.until moment) refl
+    where
+      by : (late : Bool) → nat_le cap.until moment ≡ late
+          → By w (refuses no.Token (cap.until ≤ moment) or_else unchanged)
+          ((if late then Err no.Token else Ok cap) >>= (λ (c : Cap). only_tells (tells.InUse c)))
+      by true l = inl (over cap.until moment l, refl)
+      by false l = inr (valid cap.until moment l, (refl, refl))
 
   -- whoever is answered by its view
   view_goes : (caller : Option (List ℕ)) (lines : Lines) (command : Command)
@@ -164,10 +178,17 @@ module _ (w : World) (moment : ℕ) where
     goes caller (Public given) =
         view_goes caller (open_lines digest_of w caller moment (Public given)) (Public given)
         (public_goes w (utc_day moment) given)
+    goes caller Token =
+        view_goes caller (open_lines digest_of w caller moment Token) Token
+        (token_goes (cap_at w caller))
     goes caller (Applicant given) =
         view_goes caller (open_lines digest_of w caller moment (Applicant given)) (Applicant given)
         (kind_goes kind.Applicant (cap_at w caller) _ _
         (λ cap is valid same. own_goes w kept cap.account given))
+    goes caller (Times given) =
+        view_goes caller (open_lines digest_of w caller moment (Times given)) (Times given)
+        (kind_goes kind.Applicant (cap_at w caller) _ _
+        (λ cap is valid same. rw is (times_goes w cap.account given)))
     goes caller (Expert given) =
         view_goes caller (open_lines digest_of w caller moment (Expert given)) (Expert given)
         (kind_goes kind.Expert (cap_at w caller) _ _
@@ -177,4 +198,6 @@ module _ (w : World) (moment : ℕ) where
     goes (Some digest) (Clerk given) = clerk_by digest given (get w.caps digest)
 
 pub commands_go : (digest_of : List ℕ → List ℕ) → CommandsGoByTheirLines digest_of
-commands_go digest_of w caller moment command kept = goes w moment kept digest_of caller command
+commands_go digest_of w caller moment command kept =
+    by_any (stamp_in w caller moment) w (command_lines digest_of w caller moment command)
+    (answer_to digest_of w caller moment command) (goes w moment kept digest_of caller command)

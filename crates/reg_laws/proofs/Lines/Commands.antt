@@ -11,6 +11,8 @@ use Rattle.reg_core.proofs.Common.{decline_rule, assign_rule, new_advice_rule, a
 use Rattle.reg_core.proofs.Common.{change_to_give, give_rule, approve_rule, define_rule, pool_rule}
 use Rattle.reg_core.proofs.Common.{grant_rule, revoke_rule, clerk_answer, published, personal, queued_to}
 use Rattle.reg_core.proofs.Common.{as_queued, WellKept, World, RequestName, Place}
+use Rattle.reg_core.proofs.Common.{own_times, times_answer}
+use Rattle.reg_core.specs.declared.command.TimesCommand.{TimesCommand}
 use Rattle.reg_laws.proofs.Types.{Advice, Ask, Cap}
 use Rattle.reg_laws.proofs.Types.{ApplicantCommand, ExpertCommand, ClerkCommand, PublicCommand}
 use Rattle.reg_laws.proofs.Types.{Decision, Holder, Refusal, Case, State, Pending, Approved, Declined}
@@ -23,9 +25,10 @@ use Rattle.reg_blocks.specs.Pool.{first_octet, is_pool_prefix}
 use Rattle.reg_early.specs.declared.term.Status.TheVariants as status
 use Rattle.reg_core.specs.Allowance.{◌>>=◌, or_refusal, allowance_on, allowed, ground_of}
 use Rattle.reg_core.specs.Request.{word_of}
-use Rattle.reg_core.specs.declared.command.ApplicantCommand.TheVariants.{Own, OwnOne, Submit, Withdraw, SetListing, SetAgent, PrincipalRows}
+use Rattle.reg_core.specs.declared.command.ApplicantCommand.TheVariants.{OwnOne, Submit, Withdraw, SetListing, SetAgent, PrincipalRows}
 use Rattle.reg_core.specs.declared.command.ExpertCommand.TheVariants.{Queue, Advise}
-use Rattle.reg_core.specs.declared.command.ClerkCommand.TheVariants.{OneRequest, AssignExpert, Approve, Decline, SetHold, Define, AddPool, Grant, Revoke, RevokeDigits, RevokeAccount}
+use Rattle.reg_core.specs.declared.command.ClerkCommand.TheVariants.{OneRequest, AssignExpert, Approve, Decline, SetHold, Define, AddPool, Grant, Revoke, RevokeDigits, RevokeAccount, ActsAbout}
+use Rattle.reg_core.specs.declared.command.TimesCommand.TheVariants as times
 use Rattle.reg_core.specs.declared.command.PublicCommand.TheVariants.{Registry, RegistryCsv}
 use Rattle.reg_core.specs.declared.change.Change.TheVariants as change
 use Rattle.reg_core.specs.declared.refusal.Refusal.TheVariants as no
@@ -37,7 +40,7 @@ use Rattle.reg_laws.proofs.Lines.Revocations.{revoke_digits_goes, revoke_account
 use Rattle.reg_laws.proofs.Lines.Turns.{By, row, fails, other_text, same_texts}
 use Rattle.reg_laws.specs.AnswerLines.{Lines, refuses, is_there, ◌or_else◌, accepted, of_row}
 use Rattle.reg_laws.specs.AskLines.{ask_lines, IsReviewed}
-use Rattle.reg_laws.specs.CommandLines.{public_lines, own_lines, expert_lines, hold_lines, IsNoPrefix, clerk_lines}
+use Rattle.reg_laws.specs.CommandLines.{public_lines, own_lines, times_lines, expert_lines, hold_lines, IsNoPrefix, clerk_lines}
 
 -- what is answered by a rule goes by the lines
 abbrev Ruled : World → Lines → (Decision → Told) → Result Decision Refusal → Type 0
@@ -456,6 +459,14 @@ module _ (w : World) where
         (row w no.Principal (get w.agents (principal, account)) _ _ (λ link is. (refl, refl)))
     own_goes account command = (refl, refl)
 
+  pub times_goes : (account : List ℕ) (command : TimesCommand)
+      → By w (times_lines w account command)
+      (times_answer account (personal account w) (Some (own_times account w)) command)
+  times_goes account times.Own = (refl, refl)
+  times_goes account (times.Principal principal) =
+      rw (own_principal account principal w)
+      (row w no.Principal (get w.agents (principal, account)) _ _ (λ link is. (refl, refl)))
+
   -- ---- An expert
 
   queued_goes : (account : List ℕ) (name : RequestName) (advice : Advice) (o : Option Case)
@@ -501,6 +512,8 @@ module _ (w : World) where
         → By w (clerk_lines digest_of w (Some in_use) today command)
         (clerk_answer digest_of w in_use moment today command)
     clerk_goes in_use moment today (OneRequest account reference) =
+        row w no.Request (get w.requests (account, reference)) _ _ (λ case is. (refl, refl))
+    clerk_goes in_use moment today (ActsAbout account reference) =
         row w no.Request (get w.requests (account, reference)) _ _ (λ case is. (refl, refl))
     clerk_goes in_use moment today (AssignExpert account reference expert) =
         row w no.Request (get w.requests (account, reference)) _ _

@@ -1,15 +1,33 @@
 -- An answer goes by lines, check after check.
-use Rattle.std.proofs.Common.{◌≡◌, ℕ, Bool, true, false, List, refl, sym, subst, ◌∙◌}
+use Rattle.std.proofs.Common.{◌≡◌, ℕ, Bool, true, false, List, refl, sym, subst, ◌∙◌, inl, inr}
 use Rattle.std.specs.Prelude.{Option, Some, None, Result, Ok, Err}
-use Rattle.reg_core.proofs.Common.{bytes_eq-Decides, same_text, Answer, World}
+use Rattle.reg_core.proofs.Common.{bytes_eq-Decides, same_text, Answer, World, change_of}
 use Rattle.reg_laws.proofs.Types.{Refusal}
 use Rattle.reg_core.specs.Allowance.{◌>>=◌, or_refusal}
+use Rattle.reg_core.specs.Journal.{stamp_of_job}
 use Rattle.reg_core.specs.Step.{stepped}
-use Rattle.reg_laws.specs.AnswerLines.{Lines, of_row, GoesBy}
+use Rattle.reg_core.specs.declared.journal.Stamp.{Stamp}
+use Rattle.reg_core.proofs.Journals.{stays_by_any}
+use Rattle.reg_laws.specs.AnswerLines.{Lines, refuses, is_there, ◌or_else◌, refused, accepted, unchanged, of_row, GoesBy}
 
--- the step of an answer goes by the lines
+-- the step of an answer goes by the lines, whoever is answered and when
 abbrev pub By : World → Lines → Answer → Type 0
-By w lines a = GoesBy lines w (stepped w a)
+By w lines a = GoesBy lines w (stepped (stamp_of_job None) w a)
+
+-- what goes by the lines does so by any stamp
+pub by_any : (stamp : Stamp) (w : World) (lines : Lines) (a : Answer) → By w lines a
+    → GoesBy lines w (stepped stamp w a)
+by_any stamp w ((refuses refusal So) or_else more) a h = elim h [
+  | inl so ↦ inl so
+  | inr rest ↦ inr (rest.0, by_any stamp w more a rest.1)
+]
+by_any stamp w ((is_there So) or_else more) a h = elim h [
+  | inl so ↦ inl (so.0, so.1, stays_by_any (stamp_of_job None) stamp w (change_of a) so.2)
+  | inr rest ↦ inr (rest.0, by_any stamp w more a rest.1)
+]
+by_any stamp w (refused refusal) a h = h
+by_any stamp w accepted a h = h
+by_any stamp w unchanged a h = (h.0, stays_by_any (stamp_of_job None) stamp w (change_of a) h.1)
 
 -- a test that is false of what holds only where it is true
 pub fails : {So : Type 0} (b : Bool) → (So → b ≡ true) → b ≡ false → ¬ So

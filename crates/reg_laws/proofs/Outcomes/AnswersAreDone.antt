@@ -4,21 +4,23 @@ use Rattle.std.specs.Prelude.{Option, Some, None, Ok, Err, is_some, option_map}
 use Rattle.reg_core.proofs.Common.{get, update, number_keys, text_keys, get-inserted, get-updated}
 use Rattle.reg_core.proofs.Common.{get-removed, utc_day, held_term, Award, awarded_entry, new_holding}
 use Rattle.reg_core.proofs.Common.{begins_with, is_of, caps_that, page_entry, with_hold, with_mark}
-use Rattle.reg_core.proofs.Common.{World, RequestName, in_state, without, applied, applied_if, pending}
+use Rattle.reg_core.proofs.Common.{World, RequestName, in_state, without, applied_if, carried, pending}
 use Rattle.reg_core.proofs.Common.{Seat}
-use Rattle.reg_laws.proofs.Types.{CapRow, Change, Command, Decision, Registration, Holder, Case}
+use Rattle.reg_laws.proofs.Types.{Cap, CapRow, Change, Command, Decision, Registration, Holder, Case}
 use Rattle.reg_core.proofs.Common.{name_keys, place_keys}
 use Rattle.reg_laws.proofs.Types.{State, Approved, Declined, Withdrawn}
 use Rattle.reg_core.proofs.Common.{seat_keys, block_keys, Outcome, Answer, reply_of, change_of}
 use Rattle.reg_core.proofs.Common.{change_by, made_row, has_token, change_to_give, desk_by, answer_to}
 use Rattle.reg_core.proofs.Common.{HaveGone, cap_at, link_is, agent_list}
 use Rattle.reg_laws.proofs.Types.{Told, Make, Same}
-use Rattle.reg_core.proofs.Common.{principal_list}
+use Rattle.reg_core.proofs.Common.{principal_list, FinMap, text_cmp}
+use Rattle.reg_core.proofs.Journals.{carried_is}
 use Rattle.reg_maps.proofs.KeySets.{is_inserted}
-use Rattle.reg_core.specs.declared.command.Command.TheVariants.{Public, Applicant, Expert, Clerk}
+use Rattle.reg_core.specs.declared.command.Command.TheVariants.{Public, Token, Applicant, Times, Expert, Clerk}
+use Rattle.reg_core.specs.declared.command.TimesCommand.TheVariants as times
 use Rattle.reg_core.specs.declared.command.ApplicantCommand.TheVariants.{Own, OwnOne, Submit, Withdraw, Holdings, SetListing, SetAgent, Agents, Principals, PrincipalRows}
 use Rattle.reg_core.specs.declared.command.ExpertCommand.TheVariants.{Queue, Advise}
-use Rattle.reg_core.specs.declared.command.ClerkCommand.TheVariants.{AllRequests, OneRequest, AssignExpert, Approve, Decline, SetHold, Define, AddPool, Grant, Revoke, PendingRequests, AllCapabilities, RevokeDigits, RevokeAccount, CountRows}
+use Rattle.reg_core.specs.declared.command.ClerkCommand.TheVariants.{AllRequests, OneRequest, AssignExpert, Approve, Decline, SetHold, Define, AddPool, Grant, Revoke, PendingRequests, AllCapabilities, RevokeDigits, RevokeAccount, CountRows, ActsOn, ActsBy, ActsAbout}
 use Rattle.reg_core.specs.declared.command.PublicCommand.TheVariants.{Registries, Registry, RegistryCsv, PoolList, BlocksCsv}
 use Rattle.reg_core.specs.declared.request.Given.TheVariants.{Value, Block}
 use Rattle.reg_core.specs.Laws.{IsDone, WasDone, AnswersAreDone, TakesJust, is_refused}
@@ -28,8 +30,8 @@ use Rattle.reg_core.specs.declared.change.Change.TheVariants as change
 use Rattle.reg_core.proofs.Outcomes.Accepted.{Comes, CommandSo, accepted}
 use Rattle.reg_laws.proofs.Capabilities.{takes_just, have_gone}
 use Rattle.reg_laws.proofs.Lines.Turns.{other_text}
-use Rattle.reg_laws.proofs.Outcomes.ClerkLists.{pending_list, cap_list_whole}
-use Rattle.reg_laws.proofs.Outcomes.WholeLists.{entry_list, block_list, own_list, holding_list, queue_list}
+use Rattle.reg_laws.proofs.Outcomes.ClerkLists.{cap_list_whole, waiting_list_whole}
+use Rattle.reg_laws.proofs.Outcomes.WholeLists.{entry_list, block_list, own_list, holding_list, queue_list, times_list}
 
 -- ---- The forms of an outcome
 
@@ -101,12 +103,12 @@ module _ (digest_of : List ℕ → List ℕ) (w : World) (caller : Option (List 
   -- after the command and its outcome all is as the caller is told
   abbrev pub Done : Command → Outcome → Type 0
   Done command o =
-      IsDone digest_of (applied_if w o.change) (cap_at w caller) moment command o.told
+      IsDone digest_of (carried w caller moment o.change) (cap_at w caller) moment command o.told
 
   -- after it makes this change the caller is told this
   abbrev DoneBy : Command → Told → Change → Type 0
   DoneBy command told change =
-      IsDone digest_of (applied w change) (cap_at w caller) moment command told
+      IsDone digest_of (carried w caller moment (Some change)) (cap_at w caller) moment command told
 
   -- a change approves the request, a line for each award
   given_done : (account reference : List ℕ) (case : Case) (award : Award)
@@ -126,20 +128,22 @@ module _ (digest_of : List ℕ → List ℕ) (w : World) (caller : Option (List 
   -- the capabilities that a clerk took away have gone
   all_gone : (in_use : List ℕ) (chosen : CapRow → Bool) (o : Outcome)
       → Took w in_use (caps_that chosen w.caps) o
-      → HaveGone (applied_if w o.change) chosen (caps_that chosen w.caps)
+      → HaveGone (carried w caller moment o.change) chosen (caps_that chosen w.caps)
   all_gone in_use chosen o took =
-      have_gone (applied_if w o.change) w.caps chosen (caps_that chosen w.caps)
-      (subst (λ (v : World). TakesJust w.caps v.caps chosen (caps_that chosen w.caps))
-      (sym took.after) (takes_just chosen w.caps))
+      have_gone (carried w caller moment o.change) w.caps chosen (caps_that chosen w.caps)
+      (subst (λ (m : FinMap text_cmp Cap). TakesJust w.caps m chosen (caps_that chosen w.caps))
+      (sym (ap (λ (v : World). v.caps) (carried_is w caller moment o.change)
+      ∙ ap (λ (v : World). v.caps) took.after)) (takes_just chosen w.caps))
 
   -- what is so of the capabilities that an outcome tells of is done
   told_done : (command : Command) (rows : List CapRow) (o : Outcome)
       → o.told ≡ tells.Capabilities rows
-      → IsDone digest_of (applied_if w o.change) (cap_at w caller) moment command
+      → IsDone digest_of (carried w caller moment o.change) (cap_at w caller) moment command
       (tells.Capabilities rows)
       → Done command o
   told_done command rows o told =
-      subst (IsDone digest_of (applied_if w o.change) (cap_at w caller) moment command) (sym told)
+      subst (IsDone digest_of (carried w caller moment o.change) (cap_at w caller) moment command)
+      (sym told)
 
   -- a line for each command
   done : (command : Command) (o : Outcome) → CommandSo digest_of w caller moment command o
@@ -153,6 +157,7 @@ module _ (digest_of : List ℕ → List ℕ) (w : World) (caller : Option (List 
       (refl, so.is, entry_list w name (utc_day moment))
   done (Public PoolList) o so = subst (Done (Public PoolList)) (sym so) refl
   done (Public BlocksCsv) o so = subst (Done (Public BlocksCsv)) (sym so) (block_list w)
+  done Token o so = subst (Done Token) (sym so.so) so.is_there
   done (Applicant Own) o so =
       subst (Done (Applicant Own)) (sym so.1)
       (so.0.cap, so.0.is_there, own_list w so.0.cap.account)
@@ -246,6 +251,12 @@ module _ (digest_of : List ℕ → List ℕ) (w : World) (caller : Option (List 
   done (Applicant (PrincipalRows principal)) o so =
       subst (Done (Applicant (PrincipalRows principal))) (sym so.1.so)
       (so.0.cap, so.0.is_there, ap is_some so.1.is, own_list w principal)
+  done (Times times.Own) o so =
+      subst (Done (Times times.Own)) (sym so.1)
+      (so.0.cap, so.0.is_there, times_list w so.0.cap.account)
+  done (Times (times.Principal principal)) o so =
+      subst (Done (Times (times.Principal principal))) (sym so.1.so)
+      (so.0.cap, so.0.is_there, ap is_some so.1.is, times_list w principal)
   done (Expert Queue) o so =
       subst (Done (Expert Queue)) (sym so.1)
       (so.0.cap, so.0.is_there, queue_list w so.0.cap.account)
@@ -331,7 +342,7 @@ module _ (digest_of : List ℕ → List ℕ) (w : World) (caller : Option (List 
       decided (Done (Clerk (Revoke token))) so.1 (λ there. there.1)
       (λ facts. get-removed text_keys w.caps (digest_of token))
   done (Clerk PendingRequests) o so =
-      subst (Done (Clerk PendingRequests)) (sym so.1) (pending_list w)
+      subst (Done (Clerk PendingRequests)) (sym so.1) (waiting_list_whole w)
   done (Clerk AllCapabilities) o so =
       subst (Done (Clerk AllCapabilities)) (sym so.1) (cap_list_whole w)
   done (Clerk (RevokeDigits digits)) o so =
@@ -343,6 +354,10 @@ module _ (digest_of : List ℕ → List ℕ) (w : World) (caller : Option (List 
       told_done (Clerk (RevokeAccount account)) _ o took.told
       (all_gone so.0.digest (is_of account) o took)
   done (Clerk CountRows) o so = subst (Done (Clerk CountRows)) (sym so.1) refl
+  done (Clerk (ActsOn day)) o so = subst (Done (Clerk (ActsOn day))) (sym so.1) refl
+  done (Clerk (ActsBy account)) o so = subst (Done (Clerk (ActsBy account))) (sym so.1) refl
+  done (Clerk (ActsAbout account reference)) o so =
+      subst (Done (Clerk (ActsAbout account reference))) (sym so.1.so) (ap is_some so.1.is, refl)
 
 -- an accepted command: its outcome, what was so, and that what its caller is told is so after it
 pub record IsAcceptedAndDone (digest_of : List ℕ → List ℕ) (w : World) (caller : Option (List ℕ))
@@ -374,7 +389,7 @@ pub all_done : (digest_of : List ℕ → List ℕ) → AnswersAreDone digest_of
 all_done digest_of w caller moment command = by (answer_to digest_of w caller moment command) refl
   where
     by : (a : Answer) → answer_to digest_of w caller moment command ≡ a
-        → WasDone digest_of (applied_if w (change_of a)) (cap_at w caller) moment command
+        → WasDone digest_of (carried w caller moment (change_of a)) (cap_at w caller) moment command
         (reply_of a)
     by (Ok o) is =
         done digest_of w caller moment command o

@@ -7,44 +7,51 @@ use Rattle.reg_core.proofs.Common.{false_from_ne_true, eq_by_cmp_equiv, eq_by_cm
 use Rattle.reg_core.proofs.Common.{only_if, IsKeyOrder, text_keys, pair_keys, tied, get-select}
 use Rattle.reg_core.proofs.Common.{All-entries, Contains-map, Contains-entries, ascending-entries}
 use Rattle.reg_core.proofs.Common.{ascending-keys, CapPlace, cap_place, cap_place_cmp, cap_row, cap_list}
-use Rattle.reg_core.proofs.Common.{file, name_of, waiting, waiting_files, is_pending, World, RequestName}
-use Rattle.reg_core.proofs.Common.{name_cmp, name_keys, get-chosen}
+use Rattle.reg_core.proofs.Common.{arrival_cmp, arrival_keys, by_arrival, get-by_arrival, is_pending, name_of}
+use Rattle.reg_core.proofs.Common.{waiting, waiting_file, waiting_list, World, RequestName, name_keys, get-chosen}
 use Rattle.reg_laws.proofs.Types.{Cap, CapRow, Case}
 use Rattle.std.proofs.lemmas.List.Elements.{All-head, All-tail, All-map, All-contains}
 use Rattle.std.proofs.lemmas.Simd.{map-map}
 use Rattle.reg_core.specs.CapRows.{by_account}
-use Rattle.reg_core.specs.Lists.{IsWaiting, PendingList, CapList}
-use Rattle.reg_core.specs.declared.case_file.CaseFile.{CaseFile}
+use Rattle.reg_core.specs.Lists.{IsWaiting, WaitingList, CapList}
+use Rattle.reg_core.specs.declared.case_file.WaitingFile.{WaitingFile}
 
--- ---- The requests that wait
+-- ---- The requests that wait, in the order in which they came
 
 module _ (w : World) where
   abbrev if_pending : Case → Option Case
   if_pending case = only_if (is_pending case.state) case
 
-  abbrev file_of : RequestName × Case → CaseFile
-  file_of e = file w e.0 e.1
+  abbrev file_of : RequestName × Case → WaitingFile
+  file_of e = waiting_file w e.0 e.1
 
-  is_waiting : (name : RequestName) (case : Case) → get (waiting w) name ≡ Some case
-      → IsWaiting w (file w name case)
+  abbrev arrived : FinMap (arrival_cmp w.journal) Case
+  arrived = by_arrival w.journal (waiting w)
+
+  is_waiting : (name : RequestName) (case : Case) → get arrived name ≡ Some case
+      → IsWaiting w (waiting_file w name case)
   is_waiting name case found =
-      let is = get-chosen name_keys (λ name case. is_pending case.state) w.requests name case found in
-      (((refl, refl, is.0), refl, refl), is.1)
+      let is = get-chosen name_keys (λ name case. is_pending case.state) w.requests name case
+      (sym (get-by_arrival w.journal (waiting w) name) ∙ found) in
+      (((refl, refl, is.0), refl, refl), is.1, refl)
 
-  pub pending_list : PendingList w (waiting_files w)
-  pending_list = record {
-    only = All-map (IsWaiting w) file_of (entries (waiting w))
-        (All-entries name_keys.total (λ e. IsWaiting w (file_of e)) (waiting w) is_waiting);
+  pub waiting_list_whole : WaitingList w (waiting_list w)
+  waiting_list_whole = record {
+    only = All-map (IsWaiting w) file_of (entries arrived)
+        (All-entries (arrival_keys w.journal).total (λ e. IsWaiting w (file_of e)) arrived is_waiting);
     every = λ account reference case is pends.
         let name : RequestName = (account, reference) in (
-          file w name case,
-          Contains-map file_of (entries (waiting w)) (name, case)
-              (Contains-entries name_keys (waiting w) name case
-              (get-select name_keys (λ name. if_pending) w.requests name
+          waiting_file w name case,
+          Contains-map file_of (entries arrived) (name, case)
+              (Contains-entries (arrival_keys w.journal) arrived name case
+              (get-by_arrival w.journal (waiting w) name
+              ∙ get-select name_keys (λ name. if_pending) w.requests name
               ∙ ap (option_and_then if_pending) is ∙ ap (λ b. only_if b case) pends)),
           ((refl, refl, is), refl, refl),
         );
-    ascending = ascending-entries name_cmp file_of name_of (λ e. refl) (waiting w);
+    ascending =
+        ascending-entries (arrival_cmp w.journal) file_of
+        (λ (waiting : WaitingFile). name_of waiting.file) (λ e. refl) arrived;
   }
 
 -- ---- All capabilities, by account and digest

@@ -1,5 +1,5 @@
 -- Pages and listings, an account's own list, its holdings and an expert's queue are whole.
-use Rattle.std.proofs.Common.{◌≡◌, ℕ, List, not, refl, sym, ap, subst, ◌∙◌}
+use Rattle.std.proofs.Common.{◌≡◌, ℕ, Bool, true, false, List, not, refl, sym, ap, subst, ◌∙◌}
 use Rattle.std.specs.Prelude.{Option, Some, None, option_and_then}
 use Rattle.reg_core.proofs.Common.{FinMap, get, entries, only_if, get-select, All-entries, Contains-map}
 use Rattle.reg_core.proofs.Common.{Contains-entries, ascending-entries, page_entry, SizedPrefix}
@@ -7,11 +7,13 @@ use Rattle.reg_core.proofs.Common.{block_cmp, queue_row, queue_rows, request_row
 use Rattle.reg_laws.proofs.Types.{Holder, Holding}
 use Rattle.reg_core.proofs.Common.{request_rows, published, entries_of, Queued, as_queued, requests_of}
 use Rattle.reg_core.proofs.Common.{holdings_of, queue_of, World, Place, RequestName, name_cmp, place_cmp}
+use Rattle.reg_core.proofs.Common.{bytes_eq-Decides, same_text, same_text-itself, times_by, times_of, times_row, times_rows, Times}
 use Rattle.reg_core.proofs.Common.{name_keys, place_keys}
 use Rattle.reg_laws.proofs.Types.{PageEntry, Registration, Case, Request}
 use Rattle.reg_core.proofs.Common.{block_keys, IsQueued, queued_found, found_queued}
 use Rattle.std.proofs.lemmas.List.Elements.{All-map}
-use Rattle.reg_core.specs.Lists.{EntryList, ShowsEntry, ShowsStanding, BlockList, ShowsHolder, ShowsHeld, HasRowOf, HasHoldingOf, HoldingList, IsItem, OwnList, QueueList}
+use Rattle.reg_core.specs.Lists.{EntryList, ShowsEntry, ShowsStanding, BlockList, ShowsHolder, ShowsHeld, HasRowOf, HasHoldingOf, HoldingList, HasTimesOf, IsItem, OwnList, QueueList, TimesList}
+use Rattle.reg_core.specs.declared.request.RequestTimes.{RequestTimes}
 use Rattle.reg_early.proofs.TermsInWords.{assigned, temporary, held as held_term, expired}
 use Rattle.reg_core.specs.Page.{page_entries}
 use Rattle.reg_core.specs.Holding.{ShownHolding, masked, masked_blocks, listed_row, listed_rows, holding_row, holding_rows}
@@ -133,6 +135,49 @@ module _ (w : World) (account : List ℕ) where
     );
     ascending = ascending-entries name_cmp own_row (λ row. (row.account, row.reference))
         (λ e. refl) own;
+  }
+
+  -- ---- Their times
+
+  abbrev its_times : FinMap name_cmp Times
+  its_times = times_by (λ applicant. same_text applicant account) w
+
+  abbrev time_row : RequestName × Times → RequestTimes
+  time_row e = times_row e.0 e.1
+
+  abbrev told_of : RequestName → Case → Option Times
+  told_of name case = only_if (same_text name.0 account) (times_of w.journal name case)
+
+  times_found : (name : RequestName) (times : Times) → get its_times name ≡ Some times
+      → HasTimesOf w account (times_row name times)
+  times_found name times found =
+      by (get w.requests name) refl (sym (get-select name_keys told_of w.requests name) ∙ found)
+    where
+      by : (o : Option Case) → get w.requests name ≡ o
+          → option_and_then (told_of name) o ≡ Some times → HasTimesOf w account (times_row name times)
+      by None is none = absurd (cc)
+      by (Some case) is some = mine (same_text name.0 account) refl some
+        where
+          mine : (b : Bool) → same_text name.0 account ≡ b
+              → only_if b (times_of w.journal name case) ≡ Some times
+              → HasTimesOf w account (times_row name times)
+          mine true t some =
+              let same : times_of w.journal name case ≡ times = cc in
+              ((bytes_eq-Decides name.0 account).0 t, case, is, ap (times_row name) (sym same))
+          mine false t some = absurd (cc)
+
+  pub times_list : TimesList w account (times_rows its_times)
+  times_list = record {
+    own = All-map (HasTimesOf w account) time_row (entries its_times)
+        (All-entries name_keys.total (λ e. HasTimesOf w account (time_row e)) its_times times_found);
+    every = λ reference case is_there.
+        let name : RequestName = (account, reference) in
+        Contains-map time_row (entries its_times) (name, times_of w.journal name case)
+        (Contains-entries name_keys its_times name (times_of w.journal name case)
+        (get-select name_keys told_of w.requests name ∙ ap (option_and_then (told_of name)) is_there
+        ∙ ap (λ b. only_if b (times_of w.journal name case)) (same_text-itself account)));
+    ascending = ascending-entries name_cmp time_row (λ row. (row.account, row.reference))
+        (λ e. refl) its_times;
   }
 
   -- ---- Its blocks

@@ -7,11 +7,13 @@ use Rattle.reg_core.proofs.Common.{bytes_eq-Decides, same_text, is_in_clock, utc
 use Rattle.reg_core.proofs.Common.{page_entry, with_hold, holder_in, holding_row, listed_rows, with_mark}
 use Rattle.reg_core.proofs.Common.{page, same_ask, Answer, Outcome, reply_of, change_of, unchanged}
 use Rattle.reg_core.proofs.Common.{own_answer, own_row, desk_row, item, begins_with, is_of, same_kind}
-use Rattle.reg_core.proofs.Common.{kind_of, file, queue_rows, IsRow, IsOwnRow, SizedPrefix, case_of}
+use Rattle.reg_core.proofs.Common.{needs_capability, file, queue_rows, IsRow, IsOwnRow, SizedPrefix, case_of}
 use Rattle.reg_core.proofs.Common.{request_rows, private_rule, link_rule, mark_rule, clerk_answer}
 use Rattle.reg_core.proofs.Common.{answer_to, step, Queued, as_queued, published, personal, requests_by}
 use Rattle.reg_core.proofs.Common.{queue_of, agents_of, principals_of, principal_rows_of, cap_at, World}
-use Rattle.reg_core.proofs.Common.{RequestName, Place, Link, in_state, applied_if}
+use Rattle.reg_core.proofs.Common.{RequestName, Place, Link, in_state, carried, acts_where, is_about}
+use Rattle.reg_core.proofs.Common.{own_times, times_of_requests_by, times_rows}
+use Rattle.reg_core.specs.declared.command.TimesCommand.{TimesCommand}
 use Rattle.reg_laws.proofs.Types.{Ask, Cap, Kind}
 use Rattle.reg_laws.proofs.Types.{Command, ApplicantCommand, ExpertCommand, ClerkCommand, PublicCommand}
 use Rattle.reg_core.proofs.Common.{same_text-itself}
@@ -21,10 +23,11 @@ use Rattle.reg_core.proofs.Common.{same_table-itself, own_agent, own_principal, 
 use Rattle.reg_early.specs.declared.term.Status.{Status}
 use Rattle.reg_core.specs.Laws.{is_refused, IsStillValid, MayRepeat, IsDone, RepeatsActOnce}
 use Rattle.reg_core.specs.declared.capability.Kind.TheVariants as kind
-use Rattle.reg_core.specs.declared.command.Command.TheVariants.{Public, Applicant, Expert, Clerk}
+use Rattle.reg_core.specs.declared.command.Command.TheVariants.{Public, Token, Applicant, Times, Expert, Clerk}
+use Rattle.reg_core.specs.declared.command.TimesCommand.TheVariants as times
 use Rattle.reg_core.specs.declared.command.ApplicantCommand.TheVariants.{Own, OwnOne, Submit, Withdraw, Holdings, SetListing, SetAgent, Agents, Principals, PrincipalRows}
 use Rattle.reg_core.specs.declared.command.ExpertCommand.TheVariants.{Queue, Advise}
-use Rattle.reg_core.specs.declared.command.ClerkCommand.TheVariants.{AllRequests, OneRequest, AssignExpert, Approve, Decline, SetHold, Define, AddPool, Grant, Revoke, PendingRequests, AllCapabilities, RevokeDigits, RevokeAccount, CountRows}
+use Rattle.reg_core.specs.declared.command.ClerkCommand.TheVariants.{AllRequests, OneRequest, AssignExpert, Approve, Decline, SetHold, Define, AddPool, Grant, Revoke, PendingRequests, AllCapabilities, RevokeDigits, RevokeAccount, CountRows, ActsOn, ActsBy, ActsAbout}
 use Rattle.reg_core.specs.declared.command.PublicCommand.TheVariants.{Registries, Registry, RegistryCsv, PoolList, BlocksCsv}
 use Rattle.reg_core.specs.declared.told.Told.TheVariants as tells
 use Rattle.reg_core.proofs.Outcomes.Accepted.{Serves, ClerkServes, CommandSo}
@@ -208,6 +211,25 @@ module _ (digest_of : List ℕ → List ℕ) (v : World) (moment : ℕ) (now : i
           )
       own_again command told so = absurd so
 
+      times_again : (command : TimesCommand) (told : Told)
+          → IsDone digest_of v by first (Times command) told
+          → OnlyTells (answer_to digest_of v caller moment (Times command))
+      times_again times.Own (tells.Times rows) so = (
+        tells.Times (times_rows (own_times may.cap.account v).own),
+        rw (now, may.is_there, may.late, may.of_kind) refl,
+      )
+      times_again (times.Principal principal) (tells.Times rows) so =
+          let there =
+          subst (λ a. contains_key v.agents (principal, a) ≡ true) (may.account so.0 so.1) so.2 in
+          let link =
+          row_of (get (principals_of may.cap.account v) (principal, may.cap.account))
+          (ap is_some (own_principal may.cap.account principal v) ∙ there) in (
+            tells.Times (times_rows
+                (times_of_requests_by principal (own_times may.cap.account v).principals)),
+            rw (now, may.is_there, may.late, may.of_kind, link.1) refl,
+          )
+      times_again command told so = absurd so
+
     module _ (may : Acts v caller moment by kind.Expert) where
       expert_again : (command : ExpertCommand) (told : Told)
           → IsDone digest_of v by first (Expert command) told
@@ -295,7 +317,7 @@ module _ (digest_of : List ℕ → List ℕ) (v : World) (moment : ℕ) (now : i
         (tells.Granted cap, serving (Grant token cap) ∙ rw (so.1, same_cap-itself cap) refl)
     clerk_again (Revoke token) tells.Revoked so =
         (tells.Revoked, serving (Revoke token) ∙ rw (other_token (digest_of token) so, so) refl)
-    clerk_again PendingRequests (tells.Cases files) so = (_, serving PendingRequests)
+    clerk_again PendingRequests (tells.Waiting files) so = (_, serving PendingRequests)
     clerk_again AllCapabilities (tells.Capabilities rows) so = (_, serving AllCapabilities)
     clerk_again (RevokeDigits digits) (tells.Capabilities rows) so =
         let none = none_are (begins_with digits) v.caps so.none in
@@ -304,38 +326,57 @@ module _ (digest_of : List ℕ → List ℕ) (v : World) (moment : ℕ) (now : i
         let none = none_are (is_of account) v.caps so.none in
         (tells.Capabilities [], serving (RevokeAccount account) ∙ rw none refl)
     clerk_again CountRows (tells.Counts given) so = (_, serving CountRows)
+    clerk_again (ActsOn day) (tells.Acts acts) so = (_, serving (ActsOn day))
+    clerk_again (ActsBy account) (tells.Acts acts) so = (_, serving (ActsBy account))
+    clerk_again (ActsAbout account reference) (tells.ActsAbout acts) so =
+        let case = row_of (get v.requests (account, reference)) so.0 in (
+          tells.ActsAbout (acts_where (is_about (account, reference)) v),
+          serving (ActsAbout account reference) ∙ rw case.1 refl,
+        )
     clerk_again command told so = absurd so
 
 -- ---- The law
 
 -- the answer is no refusal, and changes nothing
-abbrev pub ChangesNothing : World → Answer → Type 0
-ChangesNothing v a = (is_refused (reply_of a) ≡ false) × (applied_if v (change_of a) ≡ v)
+abbrev pub ChangesNothing : World → Option (List ℕ) → ℕ → Answer → Type 0
+ChangesNothing v caller moment a =
+    (is_refused (reply_of a) ≡ false) × (carried v caller moment (change_of a) ≡ v)
 
-pub nothing : (v : World) (a : Answer) → OnlyTells a → ChangesNothing v a
-nothing v a tells =
-    (ap (λ a. is_refused (reply_of a)) tells.1, ap (λ a. applied_if v (change_of a)) tells.1)
+pub nothing : (v : World) (caller : Option (List ℕ)) (moment : ℕ) (a : Answer) → OnlyTells a
+    → ChangesNothing v caller moment a
+nothing v caller moment a tells = (
+  ap (λ a. is_refused (reply_of a)) tells.1,
+  ap (λ a. carried v caller moment (change_of a)) tells.1,
+)
 
 module _ (digest_of : List ℕ → List ℕ) (w : World) (caller : Option (List ℕ)) (first second : ℕ)
     (now : is_in_clock second ≡ true) where
   -- after an outcome its command is accepted again, by whose command it was
   again : (command : Command) (o : Outcome) → CommandSo digest_of w caller first command o
-      → let v = applied_if w o.change in
-      MayRepeat w v caller second (kind_of command) → Done digest_of w caller first command o
+      → let v = carried w caller first o.change in
+      MayRepeat w v caller second (needs_capability command) → Done digest_of w caller first command o
       → OnlyTells (answer_to digest_of v caller second command)
   again (Public command) o so may done =
-      public_again digest_of (applied_if w o.change) second now (cap_at w caller) first
+      public_again digest_of (carried w caller first o.change) second now (cap_at w caller) first
       caller command o.told done
+  again Token o so may done =
+      let valid = may.valid in
+      let late : nat_le may.after.until second ≡ false = grind (arith, nat_tests, valid) in
+      (tells.InUse may.after, rw (now, may.has, late) refl)
   again (Applicant command) o so may done =
-      own_again digest_of (applied_if w o.change) second now (cap_at w caller) first
-      caller (acts w (applied_if w o.change) caller first second kind.Applicant so.0 may) command
+      own_again digest_of (carried w caller first o.change) second now (cap_at w caller) first
+      caller (acts w (carried w caller first o.change) caller first second kind.Applicant so.0 may) command
+      o.told done
+  again (Times command) o so may done =
+      times_again digest_of (carried w caller first o.change) second now (cap_at w caller) first
+      caller (acts w (carried w caller first o.change) caller first second kind.Applicant so.0 may) command
       o.told done
   again (Expert command) o so may done =
-      expert_again digest_of (applied_if w o.change) second now (cap_at w caller) first
-      caller (acts w (applied_if w o.change) caller first second kind.Expert so.0 may) command
+      expert_again digest_of (carried w caller first o.change) second now (cap_at w caller) first
+      caller (acts w (carried w caller first o.change) caller first second kind.Expert so.0 may) command
       o.told done
   again (Clerk command) o so may done =
-      let v = applied_if w o.change in
+      let v = carried w caller first o.change in
       subst (λ c. OnlyTells (answer_to digest_of v c second (Clerk command))) (sym so.0.is)
       (clerk_again digest_of v second now (cap_at w caller) first so.0.digest
       (clerk_acts w v caller first second so.0 may) command o.told done)
@@ -343,8 +384,8 @@ module _ (digest_of : List ℕ → List ℕ) (w : World) (caller : Option (List 
 pub once : (digest_of : List ℕ → List ℕ) → RepeatsActOnce digest_of
 once digest_of w caller first second command accepted now may =
     let by = accepted_done digest_of w caller first command accepted in
-    let after = ap (λ a. applied_if w (change_of a)) by.is in
-    nothing (step digest_of w caller first command).world _
+    let after = ap (λ a. carried w caller first (change_of a)) by.is in
+    nothing (step digest_of w caller first command).world caller second _
     (subst (λ u. OnlyTells (answer_to digest_of u caller second command)) (sym after)
     (again digest_of w caller first second now command by.outcome by.so
-    (subst (λ u. MayRepeat w u caller second (kind_of command)) after may) by.done))
+    (subst (λ u. MayRepeat w u caller second (needs_capability command)) after may) by.done))

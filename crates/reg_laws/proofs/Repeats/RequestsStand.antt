@@ -2,7 +2,7 @@
 use Rattle.std.proofs.Common.{◌≡◌, ℕ, List, refl, sym, ap, subst, ◌∙◌, Option, Some, None}
 use Rattle.reg_core.proofs.Common.{get, change_of, reply_of, unchanged, desk_row, IsOwnRow, IsRow}
 use Rattle.reg_core.proofs.Common.{case_of, request_row, Event, answer_to, step, cap_at, World}
-use Rattle.reg_core.proofs.Common.{RequestName, in_state, applied_if}
+use Rattle.reg_core.proofs.Common.{RequestName, in_state, carried}
 use Rattle.reg_laws.proofs.Types.{Ask, Cap, Command, Told, Case}
 use Rattle.reg_laws.proofs.Types.{Request, Approved, Accepted}
 use Rattle.reg_core.specs.Laws.{GivesDigests, IsApproved, IsDone, IsLater, StillAsks, StillStands, SubmissionsStand, ApprovalsStand}
@@ -66,9 +66,9 @@ module _ (digest_of : List ℕ → List ℕ) (digests : GivesDigests digest_of) 
   submissions_stand w v caller first second reference ask events later =
       let command = Applicant (Submit reference ask) in
       let by = accepted_done digest_of w caller first command later.accepted in
-      let u = applied_if w by.outcome.change in
+      let u = carried w caller first by.outcome.change in
       let after : (step digest_of w caller first command).world ≡ u =
-      ap (λ a. applied_if w (change_of a)) by.is in
+      ap (λ a. carried w caller first (change_of a)) by.is in
       let told = submitted digest_of u (cap_at w caller) first reference ask
       by.outcome.told by.done in
       let name : RequestName = (told.2.0.account, reference) in
@@ -87,7 +87,7 @@ module _ (digest_of : List ℕ → List ℕ) (digests : GivesDigests digest_of) 
         asks,
         (may.cap, may.is_there, (refl, refl, its)),
         ap reply_of again,
-        ap (λ a. applied_if v (change_of a)) again,
+        ap (λ a. carried v caller second (change_of a)) again,
       )
 
   pub approvals_stand : ApprovalsStand digest_of
@@ -95,9 +95,9 @@ module _ (digest_of : List ℕ → List ℕ) (digests : GivesDigests digest_of) 
       let name : RequestName = (account, reference) in
       let command = Clerk (Approve account reference) in
       let by = accepted_done digest_of w caller first command later.accepted in
-      let u = applied_if w by.outcome.change in
+      let u = carried w caller first by.outcome.change in
       let after : (step digest_of w caller first command).world ≡ u =
-      ap (λ a. applied_if w (change_of a)) by.is in
+      ap (λ a. carried w caller first (change_of a)) by.is in
       let told = approved digest_of u (cap_at w caller) first account reference
       by.outcome.told by.done in
       let row : get (step digest_of w caller first command).world.requests name
@@ -125,5 +125,5 @@ module _ (digest_of : List ℕ → List ℕ) (digests : GivesDigests digest_of) 
         state = sym state i;
       }) in (
         ap reply_of again ∙ ap Accepted (same ∙ sym told.1) ∙ sym (ap reply_of by.is),
-        ap (λ a. applied_if v (change_of a)) again,
+        ap (λ a. carried v caller second (change_of a)) again,
       )

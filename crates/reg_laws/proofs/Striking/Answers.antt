@@ -7,8 +7,9 @@ use Rattle.reg_core.proofs.Common.{admitted, as_kind, own_answer, expert_answer,
 use Rattle.reg_core.proofs.Common.{Event, is_clerk, acts_as_clerk, clerk_answer, answer_to, about}
 use Rattle.reg_core.proofs.Common.{is_outside, speaks_for, is_hidden, Personal, published, personal}
 use Rattle.reg_core.proofs.Common.{cap_at, with_personal, requests_of, queue_of, principals_of, World}
-use Rattle.reg_core.proofs.Common.{RequestName}
-use Rattle.reg_laws.proofs.Types.{Cap, Kind, Command, ApplicantCommand, ExpertCommand}
+use Rattle.reg_core.proofs.Common.{RequestName, acts_in_order, is_about, is_by, is_on, file, own_times, times_answer, token_answer, waiting_file}
+use Rattle.reg_core.specs.declared.command.TimesCommand.{TimesCommand}
+use Rattle.reg_laws.proofs.Types.{Cap, Case, Kind, Command, ApplicantCommand, ExpertCommand}
 use Rattle.reg_core.proofs.Common.{same_kind-is}
 use Rattle.reg_laws.proofs.Types.{ClerkCommand, Refusal, Accepted}
 use Rattle.reg_maps.proofs.HiddenKeys.{AgreeBut}
@@ -18,11 +19,14 @@ use Rattle.reg_core.specs.declared.capability.Kind.TheVariants as kind
 use Rattle.reg_core.specs.declared.command.Command.TheVariants as command
 use Rattle.reg_core.specs.declared.command.ApplicantCommand.TheVariants.{Own, OwnOne, Submit, Withdraw, PrincipalRows}
 use Rattle.reg_core.specs.declared.command.ExpertCommand.TheVariants.{Queue, Advise}
-use Rattle.reg_core.specs.declared.command.ClerkCommand.TheVariants.{AllRequests, OneRequest, AssignExpert, Approve, Decline, PendingRequests}
+use Rattle.reg_core.specs.declared.command.ClerkCommand.TheVariants.{AllRequests, OneRequest, AssignExpert, Approve, Decline, PendingRequests, ActsOn, ActsBy, ActsAbout}
+use Rattle.reg_core.specs.declared.command.TimesCommand.TheVariants as times
 use Rattle.reg_core.specs.declared.told.Told.TheVariants as tells
 use Rattle.reg_core.specs.declared.refusal.Refusal.TheVariants as no
-use Rattle.reg_laws.proofs.Striking.Lists.{same_requests, same_queue, same_files}
-use Rattle.reg_laws.proofs.Striking.Views.{own_agree, queue_agree, rows_agree, seats_same, personal_same}
+use Rattle.reg_laws.proofs.Striking.Lists.{same_requests, same_queue, same_times}
+use Rattle.reg_laws.proofs.Striking.Acts.{same_about, same_acts}
+use Rattle.reg_laws.proofs.Striking.Arrivals.{same_waiting}
+use Rattle.reg_laws.proofs.Striking.Views.{own_agree, queue_agree, rows_agree, seats_same, personal_same, principal_times_agree, same_times_of, times_agree, times_of_agree}
 use Rattle.reg_laws.proofs.Striking.Worlds.{with_requests_of, agree_rest, Unaware}
 
 -- ---- Two answers
@@ -120,6 +124,15 @@ module _
       → seats_of name r.advice ≡ seats_of name v.advice
   advice_seats = seats_same hidden _ _ un.agree.advice
 
+  -- the file of a request that is not hidden, with the moment at which it came
+  waiting_same : (name : RequestName) → hidden name ≡ false → (case : Case)
+      → waiting_file u name case ≡ waiting_file v name case
+  waiting_same name h case =
+      let times = times_agree un.agree name h case in
+      let its : file u name case ≡ file v name case =
+      rw (queue_seats name h, advice_seats name h) refl in
+      λ i. record { submitted = (times i).submitted; file = its i }
+
   -- a line for each command: what it reads is the same
   own_same : (cap : Cap) → IsOther cap → (given : ApplicantCommand)
       → IsOpen (about (Some cap) (command.Applicant given))
@@ -146,6 +159,25 @@ module _
       })
   own_same cap other given h =
       same_itself (own_answer (published v) cap.account (personal cap.account v) given)
+
+  times_alike : (cap : Cap) → IsOther cap → (given : TimesCommand)
+      → Same (Some cap)
+      (times_answer cap.account (personal cap.account u) (Some (own_times cap.account u)) given)
+      (times_answer cap.account (personal cap.account v) (Some (own_times cap.account v)) given)
+  times_alike cap other times.Own = record {
+    whole = λ mine. absurd (not_mine cap other mine);
+    change = refl;
+    rows = ap (λ rows. Accepted (tells.Times rows)) (same_times hidden _ _
+        (times_of_agree un.agree (λ applicant. same_text applicant cap.account)));
+  }
+  times_alike cap other (times.Principal principal) =
+      same_then (or_refusal no.Principal (get (principals_of cap.account v) (principal, cap.account)))
+      _ _ (λ link. record {
+        whole = λ mine. absurd (not_mine cap other mine);
+        change = refl;
+        rows = ap (λ rows. Accepted (tells.Times rows))
+            (same_times hidden _ _ (principal_times_agree un.agree cap.account principal));
+      })
 
   expert_same : (cap : Cap) → IsOther cap → (given : ExpertCommand)
       → IsOpen (about (Some cap) (command.Expert given))
@@ -183,9 +215,26 @@ module _
     clerk_same existing in_use moment today PendingRequests h = record {
       whole = λ mine. absurd (cc);
       change = refl;
-      rows = ap (λ files. Accepted (tells.Cases files)) (same_files hidden u v requests
-          (λ name case h. rw (queue_seats name h, advice_seats name h) refl));
+      rows = ap (λ files. Accepted (tells.Waiting files))
+          (same_waiting hidden u v requests un.agree.acts (λ name case h. waiting_same name h case));
     }
+    clerk_same existing in_use moment today (ActsOn day) h = record {
+      whole = λ mine. absurd (cc);
+      change = refl;
+      rows = ap (λ acts. Accepted (tells.Acts acts))
+          (same_acts hidden (is_on day) r.journal v.journal un.agree.acts);
+    }
+    clerk_same existing in_use moment today (ActsBy of) h = record {
+      whole = λ mine. absurd (cc);
+      change = refl;
+      rows = ap (λ acts. Accepted (tells.Acts acts))
+          (same_acts hidden (is_by of) r.journal v.journal un.agree.acts);
+    }
+    clerk_same existing in_use moment today (ActsAbout applicant reference) h =
+        let name : RequestName = (applicant, reference) in
+        let acts : acts_in_order (is_about name) r.journal ≡ acts_in_order (is_about name) v.journal =
+        same_about hidden name h r.journal v.journal un.agree.acts in
+        same_whole (rw (requests name h, acts) refl)
     clerk_same existing in_use moment today given h =
         same_itself (clerk_answer digest_of v in_use moment today given)
 
@@ -225,16 +274,71 @@ module _
           by None stays = same_itself (Err no.Token)
           by (Some cap) stays = seen cap stays (same_text cap.account account) refl
 
+      -- the answer by times, while the office is open
+      abbrev by_times : World → Option Cap → TimesCommand → Answer
+      by_times x existing given =
+          if is_in_clock moment
+          then as_kind kind.Applicant (option_map (with_personal x) existing) moment
+          (λ of my. times_answer of my (option_map (λ (cap : Cap). own_times cap.account x) existing) given)
+          else Err no.Clock
+
+      times_same : (existing : Option Cap) (given : TimesCommand)
+          → Same existing (by_times u existing given) (by_times v existing given)
+      times_same existing given =
+          same_if (is_in_clock moment) _ _ _ _ (λ now. by existing) (λ past. same_itself (Err no.Clock))
+        where
+          answered : World → Cap → Answer
+          answered x cap =
+              as_kind kind.Applicant (Some (cap, personal cap.account x)) moment
+              (λ of my. times_answer of my (Some (own_times cap.account x)) given)
+
+          seen : (cap : Cap) (mine : Bool) → same_text cap.account account ≡ mine
+              → Same (Some cap) (answered u cap) (answered v cap)
+          seen cap true mine =
+              let my = personal_same account hidden u v un cap.account mine in
+              let its = same_times_of account hidden u v un cap.account mine in
+              same_whole (λ i. as_kind kind.Applicant (Some (cap, my i)) moment
+              (λ of my. times_answer of my (Some (its i)) given))
+          seen cap false other =
+              same_then (admitted (Some cap) moment kind.Applicant) _ _ (λ by. times_alike cap other given)
+
+          by : (existing : Option Cap)
+              → Same existing
+              (as_kind kind.Applicant (option_map (with_personal u) existing) moment
+              (λ of my. times_answer of my (option_map (λ (cap : Cap). own_times cap.account u) existing)
+              given))
+              (as_kind kind.Applicant (option_map (with_personal v) existing) moment
+              (λ of my. times_answer of my (option_map (λ (cap : Cap). own_times cap.account v) existing)
+              given))
+          by None = same_itself (Err no.Token)
+          by (Some cap) = seen cap (same_text cap.account account) refl
+
+      -- the answer about a token is that of its capability
+      token_same : (caller : Option (List ℕ))
+          → Same (cap_at v caller) (answer_to digest_of u caller moment command.Token)
+          (answer_to digest_of v caller moment command.Token)
+      token_same caller =
+          same_if (is_in_clock moment) _ _ _ _ (λ now. by (cap_at v caller))
+          (λ past. same_itself (Err no.Clock))
+        where
+          by : (existing : Option Cap)
+              → Same existing (token_answer (option_map (with_personal u) existing) moment)
+              (token_answer (option_map (with_personal v) existing) moment)
+          by None = same_itself (Err no.Token)
+          by (Some cap) = same_itself (token_answer (Some (cap, personal cap.account v)) moment)
+
       answers_same : (caller : Option (List ℕ)) (given : Command)
           → Stays account hidden (cap_at v caller) given
           → Same (cap_at v caller) (answer_to digest_of u caller moment given)
           (answer_to digest_of v caller moment given)
       answers_same caller (command.Public given) stays =
           same_itself (answer_to digest_of v caller moment (command.Public given))
+      answers_same caller command.Token stays = token_same caller
       answers_same caller (command.Applicant given) stays =
           kind_same kind.Applicant (cap_at v caller)
           (λ of my. own_answer (published v) of my given) (command.Applicant given) stays
           (λ cap other h. own_same cap other given h)
+      answers_same caller (command.Times given) stays = times_same (cap_at v caller) given
       answers_same caller (command.Expert given) stays =
           kind_same kind.Expert (cap_at v caller)
           (λ of my. expert_answer of my given) (command.Expert given) stays

@@ -5,8 +5,8 @@ use Rattle.std.specs.FinMap.{FinMap, get, insert, contains_key}
 use Rattle.reg_core.proofs.Common.{and_parts, or_cases, both_ways, not-true, cases_Bool}
 use Rattle.reg_core.proofs.Common.{bytes_eq-Decides, same_text, update, change_of, Event, about}
 use Rattle.reg_core.proofs.Common.{is_outside, speaks_for, is_hidden, cap_at, World, RequestName}
-use Rattle.reg_core.proofs.Common.{name_cmp, in_state, pending, applied, applied_if}
-use Rattle.reg_laws.proofs.Types.{Kind, Change, Case}
+use Rattle.reg_core.proofs.Common.{name_cmp, in_state, pending, applied, recorded_if}
+use Rattle.reg_laws.proofs.Types.{Kind, Change, Case, Stamp}
 use Rattle.reg_core.proofs.Common.{name_keys, same_kind-is}
 use Rattle.reg_laws.proofs.Types.{Approved, Declined, Withdrawn}
 use Rattle.reg_maps.proofs.HiddenKeys.{one_insert, one_update}
@@ -109,7 +109,7 @@ module _ (hidden : RequestName → Bool) (v : World) where
       left_update (account, reference) (in_state (Approved (Block holding.block))) h
   left_after change h = λ name k. refl
 
-  pub left_if : (made : Option Change) → IsOfHidden false hidden made
-      → IsLeft (applied_if v made).requests
-  left_if None h = λ name k. refl
-  left_if (Some change) h = left_after change (h change refl)
+  pub left_if : (stamp : Stamp) (made : Option Change) → IsOfHidden false hidden made
+      → IsLeft (recorded_if stamp v made).requests
+  left_if stamp None h = λ name k. refl
+  left_if stamp (Some change) h = left_after change (h change refl)

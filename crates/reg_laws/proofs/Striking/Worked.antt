@@ -9,7 +9,7 @@ use Rattle.reg_core.proofs.Common.{same_text, text_keys, get-inserted, utc_day, 
 use Rattle.reg_core.proofs.Common.{Answer, reply_of, change_of, desk_row, clerk_cap, founded_world}
 use Rattle.reg_core.proofs.Common.{request_row, Event, run, answer_to, Stage, stages, reveals_if}
 use Rattle.reg_core.proofs.Common.{stays_in, struck, requests_of, World, RequestName, applied}
-use Rattle.reg_core.proofs.Common.{applied_if, pending, name_cmp, place_cmp, seat_cmp, link_cmp}
+use Rattle.reg_core.proofs.Common.{carried, own_times, pending, name_cmp, place_cmp, seat_cmp, link_cmp}
 use Rattle.reg_laws.proofs.Types.{Ask}
 use Rattle.reg_core.proofs.Common.{name_keys}
 use Rattle.reg_laws.proofs.Types.{Cap, Command, Told, Entry, Approved, Declined, State}
@@ -26,6 +26,7 @@ use Rattle.reg_core.specs.declared.refusal.Refusal.TheVariants as no
 use Rattle.reg_core.specs.declared.told.Told.TheVariants.{Made}
 use Rattle.reg_core.specs.declared.request.Given.TheVariants as given
 use Rattle.reg_core.proofs.Stepping.{own_request}
+use Rattle.reg_laws.proofs.Times.{came_here}
 
 abbrev clerk : List ℕ
 clerk = codes "clerk-token-00001"
@@ -66,7 +67,9 @@ start = applied
 
 -- and after the request was made
 abbrev asked : World
-asked = applied start (change.Submit (codes "alice") (codes "a-1") ask)
+asked =
+    carried start (Some alice) 1700000000
+    (Some (change.Submit (codes "alice") (codes "a-1") ask))
 
 abbrev at : List ℕ → Command → Event
 at token command = record { caller = Some token; moment = 1700000000; command = command }
@@ -132,6 +135,11 @@ bob-none =
     ∙ get-insert name_keys.total start.requests name (pending ask) (codes "bob", codes "a-1")
     ∙ get-empty name_cmp (codes "bob", codes "a-1")
 
+-- alice is shown when it came, and that it is not decided yet
+asked_at : get (own_times (codes "alice") asked).own name
+    ≡ Some (record { submitted = Some 1700000000; decided = None })
+asked_at = came_here (codes "alice") (codes "a-1") (Some alice) 1700000000 ask start
+
 -- ---- The events in turn
 
 abbrev answers : World → Event → Answer
@@ -145,7 +153,7 @@ answered w e a =
       event = e;
       reply = reply_of a;
       change = change_of a;
-      after = applied_if w (change_of a);
+      after = carried w e.caller e.moment (change_of a);
     }
 
 -- the request in a state, as the desk sees it
@@ -207,10 +215,10 @@ run_to last a =
 runs_to : (last : Event) (a : Answer) → answers asked last ≡ a
     → stages (λ token. token) start (submits ∷ looks ∷ last ∷ []) ≡ run_to last a
 runs_to last a is =
-    ap (λ x. answered start submits x ∷ stages (λ token. token) (applied_if start (change_of x))
-    (looks ∷ last ∷ [])) submits_at
+    ap (λ x. answered start submits x ∷ stages (λ token. token)
+    (carried start (Some alice) 1700000000 (change_of x)) (looks ∷ last ∷ [])) submits_at
     ∙ ap (λ x. answered start submits submitted ∷ answered asked looks x ∷ stages (λ token. token)
-    (applied_if asked (change_of x)) (last ∷ [])) looks_at
+    (carried asked (Some bob) 1700000000 (change_of x)) (last ∷ [])) looks_at
     ∙ ap (λ x. run_to last x) is
 
 -- ---- What is struck

@@ -1,12 +1,14 @@
 -- Two worlds that agree but for hidden requests: after the same change of both, and after a change
 -- of a hidden request in the first.
-use Rattle.std.proofs.Common.{◌≡◌, Bool, true, false, cond, ◌&&◌, List, ℕ, refl, sym, ap, ◌∙◌}
+use Rattle.std.proofs.Common.{◌≡◌, Bool, true, false, cond, ◌&&◌, not, List, [], ◌∷◌, map, ℕ, refl, sym, ap, ◌∙◌}
 use Rattle.std.specs.Prelude.{Option, Some, None}
 use Rattle.reg_core.proofs.Common.{eq_by_cmp, both_true, both_ways, same_text, tied, get-at_insert}
 use Rattle.reg_core.proofs.Common.{registration_in, same_name, holder_in, reveals_if, is_hidden, World}
 use Rattle.reg_core.proofs.Common.{RequestName, name_cmp, Place, Seat, seat_cmp, Link, link_cmp}
-use Rattle.reg_core.proofs.Common.{in_state, pending, applied, applied_if}
-use Rattle.reg_laws.proofs.Types.{Advice, Change, Case}
+use Rattle.reg_core.proofs.Common.{in_state, pending, applied, recorded_if, act_by, acts_of, deeds_of}
+use Rattle.reg_core.proofs.Common.{with_acts, acts_without, is_seen}
+use Rattle.reg_core.proofs.Journals.{AreAbout, deeds_about}
+use Rattle.reg_laws.proofs.Types.{Act, Advice, Change, Case, Deed, Stamp}
 use Rattle.reg_core.proofs.Common.{name_keys, seat_keys, link_keys, same_text-itself}
 use Rattle.reg_laws.proofs.Types.{Approved}
 use Rattle.std.specs.FinMap as map
@@ -23,29 +25,82 @@ use Rattle.reg_core.proofs.Outcomes.Dues.{change_about}
 abbrev pub at_seat : (RequestName → Bool) → Seat → Bool
 at_seat hidden seat = hidden seat.0
 
--- a world with the requests of another one, and with what its experts have of them
+-- a world with the requests of another one, with what its experts have of them, and with its journal
 abbrev pub with_requests_of : World → World → World
-with_requests_of w v = record v { requests = w.requests; queue = w.queue; advice = w.advice }
+with_requests_of w v = record v {
+  requests = w.requests;
+  queue = w.queue;
+  advice = w.advice;
+  journal = w.journal;
+}
 
 abbrev without_requests : World → World
-without_requests w = record w { requests = map.empty; queue = map.empty; advice = map.empty }
+without_requests w = record w {
+  requests = map.empty;
+  queue = map.empty;
+  advice = map.empty;
+  journal = [];
+}
 
 pub record Agree (hidden : RequestName → Bool) (w v : World) : Type 0 where
   pub rest : without_requests w ≡ without_requests v
   pub requests : AgreeBut hidden w.requests v.requests
   pub queue : AgreeBut (at_seat hidden) w.queue v.queue
   pub advice : AgreeBut (at_seat hidden) w.advice v.advice
+  pub acts : acts_without hidden w.journal ≡ acts_without hidden v.journal
 
 pub agree_itself : (hidden : RequestName → Bool) (w : World) → Agree hidden w w
 agree_itself hidden w =
     let same : AgreeBut (at_seat hidden) w.queue w.queue = λ seat h. refl in
-    record { rest = refl; requests = λ name h. refl; queue = same; advice = λ seat h. refl }
+    record {
+      rest = refl;
+      requests = λ name h. refl;
+      queue = same;
+      advice = λ seat h. refl;
+      acts = refl;
+    }
 
 -- so the first is the second but for the requests
 pub agree_rest : {hidden : RequestName → Bool} {w v : World} → Agree hidden w v
     → with_requests_of w v ≡ w
 agree_rest {w = w} a =
-    sym (λ i. record (a.rest i) { requests = w.requests; queue = w.queue; advice = w.advice })
+    sym (λ i. record (a.rest i) {
+      requests = w.requests;
+      queue = w.queue;
+      advice = w.advice;
+      journal = w.journal;
+    })
+
+-- ---- Acts
+
+-- what is seen of a journal after acts is what is seen of these, after what is seen of it
+seen_with : (hidden : RequestName → Bool) (acts journal : List Act)
+    → acts_without hidden (with_acts acts journal)
+    ≡ with_acts (acts_without hidden acts) (acts_without hidden journal)
+seen_with hidden [] journal = refl
+seen_with hidden (act ∷ acts) journal =
+    seen_with hidden acts (act ∷ journal) ∙ by (is_seen hidden act)
+  where
+    seen : List Act
+    seen = acts_without hidden acts
+
+    old : List Act
+    old = acts_without hidden journal
+
+    by : (b : Bool)
+        → with_acts seen (cond b (act ∷ old) old) ≡ with_acts (cond b (act ∷ seen) seen) old
+    by true = refl
+    by false = refl
+
+-- of acts that are about a hidden request none is seen
+none_seen : (hidden : RequestName → Bool) (stamp : Stamp) (about : Option RequestName)
+    → is_hidden hidden about ≡ true → (deeds : List Deed) → AreAbout about deeds
+    → acts_without hidden (map (act_by stamp) deeds) ≡ []
+none_seen hidden stamp about h [] all = refl
+none_seen hidden stamp about h (deed ∷ deeds) all =
+    let rest = acts_without hidden (map (act_by stamp) deeds) in
+    ap (λ b. cond (not b) (act_by stamp deed ∷ rest) rest) (ap (is_hidden hidden) all.0 ∙ h)
+    ∙ none_seen hidden stamp about h deeds all.1
 
 -- ---- Changes of requests
 
@@ -63,17 +118,35 @@ module _ (hidden : RequestName → Bool) (w v : World) (a : Agree hidden w v) wh
   requests_set : (m n : FinMap name_cmp Case) → AgreeBut hidden m n
       → Agree hidden (record w { requests = m }) (record v { requests = n })
   requests_set m n same =
-      record { rest = a.rest; requests = same; queue = a.queue; advice = a.advice }
+      record {
+        rest = a.rest;
+        requests = same;
+        queue = a.queue;
+        advice = a.advice;
+        acts = a.acts;
+      }
 
   queue_set : (m n : FinSet seat_cmp) → AgreeBut (at_seat hidden) m n
       → Agree hidden (record w { queue = m }) (record v { queue = n })
   queue_set m n same =
-      record { rest = a.rest; requests = a.requests; queue = same; advice = a.advice }
+      record {
+        rest = a.rest;
+        requests = a.requests;
+        queue = same;
+        advice = a.advice;
+        acts = a.acts;
+      }
 
   advice_set : (m n : FinMap seat_cmp Advice) → AgreeBut (at_seat hidden) m n
       → Agree hidden (record w { advice = m }) (record v { advice = n })
   advice_set m n same =
-      record { rest = a.rest; requests = a.requests; queue = a.queue; advice = same }
+      record {
+        rest = a.rest;
+        requests = a.requests;
+        queue = a.queue;
+        advice = same;
+        acts = a.acts;
+      }
 
   -- of both worlds
   agree_both : (change : Change) → Agree hidden (applied w change) (applied v change)
@@ -95,20 +168,55 @@ module _ (hidden : RequestName → Bool) (w v : World) (a : Agree hidden w v) wh
       let new = λ (x : World). record x { entries = insert x.entries place there } in
       let given = in_state (Approved (Value entry.value)) in
       let requests = both_update name_keys hidden _ _ a.requests (account, reference) given in
-      record { rest = ap new a.rest; requests = requests; queue = a.queue; advice = a.advice }
+      record {
+        rest = ap new a.rest;
+        requests = requests;
+        queue = a.queue;
+        advice = a.advice;
+        acts = a.acts;
+      }
   agree_both (GiveBlock account reference holding) =
       let there = holder_in holding in
       let new = λ (x : World). record x { blocks = insert x.blocks holding.block there } in
       let given = in_state (Approved (Block holding.block)) in
       let requests = both_update name_keys hidden _ _ a.requests (account, reference) given in
-      record { rest = ap new a.rest; requests = requests; queue = a.queue; advice = a.advice }
+      record {
+        rest = ap new a.rest;
+        requests = requests;
+        queue = a.queue;
+        advice = a.advice;
+        acts = a.acts;
+      }
   agree_both change =
       let rest = ap (λ x. applied x change) a.rest in
-      record { rest = rest; requests = a.requests; queue = a.queue; advice = a.advice }
+      record {
+        rest = rest;
+        requests = a.requests;
+        queue = a.queue;
+        advice = a.advice;
+        acts = a.acts;
+      }
 
-  pub agree_if : (made : Option Change) → Agree hidden (applied_if w made) (applied_if v made)
-  agree_if None = a
-  agree_if (Some change) = agree_both change
+  -- and so with its acts, at one moment and by one caller
+  pub agree_if : (s t : Stamp) → s ≡ t → (made : Option Change)
+      → Agree hidden (recorded_if s w made) (recorded_if t v made)
+  agree_if s t same None = a
+  agree_if s t same (Some change) =
+      let both = agree_both change in
+      let caps = ap (λ (x : World). x.caps) a.rest in
+      let blocks = ap (λ (x : World). x.blocks) a.rest in
+      record {
+        rest = both.rest;
+        requests = both.requests;
+        queue = both.queue;
+        advice = both.advice;
+        acts =
+            seen_with hidden (acts_of s w change) w.journal
+            ∙ (λ i. with_acts
+            (acts_without hidden (map (act_by (same i)) (deeds_of (caps i) (blocks i) change)))
+            (a.acts i))
+            ∙ sym (seen_with hidden (acts_of t v change) v.journal);
+      }
 
   -- of a hidden request, in the first world alone: where it gives it nothing, they go on to agree
   agree_hidden : (account : List ℕ) (change : Change)
@@ -134,10 +242,24 @@ module _ (hidden : RequestName → Bool) (w v : World) (a : Agree hidden w v) wh
       absurd (both_ways (same_name name name) (quiet name h) (same_name-itself name))
   agree_hidden of change h quiet = absurd (cc)
 
-  pub agree_hidden_if : (account : List ℕ) (made : Option Change) → IsOfHidden true hidden made
-      → IsQuiet account hidden made → Agree hidden (applied_if w made) v
-  agree_hidden_if of None h quiet = a
-  agree_hidden_if of (Some change) h quiet = agree_hidden of change (h change refl) quiet
+  pub agree_hidden_if : (account : List ℕ) (stamp : Stamp) (made : Option Change)
+      → IsOfHidden true hidden made → IsQuiet account hidden made
+      → Agree hidden (recorded_if stamp w made) v
+  agree_hidden_if of stamp None h quiet = a
+  agree_hidden_if of stamp (Some change) h quiet =
+      let one = agree_hidden of change (h change refl) quiet in
+      record {
+        rest = one.rest;
+        requests = one.requests;
+        queue = one.queue;
+        advice = one.advice;
+        acts =
+            seen_with hidden (acts_of stamp w change) w.journal
+            ∙ ap (λ acts. with_acts acts (acts_without hidden w.journal))
+            (none_seen hidden stamp (change_about change) (h change refl)
+            (deeds_of w.caps w.blocks change) (deeds_about w.caps w.blocks change))
+            ∙ a.acts;
+      }
 
 -- ---- What the account is blind to
 
@@ -200,10 +322,10 @@ module _
         by false t said is = blind.no_link name h
     no_link change quiet name h = blind.no_link name h
 
-    pub blind_if : (made : Option Change) → IsQuiet account hidden made
-        → Blind account hidden (applied_if w made)
-    blind_if None quiet = blind
-    blind_if (Some change) quiet =
+    pub blind_if : (stamp : Stamp) (made : Option Change) → IsQuiet account hidden made
+        → Blind account hidden (recorded_if stamp w made)
+    blind_if stamp None quiet = blind
+    blind_if stamp (Some change) quiet =
         record { no_seat = no_seat change quiet; no_link = no_link change quiet }
 
 -- ---- What the account is unaware of

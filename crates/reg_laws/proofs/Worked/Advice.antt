@@ -4,7 +4,7 @@ use Rattle.std.proofs.Common.{◌≡◌, ℕ, true, false, List, [], ◌∷◌, 
 use Rattle.std.specs.Prelude.{Option, Some, None, Ok, Err, codes, is_some, option_and_then}
 use Rattle.reg_core.proofs.Common.{get, only_if, is_advised, Ground, allowance_on, needs_advice}
 use Rattle.reg_core.proofs.Common.{Allowance, approve_rule, Stepped, step, as_queued, queue_of}
-use Rattle.reg_core.proofs.Common.{queued_to, World, RequestName, applied, pending}
+use Rattle.reg_core.proofs.Common.{queued_to, World, RequestName, recorded, pending}
 use Rattle.reg_laws.proofs.Types.{Advice, Ask, Cap}
 use Rattle.reg_core.proofs.Common.{clerk_cap, get-queue_of}
 use Rattle.reg_laws.proofs.Types.{Command, Told, Pending, Declined}
@@ -17,7 +17,7 @@ use Rattle.reg_core.specs.declared.command.ClerkCommand.TheVariants.{AssignExper
 use Rattle.reg_core.specs.declared.command.ExpertCommand.TheVariants.{Advise}
 use Rattle.reg_core.specs.declared.refusal.Refusal.TheVariants as no
 use Rattle.reg_core.specs.declared.told.Told.TheVariants.{Item, Desk}
-use Rattle.reg_laws.proofs.Worked.FirstLines.{stays, tells}
+use Rattle.reg_laws.proofs.Worked.FirstLines.{by, stays, tells}
 use Rattle.reg_core.proofs.Allowances.{allowance_needs}
 use Rattle.reg_core.specs.declared.request.StateWord.{StateWord}
 use Rattle.reg_core.specs.declared.request.StateWord.TheVariants as word
@@ -93,7 +93,7 @@ module _ (w : World) (clerk expert : List ℕ) (ask : Ask)
 
   assigned_now : get w.queue (name, xan) ≡ None
       → given (Clerk (AssignExpert alice reference xan)) w (Some clerk)
-      ≡ tells (applied w (change.Assign alice reference xan)) (on_desk ask)
+      ≡ tells (recorded (by clerk clerk_cap) w (change.Assign alice reference xan)) (on_desk ask)
   assigned_now free = rw (has_clerk, filed, free) refl
 
   assigned_before : get w.queue (name, xan) ≡ Some tt
@@ -120,7 +120,8 @@ module _ (w : World) (clerk expert : List ℕ) (ask : Ask)
 
   advised_now : get w.queue (name, xan) ≡ Some tt → get w.advice (name, xan) ≡ None
       → given (Expert (Advise alice reference fine)) w (Some expert)
-      ≡ tells (applied w (change.Advise alice reference xan fine)) (with_fine ask word.Pending)
+      ≡ tells (recorded (by expert xan_cap) w (change.Advise alice reference xan fine))
+      (with_fine ask word.Pending)
   advised_now there first =
       let queued : get (queue_of xan w) name ≡ Some (as_queued None (pending ask)) =
       found_queued xan w name (pending ask) filed (ap is_some there)

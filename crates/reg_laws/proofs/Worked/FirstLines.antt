@@ -7,8 +7,8 @@ use Rattle.std.specs.Ordering.{nat_cmp}
 use Rattle.std.proofs.lemmas.List.{nil_from_length}
 use Rattle.reg_core.proofs.Common.{text_cmp, keyed, same_text, only_if, number_keys, text_keys}
 use Rattle.reg_core.proofs.Common.{get-inserted, entries-select, is_in_clock, clerk_cap, founded_world}
-use Rattle.reg_core.proofs.Common.{Event, run, Stepped, step, requests_of, World, name_cmp, applied}
-use Rattle.reg_laws.proofs.Types.{Cap}
+use Rattle.reg_core.proofs.Common.{Event, run, Stepped, step, requests_of, World, name_cmp, recorded, stamp_of}
+use Rattle.reg_laws.proofs.Types.{Cap, Stamp}
 use Rattle.reg_core.proofs.Common.{name_keys}
 use Rattle.reg_laws.proofs.Types.{Command, Refusal, Told, Case, Accepted, Refused}
 use Rattle.reg_core.specs.declared.capability.Kind.TheVariants.{Applicant}
@@ -17,6 +17,7 @@ use Rattle.reg_core.specs.declared.command.Command.TheVariants.{Public, Applican
 use Rattle.reg_core.specs.declared.command.ApplicantCommand.TheVariants.{Own}
 use Rattle.reg_core.specs.declared.command.ClerkCommand.TheVariants.{AddPool, Grant, Revoke}
 use Rattle.reg_core.specs.declared.command.PublicCommand.TheVariants.{PoolList}
+use Rattle.reg_core.specs.declared.journal.Deed.TheVariants as did
 use Rattle.reg_core.specs.declared.refusal.Refusal.TheVariants as no
 use Rattle.reg_core.specs.declared.told.Told.TheVariants.{Rows, Pool, Pooled, Granted}
 
@@ -32,12 +33,19 @@ alice_cap = record { account = codes "alice"; kind = Applicant; until = 18000000
 abbrev bob_cap : Cap
 bob_cap = record alice_cap { account = codes "bob" }
 
+-- by a token with this capability, at the moment of all lines; and by the clerk's
+abbrev pub by : List ℕ → Cap → Stamp
+by token cap = stamp_of (Some token) (Some cap) 1700000000
+
+abbrev pub by_clerk : Stamp
+by_clerk = by clerk clerk_cap
+
 abbrev pub office : World
 office = founded_world clerk
 
 -- the office after the first grant
 abbrev pub granted : World
-granted = applied office (change.Grant alice alice_cap)
+granted = recorded by_clerk office (change.Grant alice alice_cap)
 
 abbrev pub given : World → Option (List ℕ) → ℕ → Command → Stepped
 given = step (λ token. token)
@@ -119,6 +127,24 @@ closed w None (Clerk command) = refl
 closed w (Some digest) (Clerk command) = refl
 closed w caller command = refl
 
+-- ---- The journal
+
+-- the clerk's grant is signed, and before it stands the founding, which nobody signs
+two_acts : granted.journal
+    ≡ record {
+      stamp = record {
+        moment = Some 1700000000;
+        by = Some (record { account = codes "clerk"; token = codes "clerk-token-" });
+      };
+      deed = did.Grant (codes "alice") (codes "alice-token-");
+    }
+    ∷ record {
+      stamp = record { moment = None; by = None };
+      deed = did.Grant (codes "clerk") (codes "clerk-token-");
+    }
+    ∷ []
+two_acts = refl
+
 -- ---- The pool
 
 -- 00-1A-2B, and FC-00-00 after it
@@ -130,10 +156,10 @@ high = 0xFC_0000
 
 -- the office after a prefix is added, and after one that is lower
 abbrev pooled : World
-pooled = applied office (change.AddPool high)
+pooled = recorded by_clerk office (change.AddPool high)
 
 abbrev both_pooled : World
-both_pooled = applied pooled (change.AddPool low)
+both_pooled = recorded by_clerk pooled (change.AddPool low)
 
 no_prefix : (prefix : ℕ) → get office.pool prefix ≡ None
 no_prefix prefix = get-empty nat_cmp prefix

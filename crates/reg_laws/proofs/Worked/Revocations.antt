@@ -4,14 +4,14 @@ use Rattle.std.proofs.Common.{◌≡◌, List, ℕ, [], ◌∷◌, refl, sym, ap
 use Rattle.std.specs.FinMap as map
 use Rattle.std.specs.FinMap.{get, entries, entries-insert, put, get-insert, len-entries, len-empty}
 use Rattle.std.proofs.lemmas.List.{nil_from_length}
-use Rattle.reg_core.proofs.Common.{text_cmp, text_keys, cap_row, clerk_cap, World, applied}
+use Rattle.reg_core.proofs.Common.{text_cmp, text_keys, cap_row, clerk_cap, World, recorded}
 use Rattle.reg_laws.proofs.Types.{Cap}
 use Rattle.reg_core.specs.declared.change.Change.TheVariants as change
 use Rattle.reg_core.specs.declared.command.Command.TheVariants.{Clerk}
 use Rattle.reg_core.specs.declared.command.ClerkCommand.TheVariants.{RevokeDigits, RevokeAccount}
 use Rattle.reg_core.specs.declared.refusal.Refusal.TheVariants as no
 use Rattle.reg_core.specs.declared.told.Told.TheVariants.{Capabilities}
-use Rattle.reg_laws.proofs.Worked.FirstLines.{clerk, alice, alice_cap, office, granted, given, stays, tells, granted-clerk}
+use Rattle.reg_laws.proofs.Worked.FirstLines.{by_clerk, clerk, alice, alice_cap, office, granted, given, stays, tells, granted-clerk}
 
 -- another token of the same account
 abbrev other : List ℕ
@@ -19,7 +19,7 @@ other = codes "alice-token-00002"
 
 -- the office after it is granted the same
 abbrev twice : World
-twice = applied granted (change.Grant other alice_cap)
+twice = recorded by_clerk granted (change.Grant other alice_cap)
 
 twice-clerk : get twice.caps clerk ≡ Some clerk_cap
 twice-clerk = get-insert text_keys.total granted.caps other alice_cap clerk ∙ granted-clerk
@@ -46,7 +46,8 @@ three_caps =
 
 one_by_digits : given twice (Some clerk) 1700000000
     (Clerk (RevokeDigits (codes "alice-token-00001")))
-    ≡ tells (applied twice (change.Revoke alice)) (Capabilities (cap_row alice alice_cap ∷ []))
+    ≡ tells (recorded by_clerk twice (change.Revoke alice))
+    (Capabilities (cap_row alice alice_cap ∷ []))
 one_by_digits = rw (twice-clerk, three_caps) refl
 
 none_by_digits : given twice (Some clerk) 1700000000 (Clerk (RevokeDigits (codes "bob-token-0")))
@@ -66,7 +67,7 @@ own_of_several : given twice (Some clerk) 1700000000 (Clerk (RevokeDigits [])) �
 own_of_several = rw (twice-clerk, three_caps) refl
 
 all_of_an_account : given twice (Some clerk) 1700000000 (Clerk (RevokeAccount (codes "alice")))
-    ≡ tells (applied twice (change.RevokeAll (alice ∷ other ∷ [])))
+    ≡ tells (recorded by_clerk twice (change.RevokeAll (alice ∷ other ∷ [])))
     (Capabilities (cap_row alice alice_cap ∷ cap_row other alice_cap ∷ []))
 all_of_an_account = rw (twice-clerk, three_caps) refl
 

@@ -1,8 +1,9 @@
 //! What the rows of requests ask for.
-ghost use Rattle.std.specs.Prelude.{◌≡◌, ◌-◌, IfOk};
-ghost use Rattle.reg_records.specs.Requests.Reading.{are_null, want_in, rfc_of, rfc_in, evidence_in, early_in, code_in, early_ask_in, renewal_in, permanence_in, block_in, ask_in};
+ghost use Rattle.std.specs.Prelude.{◌≡◌, IfOk};
+ghost use Rattle.reg_records.specs.Requests.Reading.{want_in, rfc_of, rfc_in, evidence_in, early_in, code_in, early_ask_in, renewal_in, permanence_in, block_in, ask_in};
 
 use crate::column;
+use crate::column::are_null;
 use crate::record::in_form;
 use crate::requests::{
     ADDRESS, CHAIR, CONTACT, DIRECTOR, DRAFT, INTEREST, KIND, LABEL, LEAST, MINUTE, ORGANIZATION,
@@ -15,7 +16,6 @@ use reg_early::evidence::EarlyEvidence;
 use reg_ranges::evidence::{Evidence, Rfc, Stream, Track};
 use sqlite::Row;
 use std::alloc::{AllocError, Global};
-use std::ops::Range;
 
 /// The ask in a row, which has no value in the columns of other asks.
 #[tactic(auto, unfolding(crate::specs::Requests::Reading::ask_in))]
@@ -30,13 +30,6 @@ pub(crate) fn ask(alloc: Global, row: &Row) -> Result<Option<Ask>, AllocError>
         AskKind::Permanent => Ok(permanence(alloc, row)?.map(Ask::Permanent)),
         AskKind::Block => Ok(block(alloc, row)?.map(Ask::Block)),
     }
-}
-
-/// Whether these columns are all NULL.
-pub(crate) fn are_null(row: &Row, mut columns: Range<usize>) -> bool
-    ensures { result ≡ are_null row.now columns.start (columns.end - columns.start) }
-{
-    columns.all(|at| column::is_null(row, at))
 }
 
 #[tactic(auto, unfolding(crate::specs::Requests::Reading::code_in))]

@@ -5,8 +5,8 @@ ghost use Rattle.reg_records.specs.Columns.{read_in};
 ghost use Rattle.reg_records.specs.Requests.Reading.{approved_in, declined_in, read_given, state_in, written_block};
 
 use crate::column;
+use crate::column::are_null;
 use crate::record::in_form;
-use crate::requests::asks::are_null;
 use crate::requests::{COUNT, GIVEN, REASON, STATE};
 use reg_blocks::block::Block;
 use reg_core::ask::Ask;

@@ -11,17 +11,19 @@ use Rattle.reg_core.specs.World.{World, link_cmp, place_cmp}
 use Rattle.reg_core.specs.declared.capability.Cap.{Cap}
 use Rattle.reg_core.specs.declared.entry.Registration.{Registration}
 use Rattle.reg_core.specs.declared.holding.Holder.{Holder}
+use Rattle.reg_core.specs.declared.journal.Act.{Act}
 
 -- capabilities by digest, registries by name, entries, the world of requests with their experts
--- and advice, the pool, the blocks that were given, and who reads whose requests
+-- and advice, the pool, the blocks that were given, who reads whose requests, and the journal
 abbrev pub content : BTreeMap (List ℕ) Cap → BTreeMap (List ℕ) Table
     → FinMap place_cmp Registration → World → FinSet nat_cmp → FinMap block_cmp Holder
-    → FinSet link_cmp → World
-content caps registries entries reviews pool blocks links = record reviews {
+    → FinSet link_cmp → List Act → World
+content caps registries entries reviews pool blocks links journal = record reviews {
   caps = finite_map text_cmp caps;
   registries = finite_map text_cmp registries;
   entries = entries;
   pool = pool;
   blocks = blocks;
   agents = links;
+  journal = journal;
 }

@@ -4,7 +4,7 @@ use Rattle.std.specs.Fmt.{decimal}
 use Rattle.std.specs.List.{AllByRecursion, AllZip}
 use Rattle.std.specs.Result.{result_ok, result_err}
 use Rattle.reg_core.specs.Run.{Event, run, world_after}
-use Rattle.reg_core.specs.Striking.{ShowSame, HasNoneUnseen, AreAlikeTo, reply_lists_others, reply_without}
+use Rattle.reg_core.specs.Striking.{ShowSame, ListsNoneUnseen, AreAlikeTo, reply_lists_others, reply_without}
 use Rattle.reg_core.specs.Unseen.{Stage, stage, stays_in, is_unseen, struck}
 use Rattle.reg_core.specs.View.{cap_at, view_of}
 use Rattle.reg_core.specs.World.{World, RequestName}
@@ -179,7 +179,8 @@ pub record ArePrintedAlike (account : List ℕ) (unseen : RequestName → Bool) 
     pub left_printed : t.answer ≡ reply_line t.stage.reply
     pub bytes : turn_lists_others account s ≡ false → s.answer ≡ t.answer
     pub rows : line_without unseen s ≡ line_without unseen t
-    pub without : HasNoneUnseen unseen t.stage.before → t.answer ≡ line_without unseen s
+    pub without : ListsNoneUnseen unseen t.stage.before t.stage.reply
+        → t.answer ≡ line_without unseen s
 
 -- the first refusal of bytes that give no command
 abbrev pub refusal_for : Option Call → Option WireRefusal

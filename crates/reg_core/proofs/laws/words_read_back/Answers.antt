@@ -1,4 +1,4 @@
-use Rattle.reg_core.proofs.WordsReadBack.{ask_kinds_read, kinds_read, states_read, verdicts_read}
+use Rattle.reg_core.proofs.WordsReadBack.{act_kinds_read, ask_kinds_read, kinds_read, states_read, verdicts_read}
 use Rattle.reg_core.proofs.laws.words_read_back.Goals as goal
 
 pub returns : goal.returns
@@ -7,5 +7,6 @@ returns c =
       verdicts = verdicts_read;
       kinds = kinds_read;
       asks = ask_kinds_read;
+      acts = act_kinds_read;
       states = states_read;
     }

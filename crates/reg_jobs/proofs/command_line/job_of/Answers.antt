@@ -4,7 +4,7 @@ use Rattle.std.proofs.lemmas.Result.{IfOk-weaker}
 use Rattle.clap.specs.Words.{Row, Text, found_of, rows_of, subcommand_name_of, subcommand_rows_of}
 use Rattle.clap.specs.declared.parser.matches.ArgMatches.{ArgMatches}
 use Rattle.clap.specs.declared.parser.matches.ArgMatches.TheViews.{out-ArgMatches, out-SubCommand}
-use Rattle.reg_jobs.specs.Asking.{HasJob, IsInRange, IsJobOf, IsMisplaced, IsUnclear, IsUnclearJob}
+use Rattle.reg_jobs.specs.Asking.{HasJob, IsInRange, IsJobOf, IsMisnoted, IsMisplaced, IsUnclear, IsUnclearJob}
 use Rattle.reg_jobs.specs.declared.jobs.Job.{Job}
 use Rattle.reg_jobs.specs.declared.jobs.JobFault.{JobFault}
 use Rattle.reg_jobs.specs.declared.jobs.JobFault.TheVariants.{Line, Memory}
@@ -35,7 +35,11 @@ or_misplaced (Err fault) rows h = λ line. inl (refl, h line)
 or_unclear : (r : Result Job JobFault) (rows : List Row) → MatchResult r IsInRange (λ fault. fault ≡ Line → IsMisplaced rows ⊎ IsUnclear rows)
     → IsGiven r (codes "revoke", rows)
 or_unclear (Ok job) rows h = h
-or_unclear (Err fault) rows h = λ line. inr (refl, h line)
+or_unclear (Err fault) rows h = λ line. inr (inl (refl, h line))
+
+or_misnoted : (r : Result Job JobFault) (rows : List Row) → MatchResult r IsInRange (λ fault. fault ≡ Line → IsMisnoted rows) → IsGiven r (codes "journal", rows)
+or_misnoted (Ok job) rows h = h
+or_misnoted (Err fault) rows h = λ line. inr (inr (refl, h line))
 
 -- the job is one of the name and the rows that were met
 given_at : (o : Option (Text × List Row)) (name literal : Text) (rows : List Row) (r : Result Job JobFault) → o ≡ Some (name, rows) → name ≡ literal
@@ -142,6 +146,12 @@ returns-in-check c =
 pub returns-in-copy : goal.returns-in-copy
 returns-in-copy c =
     let both = job_but (goal.at.returns-in-copy c).In-Some (codes "copy") c.copy_of.result c.in-copy.is c.copy_of.ensures.said (λ h. c.copy_of.ensures.given h.0 h.1) in
+    record { said = both.0; given = both.1 }
+
+pub returns-in-journal : goal.returns-in-journal
+returns-in-journal c =
+    let both = job_at (goal.at.returns-in-journal c).In-Some (codes "journal") c.journal_of.result c.in-journal.is c.journal_of.ensures.said
+    (λ h. or_misnoted c.journal_of.result (rows_of (found_of c.in-Some.inner.now)) (c.journal_of.ensures.given h)) in
     record { said = both.0; given = both.1 }
 
 pub returns-in-tokens : goal.returns-in-tokens

@@ -89,4 +89,7 @@ pub const LOOKS: &str = "\
 1700000000 clerk-token-00001 GET /desk/requests
 1700000000 clerk-token-00001 GET /desk/requests/alice/a-1
 1700000000 clerk-token-00001 GET /desk/tokens
+1700000000 clerk-token-00001 GET /desk/journal/days/2023-11-14
+1700000000 clerk-token-00001 GET /desk/journal/actors/clerk
+1700000000 alice-token-00001 GET /times
 ";

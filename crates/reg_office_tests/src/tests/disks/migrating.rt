@@ -3,7 +3,7 @@
 use crate::tests::disks::image::Image;
 use crate::tests::disks::left::{NEVER, Stop, stops};
 use crate::tests::disks::making::{asking, calls_of_opening, prepared_by, refused, seen};
-use crate::tests::disks::rows::{OF_THE_FIRST, OF_THE_SECOND};
+use crate::tests::disks::rows::{OF_THE_FIRST, OF_THE_SECOND, OF_THE_THIRD};
 use crate::tests::disks::sessions::{Statement, ask, carry_out};
 use reg_opening::kind::StoreKind;
 use reg_tables::version::{NEWEST, Version};
@@ -18,6 +18,7 @@ type Older = (Version, &'static str, usize);
 const FIRST: Older = (Version::First, TO_THE_FIRST, OF_THE_FIRST);
 
 const TO_THE_FIRST: &str = "\
+DROP TABLE journal
 DROP TABLE agents
 DROP TABLE minutes
 DROP TABLE holds
@@ -27,8 +28,16 @@ UPDATE office SET version = 1
 const SECOND: Older = (Version::Second, TO_THE_SECOND, OF_THE_SECOND);
 
 const TO_THE_SECOND: &str = "\
+DROP TABLE journal
 DROP TABLE agents
 UPDATE office SET version = 2
+";
+
+const THIRD: Older = (Version::Third, TO_THE_THIRD, OF_THE_THIRD);
+
+const TO_THE_THIRD: &str = "\
+DROP TABLE journal
+UPDATE office SET version = 3
 ";
 
 // What the store in these files is, if it has tables, and the files after these statements.
@@ -44,10 +53,17 @@ fn judged(
     Ok((outcome.kind?, left.written))
 }
 
+// An older program records no acts.
+const WITHOUT_ACTS: &str = "DELETE FROM journal\n";
+
 // The files of an office in the newest version, and of the same office in an older one.
 fn both(alloc: Global, older: Older) -> Result<(Image, Image), Fail> {
     let (version, statements, lines) = older;
-    let newest = prepared_by(alloc, lines)?;
+    let (kind, newest) = judged(alloc, &prepared_by(alloc, lines)?, WITHOUT_ACTS)?;
+    ensure(
+        kind == Some(StoreKind::Ours(NEWEST)),
+        "an office without acts",
+    )?;
     let (kind, image) = judged(alloc, &newest, statements)?;
     ensure(kind == Some(StoreKind::Ours(version)), "an older office")?;
     Ok((newest, image))
@@ -148,4 +164,14 @@ fn stops_of_the_log_at_the_second_version(rt: HostRuntime) -> Result<(), Fail> {
 #[test]
 fn stops_of_the_database_at_the_second_version(rt: HostRuntime) -> Result<(), Fail> {
     assert_stops(rt.alloc(), SECOND, OF_THE_DATABASE)
+}
+
+#[test]
+fn stops_of_the_log_at_the_third_version(rt: HostRuntime) -> Result<(), Fail> {
+    assert_stops(rt.alloc(), THIRD, OF_THE_LOG)
+}
+
+#[test]
+fn stops_of_the_database_at_the_third_version(rt: HostRuntime) -> Result<(), Fail> {
+    assert_stops(rt.alloc(), THIRD, OF_THE_DATABASE)
 }

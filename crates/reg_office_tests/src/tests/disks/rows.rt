@@ -6,6 +6,9 @@ pub const OF_THE_FIRST: usize = 21;
 /// How many leave nothing that one of the second cannot hold: marks and minutes, but no agents.
 pub const OF_THE_SECOND: usize = 31;
 
+/// All leave nothing that one of the third cannot hold, but for the acts.
+pub const OF_THE_THIRD: usize = 42;
+
 /// The lines of one office from its founding on, each with its answer, as in other transcripts.
 pub const ROWS: &str = r#"
 > 1700000000 clerk-token-00001 PUT /desk/tokens {"account":"alice","kind":"applicant","token":"alice-token-00001","until":1800000000}

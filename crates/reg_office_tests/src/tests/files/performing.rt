@@ -62,13 +62,19 @@ w %/r.csv
 < Registry,Value,Description,Assignee,Expires,Held
 
 + check %/o.db
-< version 3
+< version 4
 < well kept
 < registries 1
 < entries 0
 
 0 copy %/o.db %/copies
-< copied version 3, 0 requests
+< copied version 4, 0 requests
+
++ journal %/copies/o.db
+< Number,Moment,By,Token,Kind,Account,Reference,Registry,Value,Block,Other,Digest
+
+1 journal %/copies/o.db --digest 0000000000000000
+< fault: journal
 
 0 tokens %/copies/o.db
 < Account,Kind,Until,Digest
@@ -89,7 +95,7 @@ w %/register.csv
 < 1582934400 clerk-token-00001 PUT /desk/approve/alice/import-5-64a7994c6feb
 
 0 --version
-< reg_cli 3.0.0 (office version 3)
+< reg_cli 4.0.0 (office version 4)
 
 + --help
 < reg_cli init office.db --clerk @clerk.token

@@ -2,9 +2,9 @@
 //! scripts and over HTTP, over lists and over tables in memory.
 use crate::tests::worked::exercise::{assert_answers, assert_over_both, over_both};
 use crate::tests::worked::generated::requests;
-use crate::tests::worked::http::Requests;
 use crate::tests::worked::rows::ROWS;
 use crate::tests::worked::scripts::{Scripts, part_of};
+use crate::tests::worked::served::Requests;
 use crate::tests::worked::wide::wide;
 use reg_testing::facts::ensure;
 use reg_testing::transcript::sent;

@@ -1,7 +1,7 @@
 //! Requests without the form of one, and one whose answer is cut, where the rows end.
 use crate::tests::worked::exercise::{CLERK, Exercise, over_both};
-use crate::tests::worked::http::{answer, answer_to};
 use crate::tests::worked::rows::ROWS;
+use crate::tests::worked::served::{answer, answer_to};
 use reg_keeper::keeper::Keeper;
 use reg_office::Office;
 use reg_testing::devices::FailsAfter;

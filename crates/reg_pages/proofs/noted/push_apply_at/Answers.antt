@@ -1,5 +1,5 @@
 use Rattle.std.proofs.Common.{◌<◌, length, rules}
-use Rattle.reg_html.proofs.Pieces.{joined, shown}
+use Rattle.reg_pages.proofs.Pieces.{joined, shown}
 use Rattle.reg_pages.proofs.NotEmpty.{apply_at-some}
 use Rattle.reg_pages.proofs.noted.push_apply_at.Goals as goal
 

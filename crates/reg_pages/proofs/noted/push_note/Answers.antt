@@ -1,4 +1,4 @@
-use Rattle.reg_html.proofs.Pieces.{joined, shown}
+use Rattle.reg_pages.proofs.Pieces.{joined, shown}
 use Rattle.reg_pages.proofs.noted.push_note.Goals as goal
 
 pub returns : goal.returns

@@ -1,5 +1,5 @@
 use Rattle.std.proofs.Common.{◌<◌, length, rules}
-use Rattle.reg_html.proofs.Pieces.{joined, shown}
+use Rattle.reg_pages.proofs.Pieces.{joined, shown}
 use Rattle.reg_pages.proofs.NotEmpty.{reference_shown-some}
 use Rattle.reg_pages.proofs.noted.push_reference_part.Goals as goal
 

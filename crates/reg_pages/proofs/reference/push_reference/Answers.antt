@@ -1,5 +1,5 @@
 use Rattle.std.proofs.Common.{◌≡◌, ◌∙◌, Some, sym, ap}
-use Rattle.reg_html.specs.Document.{link}
+use Rattle.reg_pages.specs.Document.{link}
 use Rattle.reg_pages.specs.Reference.{by_rfc, reference_markup, rfc_of, rfc_place}
 use Rattle.reg_pages.proofs.reference.push_reference.Goals as goal
 

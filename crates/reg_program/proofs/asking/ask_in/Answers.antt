@@ -1,7 +1,7 @@
 use Rattle.std.proofs.Common.{◌∙◌, inl}
 use Rattle.std.specs.Io.KnownBytes.{Appends}
 use Rattle.std.specs.Option.{option_copied}
-use Rattle.reg_core.specs.Step.{answer_to}
+use Rattle.reg_core.specs.Step.{answer_to, stamp_in}
 use Rattle.reg_office.specs.Caller.{caller_of, step_by, token_digest}
 use Rattle.reg_program.proofs.Asked.{is_printed, looks, printing_unprinted, refused_may, unprinted}
 use Rattle.reg_program.proofs.Did.{ends_printing, stops, undone_by, write_prints}
@@ -20,12 +20,14 @@ returns-in_err-text-clause-does g c =
     let world = g.K.Keeper.world in
     let given = c.in_ok-reply.ensures in
     let stopped = c.in_err-text in
-    let a = answer_to token_digest (world c.args.office.now) (caller_of (option_copied c.args.question.now.token))
-    c.args.moment c.args.question.now.command in
+    let who = caller_of (option_copied c.args.question.now.token) in
+    let by = stamp_in (world c.args.office.now) who c.args.moment in
+    let a = answer_to token_digest (world c.args.office.now) who c.args.moment
+    c.args.question.now.command in
     undone_by world g.K.Keeper.Holds g.K.Keeper.Sound g.K.Keeper.FAILS c.args.office.now
     c.handle.new.self _ _ _ stopped.field-0.0 c.from_residual-in_err-text.ensures.1 given.premise
     (refused_may g.K.Keeper.FAILS c.in_ok-reply.reply stopped.field-0.0 stopped.ensures.refused)
-    (λ h. unprinted (world c.args.office.now) (world c.handle.new.self) a c.in_ok-reply.reply
+    (λ h. unprinted by (world c.args.office.now) (world c.handle.new.self) a c.in_ok-reply.reply
     stopped.field-0.0 (given.reply h) (given.world h) stopped.ensures.refused)
 
 pub returns-in_err-text-clause-looks : goal.returns-in_err-text-clause-looks

@@ -2,6 +2,7 @@ use Rattle.std.proofs.Common.{◌≡◌, refl}
 use Rattle.std.specs.Prelude.{option_map, string_bytes, OnOk}
 use Rattle.reg_program.specs.Copying.{PrintsCopied}
 use Rattle.reg_program.specs.Importing.{IsImported}
+use Rattle.reg_program.specs.Journal.{TellsActs}
 use Rattle.reg_program.specs.Tasks.{streams_by}
 use Rattle.reg_program.specs.Verifying.{IsVerifiedBy}
 use Rattle.reg_program.proofs.Carried.{touches_none}
@@ -25,6 +26,16 @@ returns-in-Copy g c =
     rw c.in-Copy.is
     (touches_none (c.args.offices.now ≡ c.args.offices.now) (λ done. OnOk done (PrintsCopied Copied had has)) c.copy.result refl
     (rw (c.deref-in-Copy.ensures, c.deref-in-Copy-2.ensures) at c.copy.ensures))
+
+pub returns-in-Journal : goal.returns-in-Journal
+returns-in-Journal g c =
+    let Recorded = g.C.Copies.Recorded c.args.copies.now (string_bytes c.in-Journal.file) in
+    let noted = option_map string_bytes c.in-Journal.digest in
+    let had = g.W.Write.contents c.args.console.now.output.now in
+    let has = g.W.Write.contents c.tell_acts.new.output in
+    rw c.in-Journal.is
+    (touches_none (c.args.offices.now ≡ c.args.offices.now) (TellsActs Recorded noted had has) c.tell_acts.result refl
+    (rw c.deref-in-Journal.ensures at c.tell_acts.ensures))
 
 pub returns-in-Due : goal.returns-in-Due
 returns-in-Due g c = rw c.in-Due.is (rw c.deref-in-Due.ensures at c.due_at.ensures)

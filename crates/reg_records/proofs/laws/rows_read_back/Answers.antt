@@ -1,3 +1,4 @@
+use Rattle.reg_records.proofs.ActLaws.{acts_kept}
 use Rattle.reg_records.proofs.AdviceLaws.{advice_kept}
 use Rattle.reg_records.proofs.EntryLaws.{entries_kept, entry_unheld}
 use Rattle.reg_records.proofs.GrantLaws.{grants_kept}
@@ -27,4 +28,5 @@ returns c = record {
   holds = holds_kept;
   minutes = minutes_kept;
   agents = links_kept;
+  journal = acts_kept;
 }

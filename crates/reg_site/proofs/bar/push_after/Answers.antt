@@ -1,7 +1,7 @@
 use Rattle.std.proofs.Common.{◌≡◌, ◌+◌, ◌∙◌, true, false, map, ap, sym, subst}
-use Rattle.reg_html.specs.Markup.{all_of, markup_then}
+use Rattle.reg_pages.specs.Markup.{all_of, markup_then}
 use Rattle.reg_site.specs.Bar.{entry_part, joined, joins, merged, part}
-use Rattle.reg_html.proofs.Pieces.{Leads, begins}
+use Rattle.reg_pages.proofs.Pieces.{Leads, begins}
 use Rattle.reg_site.proofs.Merging.{comes_last, merges, parts_left, stands_apart}
 use Rattle.reg_site.proofs.bar.push_after.Goals as goal
 use Rattle.reg_site.proofs.bar.push_after.Goals.{then-joins, else-joins+in_ok-push_part}

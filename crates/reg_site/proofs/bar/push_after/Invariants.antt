@@ -1,7 +1,7 @@
 use Rattle.std.proofs.Common.{map}
-use Rattle.reg_html.specs.Markup.{all_of, markup_then}
+use Rattle.reg_pages.specs.Markup.{all_of, markup_then}
 use Rattle.reg_site.specs.Bar.{entry_part, merged, part}
-use Rattle.reg_html.proofs.Pieces.{Leads}
+use Rattle.reg_pages.proofs.Pieces.{Leads}
 use Rattle.reg_site.proofs.Merging.{parts_left}
 use Rattle.reg_site.proofs.bar.push_after.Given as goal
 

@@ -1,7 +1,7 @@
 use Rattle.std.proofs.Common.{sym}
 use Rattle.std.specs.List.{take-map}
 use Rattle.reg_site.specs.Changes.{changes_page, shown}
-use Rattle.reg_html.proofs.Pieces.{joined, whole}
+use Rattle.reg_pages.proofs.Pieces.{joined, whole}
 use Rattle.reg_site.proofs.changes.changes_page.Goals as goal
 
 pub returns : goal.returns

@@ -1,7 +1,7 @@
 use Rattle.std.proofs.Common.{map, refl}
-use Rattle.reg_html.specs.Markup.{all_of, markup_then}
+use Rattle.reg_pages.specs.Markup.{all_of, markup_then}
 use Rattle.reg_site.specs.Changes.{change_entry, shown}
-use Rattle.reg_html.proofs.Pieces.{begins, ends, goes_on_at}
+use Rattle.reg_pages.proofs.Pieces.{begins, ends, goes_on_at}
 use Rattle.reg_site.proofs.changes.push_entries.Goals as goal
 
 pub loop-change-init : goal.loop-change-init

@@ -1,7 +1,7 @@
 use Rattle.std.proofs.Common.{map}
-use Rattle.reg_html.specs.Markup.{all_of, markup_then}
+use Rattle.reg_pages.specs.Markup.{all_of, markup_then}
 use Rattle.reg_site.specs.Changes.{change_row, shown}
-use Rattle.reg_html.proofs.Pieces.{Leads, from_place}
+use Rattle.reg_pages.proofs.Pieces.{Leads, from_place}
 use Rattle.reg_site.proofs.changes.push_rows.Given as goal
 
 abbrev pub invariant-loop-change : goal.invariant-loop-change

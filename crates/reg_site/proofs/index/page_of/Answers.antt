@@ -1,5 +1,5 @@
 use Rattle.reg_site.specs.Index.{index_by_rows}
-use Rattle.reg_html.proofs.Pieces.{joined, whole}
+use Rattle.reg_pages.proofs.Pieces.{joined, whole}
 use Rattle.reg_site.proofs.index.page_of.Goals as goal
 
 pub returns : goal.returns

@@ -1,5 +1,5 @@
 use Rattle.std.proofs.Common.{◌<◌, length, rules}
-use Rattle.reg_html.proofs.Pieces.{shown}
+use Rattle.reg_pages.proofs.Pieces.{shown}
 use Rattle.reg_site.proofs.NotEmpty.{changed_part-some}
 use Rattle.reg_site.proofs.index.push_changed.Goals as goal
 

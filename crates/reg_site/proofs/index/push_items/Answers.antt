@@ -1,4 +1,4 @@
-use Rattle.reg_html.proofs.Pieces.{joined, shown}
+use Rattle.reg_pages.proofs.Pieces.{joined, shown}
 use Rattle.reg_site.proofs.index.push_items.Goals as goal
 
 pub returns : goal.returns

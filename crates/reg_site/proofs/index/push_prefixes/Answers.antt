@@ -1,7 +1,7 @@
 use Rattle.std.proofs.Common.{map, refl}
-use Rattle.reg_html.specs.Markup.{all_of, markup_then}
+use Rattle.reg_pages.specs.Markup.{all_of, markup_then}
 use Rattle.reg_site.specs.Index.{prefix_item}
-use Rattle.reg_html.proofs.Pieces.{begins, ends, goes_on_at}
+use Rattle.reg_pages.proofs.Pieces.{begins, ends, goes_on_at}
 use Rattle.reg_site.proofs.index.push_prefixes.Goals as goal
 
 pub loop-prefix-init : goal.loop-prefix-init

@@ -1,9 +1,9 @@
 use Rattle.std.proofs.Common.{map, refl}
 use Rattle.std.specs.Option.{option_copied}
-use Rattle.reg_html.specs.Markup.{all_of, markup_then}
+use Rattle.reg_pages.specs.Markup.{all_of, markup_then}
 use Rattle.reg_site.specs.Index.{register_row}
 use Rattle.reg_site.specs.IndexTree.{row_of}
-use Rattle.reg_html.proofs.Pieces.{begins, ends, goes_on}
+use Rattle.reg_pages.proofs.Pieces.{begins, ends, goes_on}
 use Rattle.reg_site.proofs.index.push_registry_rows.Goals as goal
 
 pub loop-register-init : goal.loop-register-init

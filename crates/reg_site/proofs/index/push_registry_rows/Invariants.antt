@@ -1,9 +1,9 @@
 use Rattle.std.proofs.Common.{map}
 use Rattle.std.specs.Option.{option_copied}
-use Rattle.reg_html.specs.Markup.{all_of, markup_then}
+use Rattle.reg_pages.specs.Markup.{all_of, markup_then}
 use Rattle.reg_site.specs.Index.{register_row}
 use Rattle.reg_site.specs.IndexTree.{row_of}
-use Rattle.reg_html.proofs.Pieces.{Leads, from_place}
+use Rattle.reg_pages.proofs.Pieces.{Leads, from_place}
 use Rattle.reg_site.proofs.index.push_registry_rows.Given as goal
 
 abbrev pub invariant-loop-register : goal.invariant-loop-register

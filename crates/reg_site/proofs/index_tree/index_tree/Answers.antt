@@ -1,5 +1,5 @@
 use Rattle.reg_site.specs.IndexTree.{index_tree}
-use Rattle.reg_html.proofs.Pieces.{joined, whole}
+use Rattle.reg_pages.proofs.Pieces.{joined, whole}
 use Rattle.reg_site.proofs.index_tree.index_tree.Goals as goal
 
 pub returns : goal.returns

@@ -1,6 +1,6 @@
 use Rattle.std.proofs.Common.{◌≡◌, ◌++◌, arith}
 use Rattle.std.proofs.lemmas.Grind.{common_steps}
-use Rattle.reg_html.proofs.Pieces.{bytes}
+use Rattle.reg_pages.proofs.Pieces.{bytes}
 use Rattle.reg_site.specs.IndexTree.{json_text}
 use Rattle.reg_site.proofs.index_tree.push_json.Goals as goal
 

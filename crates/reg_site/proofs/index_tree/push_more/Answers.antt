@@ -1,5 +1,5 @@
 use Rattle.std.proofs.Common.{map, refl}
-use Rattle.reg_html.proofs.Pieces.{begins, bytes_end, bytes_go_on}
+use Rattle.reg_pages.proofs.Pieces.{begins, bytes_end, bytes_go_on}
 use Rattle.reg_site.specs.IndexTree.{more_then, next_then, row_of}
 use Rattle.reg_site.proofs.index_tree.push_more.Goals as goal
 

@@ -1,5 +1,5 @@
 use Rattle.std.proofs.Common.{map}
-use Rattle.reg_html.proofs.Pieces.{Leads, bytes_from}
+use Rattle.reg_pages.proofs.Pieces.{Leads, bytes_from}
 use Rattle.reg_site.specs.IndexTree.{more_then, row_of}
 use Rattle.reg_site.proofs.index_tree.push_more.Given as goal
 

@@ -1,4 +1,4 @@
-use Rattle.reg_html.proofs.Pieces.{joined}
+use Rattle.reg_pages.proofs.Pieces.{joined}
 use Rattle.reg_site.proofs.records.push_above_of.Goals as goal
 
 pub returns : goal.returns

@@ -1,7 +1,7 @@
 use Rattle.std.proofs.Common.{map, refl}
-use Rattle.reg_html.specs.Markup.{all_of, markup_then}
+use Rattle.reg_pages.specs.Markup.{all_of, markup_then}
 use Rattle.reg_site.specs.Registry.{range_row}
-use Rattle.reg_html.proofs.Pieces.{begins, ends, goes_on}
+use Rattle.reg_pages.proofs.Pieces.{begins, ends, goes_on}
 use Rattle.reg_site.proofs.registry.push_range_rows.Goals as goal
 
 pub loop-range-init : goal.loop-range-init

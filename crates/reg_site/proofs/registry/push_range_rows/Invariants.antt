@@ -1,7 +1,7 @@
 use Rattle.std.proofs.Common.{map}
-use Rattle.reg_html.specs.Markup.{all_of, markup_then}
+use Rattle.reg_pages.specs.Markup.{all_of, markup_then}
 use Rattle.reg_site.specs.Registry.{range_row}
-use Rattle.reg_html.proofs.Pieces.{Leads, from_place}
+use Rattle.reg_pages.proofs.Pieces.{Leads, from_place}
 use Rattle.reg_site.proofs.registry.push_range_rows.Given as goal
 
 abbrev pub invariant-loop-range : goal.invariant-loop-range

@@ -3,7 +3,7 @@ use Rattle.std.proofs.lemmas.Int.{to_z-of_z}
 use Rattle.std.proofs.lemmas.Result.{IfErr-weaker, IfOk-weaker}
 use Rattle.sqlite.specs.Held.{state}
 use Rattle.sqlite.specs.State.{State}
-use Rattle.reg_vacancies.specs.declared.vacancies.Vacancies.{Vacancies}
+use Rattle.reg_opening.specs.declared.beside.Beside.{Beside}
 use Rattle.reg_keeper.specs.declared.keeper.Fault.{Fault as Given}
 use Rattle.reg_keeper.specs.declared.keeper.Fault.TheVariants as faults
 use Rattle.reg_tables.specs.Connection.{Holds, Works}
@@ -37,7 +37,7 @@ module _ (old mid : State) {E : Type 0} (found : Found) (finds : FindsKind {E = 
   flawed g is w = subst (HasFlaw old.now) is (finds.flaw w)
 
   -- of an office's: what was taken over was there before
-  module _ (v : Version) (free : Vacancies) (is : found ≡ finding.Ours v free) where
+  module _ (v : Version) (free : Beside) (is : found ≡ finding.Ours v free) where
     opened_over : (last : State) → (Holds last → Works mid × IsOpened false mid.now (world_in last))
         → Holds last → Works old × IsOpened false old.now (world_in last)
     opened_over last opened h =

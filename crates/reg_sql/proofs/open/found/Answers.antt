@@ -1,7 +1,8 @@
 use Rattle.std.proofs.Common.{◌⊎◌, inl, refl, true}
 use Rattle.sqlite.specs.Held.{state}
+use Rattle.reg_tables.specs.Connection.{Holds}
 use Rattle.reg_sql.proofs.Failed.{given_up}
-use Rattle.reg_sql.proofs.Founded.{blank, founded_alone, founded_empty, keeps_founded}
+use Rattle.reg_sql.proofs.Founded.{blank, counts_founded, founded_alone, founded_empty, keeps_founded}
 use Rattle.reg_sql.proofs.open.found.Goals as goal
 
 pub returns-in-Ok-clause-keeps : goal.returns-in-Ok-clause-keeps
@@ -9,8 +10,12 @@ returns-in-Ok-clause-keeps g c =
     let old = state g.S.Store c.args.conn.now in
     let new = state g.S.Store c.make_office.new.conn in
     let founds = c.in-Ok.ensures.founds in
-    keeps_founded new c.make_office.ensures.rest
-    (λ h. (founded_alone old new (founds h.works).gained (founds h.works).made h).1) _ c.new.ensures
+    let founded = λ (h : Holds new).
+    (founded_alone old new (founds h.works).gained (founds h.works).made h).1 in
+    record {
+      office = keeps_founded new c.make_office.ensures.rest founded _ c.new.ensures;
+      counts = counts_founded new founded;
+    }
 
 pub returns-in-Ok-clause-has : goal.returns-in-Ok-clause-has
 returns-in-Ok-clause-has g c works = (c.in-Ok.ensures.founds works).gained.has

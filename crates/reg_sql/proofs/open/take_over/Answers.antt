@@ -27,7 +27,7 @@ bring-requires-clause-found g c =
     let old = state g.S.Store c.args.conn.now in
     let new = state g.S.Store c.find.new.conn in
     found_still c.args.fresh old new (search rules) c.in_ok-version.field-0 c.in_ok-version.ensures.finds
-    c.in-Ours.version c.in-Ours.vacancies c.in-Ours.is
+    c.in-Ours.version c.in-Ours.beside c.in-Ours.is
 
 -- ---- What becomes of the store
 
@@ -48,8 +48,8 @@ returns-in-Ours-clause-takes g c =
     let old = state g.S.Store c.args.conn.now in
     let new = state g.S.Store c.find.new.conn in
     let version = c.is_newest.ensures.0 c.if-is_newest.true in
-    ours_over c.args.fresh old new (search rules) c.in_ok-version.field-0 c.in_ok-version.ensures.finds c.in-Ours.vacancies
-    (c.in-Ours.is ∙ ap (λ v. finding.Ours v c.in-Ours.vacancies) version)
+    ours_over c.args.fresh old new (search rules) c.in_ok-version.field-0 c.in_ok-version.ensures.finds c.in-Ours.beside
+    (c.in-Ours.is ∙ ap (λ v. finding.Ours v c.in-Ours.beside) version)
 
 pub returns-in-Ours-2-clause-takes : goal.returns-in-Ours-2-clause-takes
 returns-in-Ours-2-clause-takes g c =
@@ -58,7 +58,7 @@ returns-in-Ours-2-clause-takes g c =
     let last = state g.S.Store c.bring.new.conn in
     let other = c.if-is_newest.false in
     older_over c.args.fresh old new (search rules) c.in_ok-version.field-0 c.in_ok-version.ensures.finds c.in-Ours.version
-    c.in-Ours.vacancies c.in-Ours.is
+    c.in-Ours.beside c.in-Ours.is
     (λ is. let told = c.is_newest.ensures.1 is in absurd (cc)) last c.bring.result c.bring.ensures.brings
 
 pub returns-in-OtherVersion-clause-takes : goal.returns-in-OtherVersion-clause-takes

@@ -13,7 +13,7 @@ use Rattle.reg_tables.specs.declared.version.Version.{Version}
 use Rattle.reg_tables.proofs.Statements.{all_ranges}
 use Rattle.reg_tables.proofs.Statements.{all_registries}
 use Rattle.reg_statements.specs.Content.{max_at, range_at}
-use Rattle.reg_audit.specs.Audits.{knows_free}
+use Rattle.reg_opening.specs.Audits.{knows_free}
 use Rattle.reg_statements.proofs.ReadLemmas.{passed_on}
 use Rattle.reg_opening.specs.Feeding.{tables_at}
 use Rattle.reg_opening.proofs.Causes.{cause_later, query_cause}

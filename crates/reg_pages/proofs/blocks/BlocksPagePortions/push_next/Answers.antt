@@ -1,9 +1,9 @@
 use Rattle.std.proofs.Common.{◌≡◌, ◌+◌, ◌<◌, ◌≤◌, ◌++◌, ◌∙◌, length, get_or, ap, sym, append-nil, rules}
 use Rattle.std.proofs.lemmas.List.{drop_all}
 use Rattle.reg_pages.specs.Blocks.{above_rows, authority_of, block_row, left_from, rows_left}
-use Rattle.reg_html.specs.Markup.{markup_then}
+use Rattle.reg_pages.specs.Markup.{markup_then}
 use Rattle.reg_pages.specs.Portions.{after}
-use Rattle.reg_html.specs.Table.{below_rows}
+use Rattle.reg_pages.specs.Table.{below_rows}
 use Rattle.reg_pages.specs.declared.portions.Next.TheVariants as next
 use Rattle.reg_pages.proofs.Portioned.{after_last, after_row, at_place, below_some, block_some, blocks_above_some, blocks_parts, gives}
 use Rattle.reg_pages.proofs.blocks.BlocksPagePortions.push_next.Goals as goal

@@ -1,9 +1,14 @@
 use Rattle.reg_program.proofs.Results.{ok_as}
 use Rattle.reg_program.proofs.tasks.Task.carry_out.Goals as goal
 
+pub returns-in-Found-clause-did : goal.returns-in-Found-clause-did
+returns-in-Found-clause-did g c =
+    rw c.in-Found.is (c.moment_now.result, c.moment_now.ensures, c.found_in.ensures.does)
+
 pub returns-in-Ask-clause-did : goal.returns-in-Ask-clause-did
 returns-in-Ask-clause-did g c =
-    rw c.in-Ask.is (c.moment_now.result, c.moment_now.ensures, c.ask_in.ensures.does)
+    rw c.in-Ask.is
+    (c.moment_now-in-Ask.result, c.moment_now-in-Ask.ensures, c.ask_in.ensures.does)
 
 pub returns-in-Revoke-clause-did : goal.returns-in-Revoke-clause-did
 returns-in-Revoke-clause-did g c =

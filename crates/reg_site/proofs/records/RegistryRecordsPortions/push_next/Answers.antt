@@ -1,7 +1,7 @@
 use Rattle.std.proofs.Common.{◌≡◌, ◌+◌, ◌<◌, ◌≤◌, ◌++◌, ◌∙◌, length, get_or, map, ap, sym, append-nil, rules}
 use Rattle.std.proofs.lemmas.List.{drop_all}
 use Rattle.reg_print.specs.Listing.{row_view}
-use Rattle.reg_html.specs.Markup.{markup_then}
+use Rattle.reg_pages.specs.Markup.{markup_then}
 use Rattle.reg_pages.specs.Portions.{after}
 use Rattle.reg_site.specs.Records.{above_records, below_records, left_from, notes_of, record_of, records_after, title_of}
 use Rattle.reg_pages.specs.Noted.{noted_in}

@@ -1,12 +1,12 @@
 use Rattle.std.proofs.Common.{◌≡◌, ◌+◌, ◌<◌, ◌≤◌, ◌++◌, ◌∙◌, length, get_or, map, ap, sym, append-nil, rules}
 use Rattle.std.proofs.lemmas.List.{drop_all}
 use Rattle.reg_print.specs.Listing.{row_view}
-use Rattle.reg_html.specs.Markup.{markup_then}
+use Rattle.reg_pages.specs.Markup.{markup_then}
 use Rattle.reg_pages.specs.Portions.{after}
 use Rattle.reg_site.specs.Registry.{above_rows, left_from, noted_row, notes_of, rows_left}
 use Rattle.reg_pages.specs.Noted.{note_of_row}
 use Rattle.reg_site.specs.Summary.{summary}
-use Rattle.reg_html.specs.Table.{below_rows}
+use Rattle.reg_pages.specs.Table.{below_rows}
 use Rattle.reg_pages.specs.declared.portions.Next.TheVariants as next
 use Rattle.reg_pages.proofs.Portioned.{after_last, after_row, at_place, below_some, gives}
 use Rattle.reg_site.proofs.Portioned.{above_some, page_parts, row_some}

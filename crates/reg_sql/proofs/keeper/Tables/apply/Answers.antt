@@ -1,12 +1,6 @@
-use Rattle.std.proofs.Common.{subst, sym}
-use Rattle.sqlite.specs.Held.{state}
-use Rattle.reg_core.specs.WellKept.{CanApply}
-use Rattle.reg_tables.specs.Connection.{Holds}
-use Rattle.reg_statements.specs.Content.{world_in}
+use Rattle.reg_content.proofs.Joining.{alters_as}
+use Rattle.reg_content.proofs.Journaled.{applied_alone}
 use Rattle.reg_sql.proofs.keeper.Tables.apply.Goals as goal
 
-pub apply-requires-clause-fits : goal.apply-requires-clause-fits
-apply-requires-clause-fits g c =
-    subst (λ conn. Holds (state g.S.Store conn)
-    → CanApply (world_in (state g.S.Store conn)) c.args.change.now) (sym c.self.view_is)
-    c.requires.fits
+pub returns : goal.returns
+returns g c = alters_as c.record.ensures (λ w. applied_alone w c.args.change.now)

@@ -16,7 +16,7 @@ always conn = record { clean = refl; is_open = refl }
 
 pub returns-clause-empty : goal.returns-clause-empty
 returns-clause-empty c =
-    let founded = c.in_ok-vacancies.ensures in
+    let founded = c.in_ok-beside.ensures in
     let works = always c.found.new.conn in
     let none : HasNoTables (state over_memory c.in_ok-conn.conn).now = c.in_ok-conn.ensures.2 in
     let holds : Holds (state over_memory c.found.new.conn) = record {

@@ -1,9 +1,8 @@
-use Rattle.reg_print.proofs.PrintedTokens.{◌▸◌, prints_object}
+use Rattle.reg_print.proofs.PrintedTokens.{prints_object}
 use Rattle.reg_print.proofs.bodies.file.CaseFilePrintItself.print.Goals as goal
 
 pub returns : goal.returns
 returns c =
     prints_object c.open_object.ensures
-    (c.put.ensures ▸ c.put-2.ensures ▸ c.put-3.ensures ▸ c.put-4.ensures
-    ▸ c.put_standing.ensures)
+    (c.put_file.ensures)
     c.close_object.ensures tt

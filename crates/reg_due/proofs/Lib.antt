@@ -1,4 +1,0 @@
-pub mod Asked
-mod DueEntries
-pub mod Growing
-pub mod Ordered

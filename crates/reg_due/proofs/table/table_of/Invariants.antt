@@ -1,8 +1,0 @@
-use Rattle.std.proofs.Common.{◌∷◌, Some, map, take}
-use Rattle.reg_print.specs.Records.{HasWritten}
-use Rattle.reg_due.specs.Table.{due_fields, due_header}
-use Rattle.reg_due.proofs.table.table_of.Given as goal
-
-abbrev pub invariant-loop-one : goal.invariant-loop-one
-invariant-loop-one l =
-    HasWritten (λ v. Some v.items) l.writer (due_header ∷ map due_fields (take l.one-index l.due))

@@ -1,4 +1,0 @@
-pub mod Allocation
-pub mod Asking
-pub mod Laws
-pub mod Table

@@ -1,4 +1,0 @@
-pub mod Pieces
-pub mod EscapedUtf8
-pub mod Escaping
-pub mod NestedTags

@@ -1,5 +1,0 @@
-pub mod RowFacts
-pub mod Steps
-pub mod Filings
-pub mod Allowed
-pub mod Made

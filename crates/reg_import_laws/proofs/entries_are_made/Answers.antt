@@ -1,5 +1,0 @@
-use Rattle.reg_import_laws.proofs.Made.{entries_made}
-use Rattle.reg_import_laws.proofs.entries_are_made.Goals as goal
-
-pub returns : goal.returns
-returns c digest_of = entries_made digest_of

@@ -1,2 +1,0 @@
-pub mod FiveFields
-pub mod NotesRows

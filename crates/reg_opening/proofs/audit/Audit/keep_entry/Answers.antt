@@ -1,0 +1,10 @@
+use Rattle.std.proofs.Common.{subst, sym}
+use Rattle.reg_vacancies.specs.Vacancies.{MayBeOf}
+use Rattle.reg_opening.proofs.KeptRows.{keeps_entry}
+use Rattle.reg_opening.proofs.audit.Audit.keep_entry.Goals as goal
+
+pub returns-clause-ok : goal.returns-clause-ok
+returns-clause-ok g c = λ w keeps.
+    keeps_entry c.args.self.now w keeps c.set_row.new.map c.args.entry.now
+    (rw c.can_be_held.ensures at c.in_ok-set_row.ensures.ok) c.in_ok-free.free
+    (c.in_ok-free.ensures.left w (subst (MayBeOf w) (sym c.take.ensures.value) keeps.free))

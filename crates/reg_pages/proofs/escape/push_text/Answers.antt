@@ -1,0 +1,11 @@
+use Rattle.std.proofs.Common.{◌≡◌, ◌++◌, arith}
+use Rattle.std.proofs.lemmas.Grind.{common_steps}
+use Rattle.reg_pages.specs.Escape.{escaped}
+use Rattle.reg_pages.proofs.Pieces.{bytes}
+use Rattle.reg_pages.proofs.escape.push_text.Goals as goal
+
+pub returns : goal.returns
+returns c =
+    let all : c.loop-b.out.items ≡ c.args.out.now.items ++ escaped c.args.text.now =
+    grind (arith, common_steps) in
+    bytes c.args.out.now.items c.loop-b.out.items (escaped c.args.text.now) all
