@@ -53,9 +53,10 @@ static void was_read(struct timespec *time) {
     time->tv_nsec = 0;
 }
 ''' + FUNCTIONS
-# Forks at each allocation that is counted, and refuses it to the child. The clock's readings begin and end the counting by turns.
+# Forks at each allocation that is counted, and refuses it to the child. The clock's readings begin and end the counting by turns. A child ends well after
+# READINGS more of them, but one in sixteen goes on to the end.
 FORKING = CALLED + r'''
-static int counts, is_child, running;
+static int counts, is_child, running, readings, goes_to_end;
 static long passed, failed;
 static struct { int id; long number; } children[256];
 static void wait_for_one(void) {
@@ -80,13 +81,16 @@ static int is_refused(void) {
     while (running >= told("MOST")) wait_for_one();
     number++;
     int id = fork();
-    if (id == 0) { is_child = 1; return 1; }
+    if (id == 0) { is_child = 1; goes_to_end = number % 16 == 0; return 1; }
     if (id > 0) { children[running].id = id; children[running++].number = number; }
     else failed++;
     counts = 1;
     return 0;
 }
-static void was_read(struct timespec *time) { if (!is_child) counts = !counts; }
+static void was_read(struct timespec *time) {
+    if (!is_child) counts = !counts;
+    else if (!goes_to_end && ++readings > told("READINGS")) _exit(0);
+}
 ''' + FUNCTIONS
 
 

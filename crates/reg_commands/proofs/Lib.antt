@@ -1,14 +1,2 @@
 pub mod Approvals
-pub mod ArrivalsInOrder
-pub mod CapLists
-pub mod Counted
-pub mod Decided
-pub mod Deeds
-pub mod Digests
-pub mod LastMoments
-pub mod Pages
-pub mod Requests
-pub mod Rows
-pub mod Selected
 pub mod Submissions
-pub mod TimesOfActs

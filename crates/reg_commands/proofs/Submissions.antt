@@ -16,7 +16,7 @@ use Rattle.reg_core.specs.declared.refusal.Refusal.{Refusal}
 use Rattle.reg_core.specs.declared.request.Case.{Case}
 use Rattle.reg_core.specs.declared.request.Given.{Given}
 use Rattle.reg_core.specs.declared.request.Request.{Request}
-use Rattle.reg_commands.specs.Answers.{answer_to_account, told_made}
+use Rattle.reg_registers.specs.Answers.{answer_to_account, told_made}
 
 case_of-row : (name : RequestName) (found : Option Case)
     → option_map case_of (option_map (request_row name) found) ≡ found

@@ -2,46 +2,16 @@
 ghost use Rattle.std.specs.Prelude.{◌≡◌, None, Err};
 ghost use Rattle.std.specs.Option.{option_copied};
 ghost use Rattle.reg_core.specs.Answer.{admitted, in_force};
-ghost use Rattle.reg_commands.specs.Caller.{admission, caller_of as caller, stamp_by, valid_cap};
-ghost use Rattle.reg_commands.specs.Performs.{LooksUp};
+ghost use Rattle.reg_registers.specs.Caller.{admission, caller_of as caller, valid_cap};
+ghost use Rattle.reg_registers.specs.Performs.{LooksUp};
 
-use crate::digest::caller_of;
-use crate::stop::Stop;
 use reg_core::capability::{Cap, Kind};
-use reg_core::journal::{Actor, Stamp};
 use reg_core::refusal::Refusal;
-use reg_core::text::{Digest, first_digits};
 use reg_early::day::Day;
 use reg_keeper::keeper::Keeper;
-
-/// A caller who is admitted, with the moment of its command.
-#[derive(Clone, Copy)]
-pub struct Caller {
-    /// The digest of the caller's token.
-    pub digest: Digest,
-    /// The capability at that digest.
-    pub capability: Cap,
-    /// The moment, in seconds since 1970-01-01T00:00:00Z.
-    pub moment: u64,
-    /// The day of the moment.
-    pub day: Day,
-}
-
-impl Caller {
-    /// When its command is given, and by whom.
-    pub fn stamp(&self) -> Stamp
-        ensures { result ≡ stamp_by self.now }
-    {
-        let actor = Actor {
-            account: self.capability.account,
-            token: first_digits(&self.digest),
-        };
-        Stamp {
-            moment: Some(self.moment),
-            by: Some(actor),
-        }
-    }
-}
+use reg_registers::caller::Caller;
+use reg_registers::digest::caller_of;
+use reg_registers::stop::Stop;
 
 /// The caller with this token, where it may give commands of this kind at this moment, whose day is
 /// given too, or the first refusal: `Token`, then `Kind`. A caller without a token is answered without

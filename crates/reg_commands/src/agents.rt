@@ -1,19 +1,19 @@
 //! What an applicant may do about its agents and its principals, once admitted.
 ghost use Rattle.reg_core.specs.declared.command.ApplicantCommand.TheVariants as command;
 ghost use Rattle.reg_core.specs.declared.journal.Stamp.{Stamp};
-ghost use Rattle.reg_commands.specs.Answers.{answer_to_account};
-ghost use Rattle.reg_commands.specs.Caller.{stamp_by};
-ghost use Rattle.reg_commands.specs.Performs.{Performs};
+ghost use Rattle.reg_registers.specs.Answers.{answer_to_account};
+ghost use Rattle.reg_registers.specs.Caller.{stamp_by};
+ghost use Rattle.reg_registers.specs.Performs.{Performs};
 
-use crate::admission::Caller;
-use crate::carrying::conclude;
-use crate::stop::Stop;
 use reg_core::refusal::Refusal;
 use reg_core::text::Account;
 use reg_core::told::Told;
 use reg_decisions::decide_agent;
 use reg_keeper::keeper::Keeper;
 use reg_ranges::formed::Formed;
+use reg_registers::caller::Caller;
+use reg_registers::carrying::conclude;
+use reg_registers::stop::Stop;
 
 /// Says of an account whether it may read the applicant's requests. Whether there is a capability
 /// of that account is never looked at.

@@ -9,16 +9,12 @@ ghost use Rattle.reg_core.specs.WellKept.{has_request_form};
 ghost use Rattle.reg_core.specs.World.{RequestName, pending as pending_case};
 ghost use Rattle.reg_core.specs.declared.command.ApplicantCommand.TheVariants as command;
 ghost use Rattle.reg_core.specs.declared.journal.Stamp.{Stamp};
-ghost use Rattle.reg_commands.specs.Answers.{answer_to_account, told_made};
-ghost use Rattle.reg_commands.specs.Caller.{stamp_by};
-ghost use Rattle.reg_commands.specs.Performs.{LooksUp, Performs};
+ghost use Rattle.reg_registers.specs.Answers.{answer_to_account, told_made};
+ghost use Rattle.reg_registers.specs.Caller.{stamp_by};
+ghost use Rattle.reg_registers.specs.Performs.{LooksUp, Performs};
 
-use crate::admission::Caller;
 use crate::agents::{list_agents, list_principal_rows, list_principals, set_agent};
-use crate::carrying::{conclude, conclude_on};
-use crate::ground::ground_if;
 use crate::holdings::{list_holdings, set_listing};
-use crate::stop::Stop;
 use reg_core::ask::Ask;
 use reg_core::command::ApplicantCommand;
 use reg_core::decide::Decision;
@@ -29,6 +25,10 @@ use reg_core::told::Told;
 use reg_decisions::{decide_submit, decide_withdraw};
 use reg_keeper::keeper::Keeper;
 use reg_ranges::formed::Formed;
+use reg_registers::caller::Caller;
+use reg_registers::carrying::{conclude, conclude_on};
+use reg_registers::ground::ground_if;
+use reg_registers::stop::Stop;
 use std::alloc::AllocError;
 
 /// What a command of this applicant's is answered.

@@ -1,16 +1,17 @@
 //! What a clerk may do, once admitted: about capabilities, about requests at the desk, about what is
 //! published at the registers, and about what was done.
-ghost use Rattle.reg_commands.specs.Answers.{answer_to_clerk};
-ghost use Rattle.reg_commands.specs.Caller.{stamp_by};
-ghost use Rattle.reg_commands.specs.Performs.{Performs};
+ghost use Rattle.reg_registers.specs.Answers.{answer_to_clerk};
+ghost use Rattle.reg_registers.specs.Caller.{stamp_by};
+ghost use Rattle.reg_registers.specs.Performs.{Performs};
 
-use crate::admission::Caller;
-use crate::journal::{list_actor, list_day, list_request};
-use crate::stop::Stop;
-use crate::{capabilities, counting, desk, registers};
+use crate::desk;
 use reg_core::command::ClerkCommand;
 use reg_core::told::Told;
 use reg_keeper::keeper::Keeper;
+use reg_registers::caller::Caller;
+use reg_registers::journal::{list_actor, list_day, list_request};
+use reg_registers::stop::Stop;
+use reg_registers::{capabilities, counting, registers};
 use std::alloc::Global;
 
 /// What a command of this clerk's is answered.

@@ -3,16 +3,11 @@ ghost use Rattle.std.specs.Prelude.{◌≡◌};
 ghost use Rattle.reg_core.specs.Request.{is_pending as pending};
 ghost use Rattle.reg_core.specs.View.{published};
 ghost use Rattle.reg_core.specs.declared.command.ClerkCommand.TheVariants as command;
-ghost use Rattle.reg_commands.specs.Answers.{answer_to_clerk};
-ghost use Rattle.reg_commands.specs.Caller.{stamp_by};
-ghost use Rattle.reg_commands.specs.Decisions.{approval_of};
-ghost use Rattle.reg_commands.specs.Performs.{LooksUp, Performs};
+ghost use Rattle.reg_registers.specs.Answers.{answer_to_clerk};
+ghost use Rattle.reg_registers.specs.Caller.{stamp_by};
+ghost use Rattle.reg_registers.specs.Decisions.{approval_of};
+ghost use Rattle.reg_registers.specs.Performs.{LooksUp, Performs};
 
-use crate::admission::Caller;
-use crate::arrivals::waiting;
-use crate::carrying::conclude_on;
-use crate::ground::ground_if;
-use crate::stop::Stop;
 use reg_core::case_file::CaseFile;
 use reg_core::decide::Decision;
 use reg_core::refusal::Refusal;
@@ -23,6 +18,11 @@ use reg_decisions::{decide_approve, decide_assign, decide_decline};
 use reg_early::day::Day;
 use reg_keeper::keeper::Keeper;
 use reg_ranges::formed::Formed;
+use reg_registers::arrivals::waiting;
+use reg_registers::caller::Caller;
+use reg_registers::carrying::conclude_on;
+use reg_registers::ground::ground_if;
+use reg_registers::stop::Stop;
 use std::alloc::Global;
 
 /// All requests.

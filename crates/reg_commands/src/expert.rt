@@ -2,14 +2,11 @@
 ghost use Rattle.std.specs.Prelude.{◌≡◌, ◌↔◌, IfOk, IsOk, IsTrue};
 ghost use Rattle.reg_core.specs.declared.command.ExpertCommand.TheVariants as command;
 ghost use Rattle.reg_core.specs.declared.journal.Stamp.{Stamp};
-ghost use Rattle.reg_commands.specs.Answers.{answer_to_expert};
-ghost use Rattle.reg_commands.specs.Caller.{stamp_by};
-ghost use Rattle.reg_commands.specs.Performs.{Performs};
-ghost use Rattle.reg_commands.specs.Rows.{advised_row};
+ghost use Rattle.reg_registers.specs.Answers.{answer_to_expert};
+ghost use Rattle.reg_registers.specs.Caller.{stamp_by};
+ghost use Rattle.reg_registers.specs.Performs.{Performs};
+ghost use Rattle.reg_registers.specs.Rows.{advised_row};
 
-use crate::admission::Caller;
-use crate::carrying::conclude;
-use crate::stop::Stop;
 use reg_core::advice::Advice;
 use reg_core::command::ExpertCommand;
 use reg_core::queue::QueueRow;
@@ -19,6 +16,9 @@ use reg_core::told::Told;
 use reg_decisions::decide_advise;
 use reg_keeper::keeper::Keeper;
 use reg_ranges::formed::Formed;
+use reg_registers::caller::Caller;
+use reg_registers::carrying::conclude;
+use reg_registers::stop::Stop;
 use std::alloc::AllocError;
 
 /// What a command of this expert's is answered.

@@ -2,14 +2,11 @@
 ghost use Rattle.std.specs.Prelude.{◌≡◌};
 ghost use Rattle.reg_core.specs.declared.command.ApplicantCommand.TheVariants as command;
 ghost use Rattle.reg_core.specs.declared.journal.Stamp.{Stamp};
-ghost use Rattle.reg_commands.specs.Answers.{answer_to_account};
-ghost use Rattle.reg_commands.specs.Caller.{stamp_by};
-ghost use Rattle.reg_commands.specs.Performs.{Performs};
-ghost use Rattle.reg_commands.specs.Rows.{marked_row};
+ghost use Rattle.reg_registers.specs.Answers.{answer_to_account};
+ghost use Rattle.reg_registers.specs.Caller.{stamp_by};
+ghost use Rattle.reg_registers.specs.Performs.{Performs};
+ghost use Rattle.reg_registers.specs.Rows.{marked_row};
 
-use crate::admission::Caller;
-use crate::carrying::conclude;
-use crate::stop::Stop;
 use reg_blocks::block::Block;
 use reg_core::holding::Holding;
 use reg_core::refusal::Refusal;
@@ -17,6 +14,9 @@ use reg_core::text::Account;
 use reg_core::told::Told;
 use reg_decisions::decide_listing;
 use reg_keeper::keeper::Keeper;
+use reg_registers::caller::Caller;
+use reg_registers::carrying::conclude;
+use reg_registers::stop::Stop;
 
 /// The applicant's own blocks.
 pub fn list_holdings<K: Keeper>(keeper: &mut K, account: &Account) -> Result<Told, Stop>

@@ -12,10 +12,9 @@ ghost use Rattle.reg_core.specs.View.{holdings_of};
 ghost use Rattle.reg_core.specs.World.{World, applied};
 ghost use Rattle.reg_core.specs.declared.change.Change.TheVariants.{SetPrivate};
 ghost use Rattle.reg_records.specs.Blocks.{is_holding};
-ghost use Rattle.reg_content.specs.Calls.{IsKeeping, Looks, Steps};
-ghost use Rattle.reg_content.specs.Changing.{SharesNone};
+ghost use Rattle.reg_rows.specs.Calls.{IsKeeping, Looks, Steps};
+ghost use Rattle.reg_rows.specs.Changing.{SharesNone};
 
-use crate::kept::{add, change, find, list};
 use reg_blocks::block::Block;
 use reg_core::holding::{Holding, Listed};
 use reg_core::rows::Rows;
@@ -24,6 +23,7 @@ use reg_keeper::keeper::Fault;
 use reg_ranges::formed::Formed;
 use reg_records::blocks::holding_values;
 use reg_records::column::{flag_value, name_value, whole_value};
+use reg_rows::kept::{add, change, find, list};
 use reg_statements::loads::Loads;
 use reg_tables::reports::Reports;
 use reg_tables::texts::{
@@ -79,7 +79,7 @@ pub fn holding<S: Reports + Loads>(
 }
 
 /// Adds a block that was not given yet.
-#[tactic(auto, using(crate::proofs::Statements::adds_block))]
+#[tactic(auto, using(reg_rows::proofs::Statements::adds_block))]
 pub fn add_block<S: Reports>(tx: &mut Transaction<'_, S>, holding: &Holding) -> Result<(), Fault>
     ensures same_reference { tx.new.conn.ghost_name ≡ tx.old.conn.ghost_name }
     ensures steps { Steps (state S.Store tx.old.conn.now) (state S.Store tx.new.conn.now) result

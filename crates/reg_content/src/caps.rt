@@ -3,15 +3,15 @@ ghost use Rattle.std.specs.Prelude.{◌≡◌, [], None};
 ghost use Rattle.std.specs.FinMap.{get, insert, remove};
 ghost use Rattle.sqlite.specs.Held.{state};
 ghost use Rattle.reg_core.specs.World.{World, without};
-ghost use Rattle.reg_content.specs.Calls.{IsKeeping, Looks, Steps};
+ghost use Rattle.reg_rows.specs.Calls.{IsKeeping, Looks, Steps};
 
-use crate::kept::{add, find, take};
 use reg_core::capability::Cap;
 use reg_core::text::Digest;
 use reg_keeper::keeper::Fault;
 use reg_ranges::formed::Formed;
 use reg_records::caps::Grant;
 use reg_records::column::name_value;
+use reg_rows::kept::{add, find, take};
 use reg_statements::loads::Loads;
 use reg_tables::reports::Reports;
 use reg_tables::texts::{DELETE_CAP, INSERT_CAPS, SELECT_CAP};
@@ -34,7 +34,7 @@ pub fn cap<S: Reports + Loads>(
 }
 
 /// Adds a capability at a digest that has none.
-#[tactic(auto, using(crate::proofs::Statements::adds_cap))]
+#[tactic(auto, using(reg_rows::proofs::Statements::adds_cap))]
 pub fn add_cap<S: Reports>(
     tx: &mut Transaction<'_, S>,
     digest: &Digest,
@@ -54,7 +54,7 @@ pub fn add_cap<S: Reports>(
 }
 
 /// Takes the capability at a digest away, if there is one.
-#[tactic(auto, using(crate::proofs::Statements::takes_cap))]
+#[tactic(auto, using(reg_rows::proofs::Statements::takes_cap))]
 pub fn take_cap<S: Reports>(tx: &mut Transaction<'_, S>, digest: &Digest) -> Result<(), Fault>
     ensures same_reference { tx.new.conn.ghost_name ≡ tx.old.conn.ghost_name }
     ensures steps { Steps (state S.Store tx.old.conn.now) (state S.Store tx.new.conn.now) result

@@ -8,9 +8,8 @@ ghost use Rattle.reg_core.specs.Request.{request_rows};
 ghost use Rattle.reg_core.specs.View.{agents_of, principals_of, requests_of};
 ghost use Rattle.reg_core.specs.World.{World, applied};
 ghost use Rattle.reg_core.specs.declared.change.Change.TheVariants.{SetAgent};
-ghost use Rattle.reg_content.specs.Calls.{IsKeeping, Looks, Steps};
+ghost use Rattle.reg_rows.specs.Calls.{IsKeeping, Looks, Steps};
 
-use crate::kept::{add, find, list, take};
 use crate::requests::own;
 use reg_core::request::Request;
 use reg_core::rows::Rows;
@@ -19,6 +18,7 @@ use reg_keeper::keeper::Fault;
 use reg_ranges::formed::Formed;
 use reg_records::column::name_value;
 use reg_records::links::Link;
+use reg_rows::kept::{add, find, list, take};
 use reg_statements::loads::Loads;
 use reg_tables::reports::Reports;
 use reg_tables::texts::{
@@ -117,7 +117,7 @@ pub fn set_agent<S: Reports>(
 }
 
 /// Makes an account an agent of a principal that it is not.
-#[tactic(auto, using(crate::proofs::Statements::adds_link))]
+#[tactic(auto, using(reg_rows::proofs::Statements::adds_link))]
 fn add_agent<S: Reports>(
     tx: &mut Transaction<'_, S>,
     principal: &Account,
@@ -137,7 +137,7 @@ fn add_agent<S: Reports>(
 }
 
 /// Takes an agent of a principal away, if it is one.
-#[tactic(auto, using(crate::proofs::Statements::takes_link))]
+#[tactic(auto, using(reg_rows::proofs::Statements::takes_link))]
 fn take_agent<S: Reports>(
     tx: &mut Transaction<'_, S>,
     principal: &Account,

@@ -2,16 +2,16 @@
 ghost use Rattle.std.specs.Prelude.{◌≡◌, map};
 ghost use Rattle.sqlite.specs.Held.{state};
 ghost use Rattle.reg_core.specs.File.{waiting_files};
-ghost use Rattle.reg_content.specs.Calls.{IsKeeping, Looks};
-ghost use Rattle.reg_content.specs.Seats.{filed};
+ghost use Rattle.reg_rows.specs.Calls.{IsKeeping, Looks};
+ghost use Rattle.reg_rows.specs.Seats.{filed};
 
-use crate::minutes::with_row;
 use crate::requests::waiting;
 use crate::reviews::seats;
 use reg_core::case_file::CaseFile;
 use reg_core::request::Request;
 use reg_core::rows::Rows;
 use reg_keeper::keeper::Fault;
+use reg_rows::minutes::with_row;
 use reg_statements::loads::Loads;
 use reg_tables::reports::Reports;
 use sqlite::Connection;

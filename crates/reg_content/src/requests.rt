@@ -12,11 +12,9 @@ ghost use Rattle.reg_core.specs.WellKept.{has_request_form};
 ghost use Rattle.reg_core.specs.World.{World, with_state};
 ghost use Rattle.reg_core.specs.declared.request.State.TheVariants.{Pending};
 ghost use Rattle.reg_records.specs.Requests.Values.{given_text, state_values};
-ghost use Rattle.reg_content.specs.Calls.{IsKeeping, Looks, Steps};
-ghost use Rattle.reg_content.specs.Changing.{AsksFor, with_pending};
+ghost use Rattle.reg_rows.specs.Calls.{IsKeeping, Looks, Steps};
+ghost use Rattle.reg_rows.specs.Changing.{AsksFor, with_pending};
 
-use crate::kept::{add, change, find, list};
-use crate::minutes::{Minuted, minuted_all};
 use reg_core::request::{Request, State, StateWord};
 use reg_core::rows::Rows;
 use reg_core::text::{Account, Ref};
@@ -24,6 +22,8 @@ use reg_keeper::keeper::Fault;
 use reg_ranges::formed::Formed;
 use reg_records::column::{name_value, word_value};
 use reg_records::requests::values::{given_text, request_values, state_values};
+use reg_rows::kept::{add, change, find, list};
+use reg_rows::minutes::{Minuted, minuted_all};
 use reg_statements::loads::Loads;
 use reg_tables::reports::Reports;
 use reg_tables::texts::{
@@ -107,7 +107,7 @@ pub fn waiting<S: Reports + Loads>(
 }
 
 /// Adds a pending request, without the minute that it names, at a name that has none.
-#[tactic(auto, using(crate::proofs::Statements::adds_request))]
+#[tactic(auto, using(reg_rows::proofs::Statements::adds_request))]
 pub fn add_request<S: Reports>(tx: &mut Transaction<'_, S>, request: &Request) -> Result<(), Fault>
     requires { request.now.state ≡ Pending }
     ensures same_reference { tx.new.conn.ghost_name ≡ tx.old.conn.ghost_name }

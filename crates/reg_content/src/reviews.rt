@@ -4,26 +4,24 @@ ghost use Rattle.std.specs.FinMap.{get};
 ghost use Rattle.sqlite.specs.Held.{state};
 ghost use Rattle.reg_core.specs.File.{experts_of, file as file_of, opinions_of};
 ghost use Rattle.reg_core.specs.Queue.{queue_row, queue_rows};
-ghost use Rattle.reg_core.specs.Request.{case_of};
-ghost use Rattle.reg_core.specs.View.{as_queued, queue_of};
-ghost use Rattle.reg_content.specs.Calls.{IsKeeping, Looks};
-ghost use Rattle.reg_content.specs.Marks.{seen_minuted};
-ghost use Rattle.reg_content.specs.Seats.{opinion_at};
+ghost use Rattle.reg_core.specs.View.{queue_of};
+ghost use Rattle.reg_rows.specs.Calls.{IsKeeping, Looks};
+ghost use Rattle.reg_rows.specs.Seats.{opinion_at};
 
-use crate::advice::advice;
-use crate::minutes::{Minuted, minuted_each};
-use crate::queue::is_queued;
 use crate::requests::own_one;
-use reg_core::advice::{Advice, Opinion};
+use reg_core::advice::Opinion;
 use reg_core::case_file::CaseFile;
 use reg_core::queue::QueueRow;
-use reg_core::request::Request;
 use reg_core::rows::Rows;
 use reg_core::text::{Account, Ref};
 use reg_keeper::keeper::Fault;
 use reg_records::advised::AdvisedSeat;
 use reg_records::column::name_value;
 use reg_records::queued::QueuedRequest;
+use reg_rows::advice::advice;
+use reg_rows::minutes::minuted_each;
+use reg_rows::queue::is_queued;
+use reg_rows::queued::queued;
 use reg_statements::loads::Loads;
 use reg_statements::select::all;
 use reg_tables::reports::Reports;
@@ -137,37 +135,4 @@ fn opinion_at(row: AdvisedSeat) -> Option<Opinion>
     let expert = row.seat.expert;
     let advice = row.advice?;
     Some(Opinion { expert, advice })
-}
-
-// A request that is assigned, as its expert sees it.
-fn queued(request: Request, advice: Option<Advice>) -> QueueRow
-    ensures { result ≡ queue_row (request.account, request.reference)
-        (as_queued advice (case_of request)) }
-{
-    QueueRow {
-        account: request.account,
-        reference: request.reference,
-        word: request.state.word(),
-        ask: request.ask,
-        advice,
-    }
-}
-
-/// A request that is assigned, as its expert sees it.
-impl Minuted for QueuedRequest {
-    type Whole = QueueRow;
-
-    ghost minuted = { seen_minuted };
-
-    fn minuted<S: Reports + Loads>(
-        self,
-        alloc: Global,
-        conn: &mut Connection<S>,
-    ) -> Result<QueueRow, Fault> {
-        let advice = self.advice;
-        match self.request.minuted(alloc, conn) {
-            Ok(request) => Ok(queued(request, advice)),
-            Err(fault) => Err(fault),
-        }
-    }
 }

@@ -10,7 +10,7 @@ use Rattle.reg_statements.specs.Content.{world_in}
 use Rattle.reg_sql.specs.Looking.{IsSeenIn}
 use Rattle.reg_sql.specs.Snapshots.{ReadsFiles, alone}
 use Rattle.reg_sql.specs.declared.snapshot.Snapshot.{Snapshot}
-use Rattle.reg_disk.specs.Disk.{DiskStep, FileNames, names_within, replaces}
+use Rattle.reg_source.specs.Disk.{DiskStep, FileNames, names_within, replaces}
 use Rattle.reg_program.specs.Copying.{IsUncopied, requests_in}
 use Rattle.reg_program.specs.declared.faults.Undone.{Undone}
 

@@ -4,7 +4,7 @@ ghost use Rattle.std.specs.Fs.{metadata_mode};
 ghost use Rattle.std.specs.Io.KnownBytes.{Appends};
 ghost use Rattle.reg_files.specs.Access.{log_reader_warning, reader_warning};
 
-use reg_disk::modes::{OWNER_ALONE, create_file};
+use reg_source::modes::{OWNER_ALONE, create_file};
 use std::alloc::Global;
 use std::fs::Metadata;
 use std::io::Write;

@@ -1,6 +1,6 @@
 //! The file system, where new files are their owner's alone.
-use reg_disk::disk::{Disk, SystemDisk};
-use reg_disk::modes::{OWNER_ALONE, create_file};
+use reg_source::disk::{Disk, SystemDisk};
+use reg_source::modes::{OWNER_ALONE, create_file};
 use reg_source::unpublished::{Unpublished, unwritten};
 use std::fs;
 

@@ -1,16 +1,16 @@
 //! Where copies of offices are put.
 ghost use Rattle.std.specs.Prelude.{◌≡◌, ◌≢◌, ◌∷◌, ◌++◌, IfOk, MatchOption, MatchResult, OnOk, codes};
 ghost use Rattle.std.specs.Path.{HasNoSlash, slash};
-ghost use Rattle.reg_disk.specs.Names.{names_by};
+ghost use Rattle.reg_source.specs.Names.{names_by};
 ghost use Rattle.reg_files.specs.Copies.{AreNamesIn};
 
 use crate::explained;
 use crate::private_disk::PrivateDisk;
-use reg_disk::disk::Disk;
-use reg_disk::lock::{LOCK_NAME, locked};
-use reg_disk::replacement::Names;
 use reg_program::faults::{JobFailure, Undone};
 use reg_program::publishing::undone;
+use reg_source::disk::Disk;
+use reg_source::lock::{LOCK_NAME, locked};
+use reg_source::replacement::Names;
 use reg_sql::trouble::Trouble;
 use std::alloc::{AllocError, Global};
 use std::os::unix::fs::MetadataExt;
@@ -29,7 +29,7 @@ pub struct Target<D> {
 pub trait Targets {
     ghost use Rattle.std.specs.Prelude.{ℕ, List};
     ghost use Rattle.reg_program.specs.declared.faults.Undone.{Undone as OfJob};
-    ghost use Rattle.reg_disk.specs.Disk.{FileNames};
+    ghost use Rattle.reg_source.specs.Disk.{FileNames};
 
     /// A disk, while a place on it is open.
     type Given: Disk + Drop;

@@ -31,10 +31,10 @@ use Rattle.reg_core.specs.declared.refusal.Refusal.{Refusal}
 use Rattle.reg_core.specs.declared.refusal.Refusal.TheVariants as no
 use Rattle.reg_core.proofs.Links.{own_agent, own_principal, own_principal_rows, own_principal_times}
 use Rattle.reg_core.proofs.Stepping.{admitted-ok, own_request}
-use Rattle.reg_commands.specs.Answers.{answer_about_times, answer_to_account, answer_to_clerk, answer_to_expert, row_of_times}
-use Rattle.reg_commands.specs.Caller.{token_digest, admission, stamp_by, valid_cap}
+use Rattle.reg_registers.specs.Answers.{answer_about_times, answer_to_account, answer_to_clerk, answer_to_expert, row_of_times}
+use Rattle.reg_registers.specs.Caller.{token_digest, admission, stamp_by, valid_cap}
 use Rattle.reg_office.proofs.TimesTold.{times_told}
-use Rattle.reg_commands.specs.declared.admission.Caller.{Caller}
+use Rattle.reg_registers.specs.declared.caller.Caller.{Caller}
 
 -- ---- The clock
 

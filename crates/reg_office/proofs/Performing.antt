@@ -11,10 +11,10 @@ use Rattle.reg_core.specs.declared.told.Told.{Told}
 use Rattle.reg_core.specs.declared.refusal.Refusal.{Refusal}
 use Rattle.reg_core.specs.declared.reply.Reply.TheVariants.{Accepted}
 use Rattle.reg_keeper.proofs.Premises.{goes_on_then}
-use Rattle.reg_commands.specs.Performs.{LooksUp, Performs}
-use Rattle.reg_commands.specs.Stops.{Refuses}
-use Rattle.reg_commands.specs.declared.stop.Stop.{Stop}
-use Rattle.reg_commands.specs.declared.stop.Stop.TheVariants.{Refused, Fault}
+use Rattle.reg_registers.specs.Performs.{LooksUp, Performs}
+use Rattle.reg_registers.specs.Stops.{Refuses}
+use Rattle.reg_registers.specs.declared.stop.Stop.{Stop}
+use Rattle.reg_registers.specs.declared.stop.Stop.TheVariants.{Refused, Fault}
 
 -- what is answered alike was done
 pub performs_as : {S : Type 0} {world : S → World} {Holds Sound : S → Type 0} {fails : Bool}

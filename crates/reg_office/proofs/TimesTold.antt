@@ -13,7 +13,7 @@ use Rattle.reg_core.specs.View.{requests_of, times_by}
 use Rattle.reg_core.specs.World.{World, RequestName}
 use Rattle.reg_core.specs.declared.request.Case.{Case}
 use Rattle.reg_core.specs.declared.request.RequestTimes.{RequestTimes}
-use Rattle.reg_commands.specs.Answers.{row_of_times}
+use Rattle.reg_registers.specs.Answers.{row_of_times}
 
 module _ (w : World) (of : List ℕ) where
   abbrev told_at : RequestName → Case → Option Times

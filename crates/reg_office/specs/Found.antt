@@ -7,7 +7,7 @@ use Rattle.reg_core.specs.Names.{is_token}
 use Rattle.reg_core.specs.World.{World}
 use Rattle.reg_core.specs.declared.journal.Stamp.{Stamp}
 use Rattle.reg_keeper.specs.Keeper.{MayFault}
-use Rattle.reg_commands.specs.Answers.{answer_to_grant}
+use Rattle.reg_registers.specs.Answers.{answer_to_grant}
 use Rattle.reg_office.specs.declared.found.FoundFault.{FoundFault}
 use Rattle.reg_office.specs.declared.found.FoundFault.TheVariants.{Token, Exists, Fault}
 

@@ -2,4 +2,4 @@ pub mod Counting
 pub mod Found
 pub mod Revocation
 pub mod Stamps
-pub use Rattle.reg_commands.specs.Caller
+pub use Rattle.reg_registers.specs.Caller

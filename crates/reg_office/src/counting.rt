@@ -4,11 +4,11 @@ ghost use Rattle.reg_core.specs.Request.{request_rows};
 ghost use Rattle.reg_keeper.specs.Keeper.{Selects, all_acts};
 ghost use Rattle.reg_office.specs.Counting.{all_counts, in_state as state_count, request_counts};
 
-use reg_commands::counting::count;
 use reg_core::counts::Counts;
 use reg_core::request::{Request, StateWord};
 use reg_early::day::Day;
 use reg_keeper::keeper::{Fault, Keeper};
+use reg_registers::counting::count;
 
 /// How many rows of each kind an office has.
 #[derive(Clone, Copy, Debug, PartialEq, Eq)]

@@ -5,12 +5,12 @@ ghost use Rattle.reg_core.specs.Names.{is_token};
 ghost use Rattle.reg_keeper.specs.Keeper.{GoesOn};
 ghost use Rattle.reg_office.specs.Found.{WasFoundedBy, IsCause, MayFound};
 
-use reg_commands::capabilities::grant;
-use reg_commands::stop::Stop;
 use reg_core::capability::{Cap, Kind, Until};
 use reg_core::journal::Stamp;
 use reg_core::text::{Account, Token};
 use reg_keeper::keeper::{Fault, Keeper};
+use reg_registers::capabilities::grant;
+use reg_registers::stop::Stop;
 
 /// Why no first clerk was made.
 #[derive(Clone, Copy, Debug, PartialEq, Eq)]

@@ -10,7 +10,7 @@ ghost use Rattle.reg_core.specs.Laws.{AnswersAreDone, ApprovalsAreAdvised, Appro
 ghost use Rattle.reg_core.specs.MayBeGiven.{AsksMeetTheirPolicy, NoValueIsGivenTwice};
 ghost use Rattle.reg_core.specs.Striking.{StagesAreOfRun, UnseenLeaveNoTrace};
 ghost use Rattle.reg_laws.specs.CommandLines.{CommandsGoByTheirLines};
-ghost use Rattle.reg_commands.specs.Caller.{token_digest};
+ghost use Rattle.reg_registers.specs.Caller.{token_digest};
 
 /// Isolation: two well kept offices that show a caller who is no clerk the same view answer its
 /// command alike, and then show it the same view again, whatever else they hold.

@@ -6,12 +6,12 @@ ghost use Rattle.reg_office.specs.Revocation.{is_chosen, is_clerk_at, leaves_cle
 ghost use Rattle.reg_office.specs.Revocation.{may_take as may_go, revoked, taken, taken_of};
 
 use crate::stamps::at_moment;
-use reg_commands::carrying::make;
 use reg_core::capability::{Cap, CapRow, Kind};
 use reg_core::change::Change;
 use reg_core::rows::Rows;
 use reg_core::text::{Account, Digest};
 use reg_keeper::keeper::{Fault, Keeper};
+use reg_registers::carrying::make;
 use std::alloc::{AllocError, Global};
 
 /// Which capabilities are taken away.

@@ -12,7 +12,7 @@ use Rattle.reg_core.specs.declared.item.Item.{Item}
 use Rattle.reg_core.specs.declared.wire_refusal.WireRefusal.{WireRefusal}
 use Rattle.reg_core.specs.declared.wire_refusal.WireRefusal.TheVariants as refusal
 use Rattle.reg_core.specs.Item.{item_name}
-use Rattle.reg_parse.specs.Bodies.Members.{Reading, ◌>>=◌, or_refusal, needed, formed, optional, text_form, number_form, until_form, whole, below}
+use Rattle.reg_json.specs.Members.{Reading, ◌>>=◌, or_refusal, needed, formed, optional, text_form, number_form, until_form, whole, below}
 
 -- whatever is read passes the test
 pub record Passes {A E : Type 0} (test : A → Bool) (reading : Result A E) : Type 0 where

@@ -19,7 +19,7 @@ use Rattle.reg_core.specs.declared.ask_kind.AskKind.TheVariants as kind
 use Rattle.reg_parse.specs.declared.bodies.value.AllocatedValue.{AllocatedValue}
 use Rattle.reg_parse.specs.declared.bodies.value.WantedValue.{WantedValue}
 use Rattle.reg_core.specs.Item.{item_name}
-use Rattle.reg_parse.specs.Bodies.Members.{Reading, ◌>>=◌, needed, member_in, optional_truth, only, is_among, number_form}
+use Rattle.reg_json.specs.Members.{Reading, ◌>>=◌, needed, member_in, optional_truth, only, is_among, number_form}
 use Rattle.reg_parse.specs.Bodies.Rfc.{rfc_form, rfc_items, rfc_with, stream_form, track_form}
 use Rattle.reg_parse.specs.Bodies.EarlyEvidence.{early_evidence_of}
 use Rattle.reg_parse.specs.Bodies.Evidence.{evidence_of}

@@ -33,7 +33,7 @@ use Rattle.reg_core.specs.declared.wire_refusal.ReadFault.{ReadFault}
 use Rattle.reg_parse.specs.declared.route.Operation.{Operation}
 use Rattle.reg_parse.specs.declared.route.Operation.TheVariants as operation
 use Rattle.reg_parse.specs.Route.{operation_for, registry_path, listing_path, request_path, holding_path, agent_path, principal_path, review_path, case_path, expert_path, approval_path, decline_path, hold_path, definition_path, prefix_path, token_path, account_path, principal_times_path, day_path, actor_path, history_path}
-use Rattle.reg_parse.specs.Bodies.Members.{Reading, ◌>>=◌, GivesSeen, or_refusal, object_of, needed, only, kind_form, truth_form, verdict_form}
+use Rattle.reg_json.specs.Members.{Reading, ◌>>=◌, GivesSeen, or_refusal, object_of, needed, only, kind_form, truth_form, verdict_form}
 use Rattle.reg_parse.specs.Command.{acts_about_of, acts_by_of, acts_on_of, add_pool_of, advise_of, approve_of, asked, assign_expert_of, command_of, decline_of, define_of, empty, grant_of, name_at, one_request_of, own_one_of, principal_rows_of, principal_times_of, registry_csv_of, registry_of, revoke_account_of, revoke_digits_of, revoke_of, routed, segment, set_agent_of, set_hold_of, set_listing_of, submit_of, withdraw_of}
 use Rattle.reg_parse.specs.Bodies.Advice.{advice_of}
 use Rattle.reg_parse.specs.Bodies.Capability.{cap_of}

@@ -16,7 +16,7 @@ use Rattle.reg_ranges.specs.declared.range.Range.{Range}
 use Rattle.reg_ranges.specs.declared.table.RangeFault.{RangeFault}
 use Rattle.reg_core.specs.Ask.{has_note_form}
 use Rattle.reg_core.specs.Registry.{has_table_form}
-use Rattle.reg_parse.specs.Bodies.Members as members
+use Rattle.reg_json.specs.Members as members
 use Rattle.reg_parse.specs.RangeFile.{or_row_refusal, refusal_of_row, table_of, unless_fault}
 use Rattle.reg_parse.proofs.Formed.{Passes, ok-passes, err-passes, guard, is_below}
 

@@ -4,7 +4,6 @@ pub mod Formed
 pub mod FormedAsks
 pub mod FormedTables
 pub mod FormedCommands
-pub mod Objects
 pub mod Routed
 pub mod Routing
 pub mod ShownPaths

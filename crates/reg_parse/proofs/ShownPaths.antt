@@ -14,7 +14,7 @@ use Rattle.reg_parse.specs.declared.route.Methods.{Methods}
 use Rattle.reg_parse.specs.declared.route.Operation.{Operation}
 use Rattle.reg_parse.specs.declared.route.Operation.TheVariants as operation
 use Rattle.reg_parse.specs.Route.{operation_for, registry_path, listing_path}
-use Rattle.reg_parse.specs.Bodies.Members.{Reading, ◌>>=◌, or_refusal}
+use Rattle.reg_json.specs.Members.{Reading, ◌>>=◌, or_refusal}
 use Rattle.reg_parse.specs.Command.{asked, command_of, empty, name_at, registry_csv_of, registry_of, routed}
 use Rattle.reg_parse.specs.Shown.{are_public, is_open, is_public, is_shown_whole, no_route, pattern_at, shown, shown_by}
 use Rattle.reg_parse.proofs.Formed.{Passes, ok-passes, err-passes, after_any}

@@ -1,5 +1,4 @@
 -- What the members of JSON bodies say.
-pub mod Members
 pub mod Rfc
 pub mod Evidence
 pub mod EarlyEvidence

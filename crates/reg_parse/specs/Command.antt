@@ -20,7 +20,7 @@ use Rattle.reg_core.specs.declared.wire_refusal.WireRefusal.TheVariants.{Route, 
 use Rattle.reg_parse.specs.declared.route.Operation.{Operation}
 use Rattle.reg_parse.specs.declared.route.Operation.TheVariants as operation
 use Rattle.reg_parse.specs.declared.route.Methods.{Methods}
-use Rattle.reg_parse.specs.Bodies.Members.{Reading, ◌>>=◌, or_refusal, object_of, needed, only, text_form, truth_form}
+use Rattle.reg_json.specs.Members.{Reading, ◌>>=◌, or_refusal, object_of, needed, only, text_form, truth_form}
 use Rattle.reg_parse.specs.Bodies.Advice.{advice_of}
 use Rattle.reg_parse.specs.Bodies.Ask.{ask_of}
 use Rattle.reg_parse.specs.Bodies.Capability.{cap_of}

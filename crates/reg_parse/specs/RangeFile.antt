@@ -10,7 +10,7 @@ use Rattle.reg_ranges.specs.declared.table.RangeFault.{RangeFault}
 use Rattle.reg_core.specs.declared.wire_refusal.TableFault.TheVariants as table
 use Rattle.reg_core.specs.declared.wire_refusal.WireRefusal.{WireRefusal}
 use Rattle.reg_core.specs.declared.wire_refusal.WireRefusal.TheVariants.{Ranges}
-use Rattle.reg_parse.specs.Bodies.Members.{Reading, ◌>>=◌}
+use Rattle.reg_json.specs.Members.{Reading, ◌>>=◌}
 
 -- the refusal of a fault that a file has; none has Memory, which is a law
 abbrev pub refusal_of_row : RowFault → WireRefusal

@@ -5,5 +5,4 @@ pub mod ask;
 pub mod capability;
 pub mod early_evidence;
 pub mod evidence;
-pub mod members;
 pub mod value;

@@ -4,12 +4,12 @@ ghost use Rattle.reg_blocks.specs.Digits.{read_block, read_prefix};
 ghost use Rattle.reg_core.specs.Command.{has_command_form};
 ghost use Rattle.reg_early.specs.DayReading.{read_clock_day};
 ghost use Rattle.reg_parse.specs.Route.{is_of_desk, operation_for};
-ghost use Rattle.reg_parse.specs.Bodies.Members.{Gives};
+ghost use Rattle.reg_json.specs.Members.{Gives};
 ghost use Rattle.reg_ranges.specs.Numbers.{read_number};
 ghost use Rattle.reg_ranges.specs.Texts.{read_text};
 ghost use Rattle.reg_parse.specs.Command.{acts_about_of, acts_by_of, acts_on_of, add_pool_of, advise_of, approve_of, asked, assign_expert_of, command_of, decline_of, define_of, empty, grant_of, one_request_of, own_one_of, principal_rows_of, principal_times_of, registry_csv_of, registry_of, revoke_account_of, revoke_digits_of, revoke_of, routed, segment, set_agent_of, set_hold_of, set_listing_of, submit_of, withdraw_of, without_body};
 
-use crate::bodies::{advice, ask, capability, members};
+use crate::bodies::{advice, ask, capability};
 use crate::path;
 use crate::range_file::read_table;
 use crate::route::{
@@ -28,6 +28,7 @@ use reg_core::text::{Form, Word};
 use reg_core::wire_refusal::{ReadFault, WireRefusal};
 use reg_early::day::Day;
 use reg_early::day_reading::read_clock_day;
+use reg_json::members;
 use reg_ranges::number::read_number;
 use std::alloc::Global;
 

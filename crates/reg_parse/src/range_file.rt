@@ -1,5 +1,5 @@
 //! Reads range tables from range files.
-ghost use Rattle.reg_parse.specs.Bodies.Members.{Gives};
+ghost use Rattle.reg_json.specs.Members.{Gives};
 ghost use Rattle.reg_parse.specs.RangeFile.{table_of};
 
 use reg_core::wire_refusal::ReadFault;

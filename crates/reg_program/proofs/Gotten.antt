@@ -19,7 +19,7 @@ use Rattle.reg_core.specs.declared.command.TimesCommand.TheVariants as times
 use Rattle.reg_early.specs.DayReading.{read_clock_day}
 use Rattle.reg_core.specs.declared.item.Segment.TheVariants as in_path
 use Rattle.reg_core.specs.declared.wire_refusal.WireRefusal.TheVariants as refusal
-use Rattle.reg_parse.specs.Bodies.Members.{Reading, ◌>>=◌, or_refusal}
+use Rattle.reg_json.specs.Members.{Reading, ◌>>=◌, or_refusal}
 use Rattle.reg_parse.specs.Command.{acts_about_of, acts_by_of, acts_on_of, asked, command_of, empty, name_at, one_request_of, own_one_of, principal_rows_of, principal_times_of, registry_csv_of, registry_of, routed, segment as read_segment}
 use Rattle.reg_parse.specs.Path.{has_empty_segment}
 use Rattle.reg_parse.specs.Route.{Row, RouteTable, actor_path, case_path, day_path, history_path, listing_path, principal_times_path, methods_at, operation_for, principal_path, registry_path, request_path, routes, rows, with_row, with_rows, with_scan}

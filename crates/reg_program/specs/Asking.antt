@@ -9,7 +9,7 @@ use Rattle.reg_core.specs.World.{World}
 use Rattle.reg_core.specs.declared.command.Command.{Command}
 use Rattle.reg_core.specs.declared.wire_refusal.WireRefusal.{WireRefusal}
 use Rattle.reg_office.specs.Caller.{step_by}
-use Rattle.reg_parse.specs.Bodies.Members.{Reading}
+use Rattle.reg_json.specs.Members.{Reading}
 use Rattle.reg_print.specs.Answer.{answer_body, body_text}
 use Rattle.reg_print.specs.Body.{format_of}
 use Rattle.reg_print.specs.declared.answer.Answer.{Answer}

@@ -4,7 +4,7 @@ use Rattle.std.specs.Fmt.{decimal, signed_decimal}
 use Rattle.std.specs.Io.KnownBytes.{Appends}
 use Rattle.reg_core.specs.Request.{request_rows}
 use Rattle.reg_core.specs.World.{World}
-use Rattle.reg_disk.specs.Disk.{DiskStep, FileNames, IsLeft, replaces}
+use Rattle.reg_source.specs.Disk.{DiskStep, FileNames, IsLeft, replaces}
 use Rattle.reg_program.specs.Undone.{IsOfPrinting}
 use Rattle.reg_program.specs.declared.faults.Undone.{Undone}
 

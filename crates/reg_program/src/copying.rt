@@ -1,18 +1,18 @@
 //! The job that copies an office, and what copies offices.
 ghost use Rattle.std.specs.Prelude.{◌≡◌, ◌++◌, ℕ, IfErr, IfOk, OnErr, OnOk, option_map};
 ghost use Rattle.std.specs.String.{string_bytes};
-ghost use Rattle.reg_disk.specs.Disk.{IsLeft, replaces};
-ghost use Rattle.reg_disk.specs.Names.{names_by};
+ghost use Rattle.reg_source.specs.Disk.{IsLeft, replaces};
+ghost use Rattle.reg_source.specs.Names.{names_by};
 ghost use Rattle.reg_program.specs.Copying.{IsUncopied, PrintsCopied, copied_line, requests_in};
 ghost use Rattle.reg_program.specs.Journal.{TellsActs};
 
 use crate::asking::print;
 use crate::faults::Undone;
 use crate::publishing::undone;
-use reg_disk::disk::Disk;
-use reg_disk::replacement::{Names, replace};
 use reg_keeper::keeper::Keeper;
 use reg_pages::portions::Whole;
+use reg_source::disk::Disk;
+use reg_source::replacement::{Names, replace};
 use std::alloc::Global;
 use std::io::Write;
 

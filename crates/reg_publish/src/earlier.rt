@@ -9,11 +9,11 @@ ghost use Rattle.reg_site.specs.Files.{path_of};
 ghost use Rattle.reg_site.specs.declared.files.File.TheVariants as file;
 
 use crate::faults::{HistoryFault, PublishFault};
-use reg_disk::folder::Folder;
 use reg_history::chain::Chain;
 use reg_history::history::{HEADER, History, read};
 use reg_ranges::number::read_number;
 use reg_site::files::File;
+use reg_source::folder::Folder;
 use std::alloc::{AllocError, Global};
 
 /// The history that a folder has: its bytes, and what they say.

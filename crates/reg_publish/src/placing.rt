@@ -6,10 +6,10 @@ ghost use Rattle.reg_site.specs.Sums.{digest as digest_by, entries_of, lines_of}
 ghost use Rattle.reg_site.specs.declared.files.File.TheVariants as file;
 
 use reg_changes::field::Field;
-use reg_disk::folder::Folder;
 use reg_pages::portions::{Portions, Whole};
 use reg_site::files::File;
 use reg_site::sums::{Sums, digest_of};
+use reg_source::folder::Folder;
 use reg_source::unpublished::Unpublished;
 use std::alloc::Global;
 

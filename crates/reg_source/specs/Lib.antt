@@ -1,2 +1,5 @@
 pub mod Bounded
 pub mod Source
+pub mod Copied
+pub mod Disk
+pub mod Names

@@ -14,8 +14,8 @@ use Rattle.reg_keeper.specs.Keeper.{applied_with}
 use Rattle.reg_statements.specs.Content.{content_of, world_in}
 use Rattle.reg_vacancies.specs.Vacancies.{MayBeOf}
 use Rattle.reg_vacancies.specs.declared.vacancies.Vacancies.{Vacancies}
-use Rattle.reg_content.specs.Calls.{Alters}
-use Rattle.reg_content.proofs.Journaled.{with_acts-length}
+use Rattle.reg_rows.specs.Calls.{Alters}
+use Rattle.reg_rows.proofs.Journaled.{with_acts-length}
 use Rattle.reg_sql.specs.Keeping.{CountsTo}
 
 -- where it is made, there are as many acts more

@@ -26,7 +26,7 @@ use Rattle.reg_vacancies.proofs.Carrying.{keys_decide}
 use Rattle.reg_tables.specs.Connection.{Holds}
 use Rattle.reg_tables.proofs.Enduring.{endures_then, holds_then}
 use Rattle.reg_tables.proofs.RestLemmas.{stays_held, stays_same, stays_then}
-use Rattle.reg_content.specs.Calls.{Looks, LooksAt}
+use Rattle.reg_rows.specs.Calls.{Looks, LooksAt}
 use Rattle.reg_statements.specs.Content.{content_of, world_in}
 use Rattle.reg_sql.specs.Listed.{given, registrations}
 use Rattle.reg_sql.proofs.ListedRows.{each_in_pool, given_listed, prefixes_listed, registrations_listed}

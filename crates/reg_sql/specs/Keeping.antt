@@ -5,7 +5,7 @@ use Rattle.reg_core.specs.WellKept.{WellKept}
 use Rattle.reg_vacancies.specs.Vacancies.{MayBeOf}
 use Rattle.reg_vacancies.specs.declared.vacancies.Vacancies.{Vacancies}
 use Rattle.reg_tables.specs.Connection.{Holds}
-use Rattle.reg_content.specs.Calls.{IsKeeping}
+use Rattle.reg_rows.specs.Calls.{IsKeeping}
 use Rattle.reg_opening.specs.declared.beside.Beside.{Beside}
 use Rattle.reg_statements.specs.Content.{world_in}
 

@@ -30,7 +30,7 @@ use Rattle.reg_core.specs.declared.ask.RenewalAsk.{RenewalAsk}
 use Rattle.reg_core.specs.declared.ask.Want.{Want}
 use Rattle.reg_core.specs.declared.ask.Want.TheVariants.{Value, Least}
 use Rattle.reg_print.specs.Trees.Members.{Listed, object_with, text, text_if, true_if, whole_number}
-use Rattle.reg_parse.specs.Bodies.Members.{object_of}
+use Rattle.reg_json.specs.Members.{object_of}
 use Rattle.reg_print.specs.Trees.Ask.{ask_tree, block_members, code_members, early_members, least_if, permanence_members, renewal_members, rfc_if, rfc_members, rfc_tree, value_if}
 use Rattle.reg_print.proofs.ListedMembers.{ascends}
 use Rattle.reg_wire.proofs.AskForms.{early_formed, evidence_formed, renewal_formed, value_formed, want_formed}

@@ -11,7 +11,7 @@ use Rattle.reg_core.specs.View.{view_of}
 use Rattle.reg_core.specs.World.{World}
 use Rattle.reg_core.specs.declared.command.Command.{Command}
 use Rattle.reg_office.specs.Caller.{token_digest, caller_of}
-use Rattle.reg_parse.specs.Bodies.Members.{Reading}
+use Rattle.reg_json.specs.Members.{Reading}
 use Rattle.reg_print.specs.Answer.{body_text, status_of}
 use Rattle.reg_print.specs.declared.answer.Answer.{Answer}
 use Rattle.reg_print.specs.declared.answer.Answer.TheVariants as answer

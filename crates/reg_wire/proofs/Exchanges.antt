@@ -6,7 +6,7 @@ use Rattle.reg_core.specs.Unseen.{Stage, stages, is_unseen, kept_stages}
 use Rattle.reg_core.specs.World.{World, RequestName}
 use Rattle.reg_core.specs.declared.command.Command.{Command}
 use Rattle.reg_office.specs.Caller.{token_digest}
-use Rattle.reg_parse.specs.Bodies.Members.{Reading}
+use Rattle.reg_json.specs.Members.{Reading}
 use Rattle.reg_print.specs.declared.answer.Answer.TheVariants as answer
 use Rattle.reg_wire.specs.Exchange.{Call, spelled, answer_for, answer_to, world_then, answers_to, world_after_calls, events_of}
 use Rattle.reg_wire.specs.Laws.{CallsRunAsTheModel, UnseenCallsLeaveNoTrace}

@@ -12,7 +12,7 @@ use Rattle.reg_core.specs.declared.item.Item.{Item}
 use Rattle.reg_core.specs.Item.{item_name}
 use Rattle.reg_print.specs.Trees.Members.{Listed, object_with}
 use Rattle.reg_print.proofs.ListedMembers.{as_listed, ascends, is_before, is_less, some_member, with_members-as_listed}
-use Rattle.reg_parse.specs.Bodies.Members.{needed, formed, optional, only, all_among, is_among, names_any}
+use Rattle.reg_json.specs.Members.{needed, formed, optional, only, all_among, is_among, names_any}
 
 -- ---- a member is found where it is listed
 

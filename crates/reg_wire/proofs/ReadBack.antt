@@ -39,7 +39,7 @@ use Rattle.reg_core.specs.declared.ask_kind.AskKind.{AskKind}
 use Rattle.reg_core.specs.declared.ask_kind.AskKind.TheVariants as kind
 use Rattle.reg_parse.specs.declared.bodies.value.AllocatedValue.{AllocatedValue}
 use Rattle.reg_parse.specs.declared.bodies.value.WantedValue.{WantedValue}
-use Rattle.reg_parse.specs.Bodies.Members.{Reading, ◌>>=◌, needed, formed, number_form, optional, optional_truth, text_form, truth_by}
+use Rattle.reg_json.specs.Members.{Reading, ◌>>=◌, needed, formed, number_form, optional, optional_truth, text_form, truth_by}
 use Rattle.reg_parse.specs.Bodies.Rfc.{rfc_form}
 use Rattle.reg_parse.specs.Bodies.EarlyEvidence.{early_evidence_items, early_evidence_of}
 use Rattle.reg_parse.specs.Bodies.Evidence.{evidence_of}

@@ -5,7 +5,7 @@ use Rattle.std.specs.List.{cons_option}
 use Rattle.std.specs.Str.{bytes_eq}
 use Rattle.reg_core.specs.World.{World}
 use Rattle.reg_core.specs.declared.command.Command.{Command}
-use Rattle.reg_parse.specs.Bodies.Members.{Reading}
+use Rattle.reg_json.specs.Members.{Reading}
 use Rattle.reg_wire.specs.Exchange.{Call, spelled, answer_for, answer_to, world_then, answers_to, world_after_calls}
 use Rattle.reg_wire.specs.Laws.{CallsRunAsTheModel}
 use Rattle.reg_wire.specs.Script.Answers.{Serves, answer_line, calls_of, next_line, lines_with, AnswerCalls, without_faults}

@@ -9,7 +9,7 @@ use Rattle.reg_core.specs.Unseen.{Stage, stage, stages, stays_in, is_unseen, str
 use Rattle.reg_core.specs.World.{World, RequestName}
 use Rattle.reg_core.specs.declared.command.Command.{Command}
 use Rattle.reg_office.specs.Caller.{token_digest, caller_of}
-use Rattle.reg_parse.specs.Bodies.Members.{Reading}
+use Rattle.reg_json.specs.Members.{Reading}
 use Rattle.reg_print.specs.declared.answer.Answer.TheVariants as answer
 use Rattle.reg_wire.specs.Exchange.{Call, spelled, answer_for, world_for, answers_to, event_for, event_of, events_of}
 use Rattle.reg_wire.specs.Laws.{UnseenCallsLeaveNoTrace}

@@ -19,7 +19,7 @@ use Rattle.serde_json.specs.Written.{outline, members_outline, compact_text, ite
 use Rattle.serde_json.proofs.Numbers.{number_of-decimal}
 use Rattle.serde_json.proofs.Texts.{print-outline}
 use Rattle.reg_print.specs.Trees.Members.{Listed, object_with}
-use Rattle.reg_parse.specs.Bodies.Members.{object_of}
+use Rattle.reg_json.specs.Members.{object_of}
 use Rattle.reg_print.proofs.ListedMembers.{as_listed, ascends, some_member, with_members-as_listed}
 use Rattle.reg_print.proofs.ReadObjects.{IfReads, AllRead, listed-reads}
 

@@ -10,7 +10,7 @@ use Rattle.reg_core.specs.declared.reply.Reply.{Reply}
 use Rattle.reg_keeper.specs.Keeper.{GoesOn, Makes, MayFault}
 use Rattle.reg_keeper.specs.declared.keeper.Fault.{Fault}
 use Rattle.reg_office.specs.Caller.{caller_of, step_by}
-use Rattle.reg_parse.specs.Bodies.Members.{Reading}
+use Rattle.reg_json.specs.Members.{Reading}
 use Rattle.reg_parse.specs.Command.{asked}
 use Rattle.reg_print.specs.declared.answer.Answer.{Answer}
 use Rattle.reg_print.specs.declared.answer.Answer.TheVariants as answer

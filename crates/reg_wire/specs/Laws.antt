@@ -14,7 +14,7 @@ use Rattle.reg_core.specs.declared.ask.Ask.{Ask}
 use Rattle.reg_core.specs.declared.reply.Reply.{Reply}
 use Rattle.reg_office.specs.Caller.{token_digest, caller_of}
 use Rattle.reg_parse.specs.Bodies.Ask.{ask_of}
-use Rattle.reg_parse.specs.Bodies.Members.{Reading, ◌>>=◌, object_of}
+use Rattle.reg_json.specs.Members.{Reading, ◌>>=◌, object_of}
 use Rattle.reg_print.specs.Answer.{body_text, status_of}
 use Rattle.reg_print.specs.Trees.Ask.{ask_tree}
 use Rattle.reg_wire.specs.Exchange.{Call, answer_to, world_then, answers_to, world_after_calls, events_of, answers_with}

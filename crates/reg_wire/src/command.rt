@@ -1,7 +1,7 @@
 //! The command that a method, a path and a body spell.
 ghost use Rattle.std.specs.Prelude.{◌≡◌, true, IfOk};
 ghost use Rattle.reg_core.specs.Command.{has_command_form};
-ghost use Rattle.reg_parse.specs.Bodies.Members.{Gives};
+ghost use Rattle.reg_json.specs.Members.{Gives};
 ghost use Rattle.reg_parse.specs.Command.{asked};
 
 use reg_core::command::Command;

@@ -4,7 +4,7 @@ use Rattle.serde_json.specs.Data.{Data}
 use Rattle.reg_ranges.specs.Texts.{is_text}
 use Rattle.reg_core.specs.declared.advice.Advice.{Advice}
 use Rattle.reg_core.specs.declared.item.Item.TheVariants as item
-use Rattle.reg_parse.specs.Bodies.Members.{Reading, ◌>>=◌, needed, text_form, verdict_form}
+use Rattle.reg_json.specs.Members.{Reading, ◌>>=◌, needed, text_form, verdict_form}
 
 unfoldable pub advice_of : Data → Reading Advice
 advice_of json = do

@@ -23,7 +23,7 @@ use Rattle.reg_core.specs.declared.item.Item.{Item}
 use Rattle.reg_core.specs.declared.item.Item.TheVariants as item
 use Rattle.reg_parse.specs.declared.bodies.value.AllocatedValue.{AllocatedValue}
 use Rattle.reg_parse.specs.declared.bodies.value.WantedValue.{WantedValue}
-use Rattle.reg_parse.specs.Bodies.Members.{Reading, ◌>>=◌, needed, optional, only, text_form}
+use Rattle.reg_json.specs.Members.{Reading, ◌>>=◌, needed, optional, only, text_form}
 use Rattle.reg_parse.specs.Bodies.EarlyEvidence.{early_evidence_items, early_evidence_of}
 use Rattle.reg_parse.specs.Bodies.Evidence.{evidence_items, evidence_of}
 use Rattle.reg_parse.specs.Bodies.Value.{allocated_value_of, wanted_items, wanted_value_of}

@@ -4,7 +4,7 @@ use Rattle.serde_json.specs.Data.{Data}
 use Rattle.reg_core.specs.Names.{is_name}
 use Rattle.reg_core.specs.declared.capability.Cap.{Cap}
 use Rattle.reg_core.specs.declared.item.Item.TheVariants as item
-use Rattle.reg_parse.specs.Bodies.Members.{Reading, ◌>>=◌, needed, text_form, until_form, kind_form}
+use Rattle.reg_json.specs.Members.{Reading, ◌>>=◌, needed, text_form, until_form, kind_form}
 
 unfoldable pub cap_of : Data → Reading Cap
 cap_of json = do

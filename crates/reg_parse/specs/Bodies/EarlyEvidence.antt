@@ -5,7 +5,7 @@ use Rattle.reg_ranges.specs.Texts.{is_text}
 use Rattle.reg_early.specs.declared.evidence.EarlyEvidence.{EarlyEvidence}
 use Rattle.reg_core.specs.declared.item.Item.{Item}
 use Rattle.reg_core.specs.declared.item.Item.TheVariants as item
-use Rattle.reg_parse.specs.Bodies.Members.{Reading, ◌>>=◌, optional, optional_truth, text_form}
+use Rattle.reg_json.specs.Members.{Reading, ◌>>=◌, optional, optional_truth, text_form}
 
 abbrev pub early_evidence_items : List Item
 early_evidence_items =

@@ -5,7 +5,7 @@ use Rattle.reg_ranges.specs.Texts.{is_text}
 use Rattle.reg_ranges.specs.declared.evidence.Evidence.{Evidence}
 use Rattle.reg_core.specs.declared.item.Item.{Item}
 use Rattle.reg_core.specs.declared.item.Item.TheVariants as item
-use Rattle.reg_parse.specs.Bodies.Members.{Reading, ◌>>=◌, optional, text_form}
+use Rattle.reg_json.specs.Members.{Reading, ◌>>=◌, optional, text_form}
 use Rattle.reg_parse.specs.Bodies.Rfc.{rfc_form}
 
 abbrev pub evidence_items : List Item

@@ -14,7 +14,7 @@ use Rattle.reg_core.specs.declared.item.Item.TheVariants as item
 use Rattle.reg_core.specs.declared.wire_refusal.WireRefusal.TheVariants.{Field}
 use Rattle.reg_parse.specs.declared.bodies.value.AllocatedValue.{AllocatedValue}
 use Rattle.reg_parse.specs.declared.bodies.value.WantedValue.{WantedValue}
-use Rattle.reg_parse.specs.Bodies.Members.{Reading, ◌>>=◌, or_refusal, needed, text_form, number_form}
+use Rattle.reg_json.specs.Members.{Reading, ◌>>=◌, or_refusal, needed, text_form, number_form}
 
 abbrev pub policy_form : Data → Option Policy
 policy_form json = option_and_then read_policy (as_str json)

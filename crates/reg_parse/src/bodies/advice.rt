@@ -1,12 +1,12 @@
 //! Reads advice.
 ghost use Rattle.serde_json.specs.View.{view};
-ghost use Rattle.reg_parse.specs.Bodies.Members.{Gives};
+ghost use Rattle.reg_json.specs.Members.{Gives};
 ghost use Rattle.reg_parse.specs.Bodies.Advice.{advice_of};
 
-use crate::bodies::members;
 use reg_core::advice::Advice;
 use reg_core::item::Item;
 use reg_core::wire_refusal::ReadFault;
+use reg_json::members;
 use serde_json::Value;
 use std::alloc::Global;
 

@@ -1,6 +1,6 @@
 //! Reads asks.
 ghost use Rattle.serde_json.specs.View.{view};
-ghost use Rattle.reg_parse.specs.Bodies.Members.{Gives, needed};
+ghost use Rattle.reg_json.specs.Members.{Gives, needed};
 ghost use Rattle.reg_parse.specs.Bodies.Ask.{ask_kind_form, ask_of};
 
 mod block;

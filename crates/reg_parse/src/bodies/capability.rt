@@ -1,12 +1,12 @@
 //! Reads capabilities.
 ghost use Rattle.serde_json.specs.View.{view};
-ghost use Rattle.reg_parse.specs.Bodies.Members.{Gives};
+ghost use Rattle.reg_json.specs.Members.{Gives};
 ghost use Rattle.reg_parse.specs.Bodies.Capability.{cap_of};
 
-use crate::bodies::members;
 use reg_core::capability::Cap;
 use reg_core::item::Item;
 use reg_core::wire_refusal::ReadFault;
+use reg_json::members;
 use serde_json::Value;
 
 /// The capability that stands in this object, or the first of its members that has not its form.

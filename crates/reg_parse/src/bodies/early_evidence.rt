@@ -1,12 +1,12 @@
 //! Reads what an applicant shows for an early allocation.
 ghost use Rattle.serde_json.specs.View.{view};
-ghost use Rattle.reg_parse.specs.Bodies.Members.{Gives};
+ghost use Rattle.reg_json.specs.Members.{Gives};
 ghost use Rattle.reg_parse.specs.Bodies.EarlyEvidence.{early_evidence_of};
 
-use crate::bodies::members;
 use reg_core::item::Item;
 use reg_core::wire_refusal::ReadFault;
 use reg_early::evidence::EarlyEvidence;
+use reg_json::members;
 use serde_json::Value;
 use std::alloc::Global;
 

@@ -1,13 +1,13 @@
 //! Reads what an applicant shows for an assignment.
 ghost use Rattle.std.specs.Prelude.{◌≡◌};
 ghost use Rattle.serde_json.specs.View.{view};
-ghost use Rattle.reg_parse.specs.Bodies.Members.{Gives, member_in, number_form, optional};
+ghost use Rattle.reg_json.specs.Members.{Gives, member_in, number_form, optional};
 ghost use Rattle.reg_parse.specs.Bodies.Rfc.{rfc_form, stream_form, track_form};
 ghost use Rattle.reg_parse.specs.Bodies.Evidence.{evidence_of};
 
-use crate::bodies::members;
 use reg_core::item::Item;
 use reg_core::wire_refusal::ReadFault;
+use reg_json::members;
 use reg_ranges::evidence::{Evidence, Rfc, Stream, Track};
 use serde_json::Value;
 use std::alloc::Global;

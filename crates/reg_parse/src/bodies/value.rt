@@ -1,14 +1,14 @@
 //! Reads which value of a registry an ask is about.
 ghost use Rattle.std.specs.Prelude.{◌≡◌};
 ghost use Rattle.serde_json.specs.View.{view};
-ghost use Rattle.reg_parse.specs.Bodies.Members.{Gives};
+ghost use Rattle.reg_json.specs.Members.{Gives};
 ghost use Rattle.reg_parse.specs.Bodies.Value.{allocated_value_of, policy_form, want_of, wanted_value_of};
 
-use crate::bodies::members;
 use reg_core::ask::Want;
 use reg_core::item::Item;
 use reg_core::text::{Name, Text};
 use reg_core::wire_refusal::ReadFault;
+use reg_json::members;
 use reg_ranges::policy::Policy;
 use serde_json::Value;
 use std::alloc::Global;

@@ -6,9 +6,9 @@ use Rattle.reg_core.specs.World.{World, Link}
 use Rattle.reg_core.specs.declared.command.ApplicantCommand.TheVariants.{SetAgent}
 use Rattle.reg_core.specs.declared.told.Told.TheVariants.{Agent}
 use Rattle.reg_core.proofs.Fitting.{agent_fits}
-use Rattle.reg_commands.specs.Answers.{answer_to_account}
-use Rattle.reg_commands.proofs.Decided.{Decides, follows, makes_fitting, performs_decided, performs_declined, the_value}
-use Rattle.reg_commands.proofs.Rows.{selected_after}
+use Rattle.reg_registers.specs.Answers.{answer_to_account}
+use Rattle.reg_registers.proofs.Decided.{Decides, follows, makes_fitting, performs_decided, performs_declined, the_value}
+use Rattle.reg_registers.proofs.Rows.{selected_after}
 use Rattle.reg_commands.proofs.agents.set_agent.Given.{Over}
 use Rattle.reg_commands.proofs.agents.set_agent.Goals.{After-decide_agent}
 use Rattle.reg_commands.proofs.agents.set_agent.Goals as goal

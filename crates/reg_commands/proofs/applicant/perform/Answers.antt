@@ -1,4 +1,4 @@
-use Rattle.reg_commands.specs.Caller.{stamp_by}
+use Rattle.reg_registers.specs.Caller.{stamp_by}
 use Rattle.reg_commands.proofs.applicant.perform.Goals as goal
 
 pub returns-in-Own : goal.returns-in-Own

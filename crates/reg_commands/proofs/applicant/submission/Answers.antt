@@ -10,8 +10,8 @@ use Rattle.reg_core.specs.World.{World, RequestName}
 use Rattle.reg_core.specs.declared.refusal.Refusal.{Refusal}
 use Rattle.reg_core.specs.declared.request.Given.{Given}
 use Rattle.reg_core.specs.declared.request.Request.{Request}
-use Rattle.reg_commands.proofs.Decided.{finds_decided, finds_denied}
-use Rattle.reg_commands.proofs.Rows.{selected_after}
+use Rattle.reg_registers.proofs.Decided.{finds_decided, finds_denied}
+use Rattle.reg_registers.proofs.Rows.{selected_after}
 use Rattle.reg_commands.proofs.Submissions.{allowance_of_new, submission}
 use Rattle.reg_commands.proofs.applicant.submission.Given.{Over}
 use Rattle.reg_commands.proofs.applicant.submission.Goals.{After-decide_submit}

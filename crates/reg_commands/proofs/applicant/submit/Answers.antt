@@ -12,9 +12,9 @@ use Rattle.reg_core.specs.declared.ask.Ask.{Ask}
 use Rattle.reg_core.specs.declared.command.ApplicantCommand.TheVariants.{Submit}
 use Rattle.reg_core.specs.declared.request.Request.{Request}
 use Rattle.reg_core.proofs.Fitting.{submit_fits}
-use Rattle.reg_commands.specs.Answers.{answer_to_account, told_made}
-use Rattle.reg_commands.proofs.Decided.{Rules, always, the_value, decides_found, makes_found, performs_found, performs_stopped_at}
-use Rattle.reg_commands.proofs.Rows.{selected_after}
+use Rattle.reg_registers.specs.Answers.{answer_to_account, told_made}
+use Rattle.reg_registers.proofs.Decided.{Rules, always, the_value, decides_found, makes_found, performs_found, performs_stopped_at}
+use Rattle.reg_registers.proofs.Rows.{selected_after}
 use Rattle.reg_commands.proofs.Submissions.{case_looked_up, submission, submission_answered}
 use Rattle.reg_commands.proofs.applicant.submit.Given.{Over}
 use Rattle.reg_commands.proofs.applicant.submit.Goals.{After-submission}

@@ -6,9 +6,9 @@ use Rattle.reg_core.specs.declared.command.ApplicantCommand.TheVariants.{Withdra
 use Rattle.reg_core.specs.declared.told.Told.TheVariants.{Row}
 use Rattle.reg_core.specs.declared.request.Request.{Request}
 use Rattle.reg_core.proofs.Fitting.{withdraw_fits}
-use Rattle.reg_commands.specs.Answers.{answer_to_account}
-use Rattle.reg_commands.proofs.Decided.{Decides, makes_found, performs_declined, performs_found}
-use Rattle.reg_commands.proofs.Requests.{decides_about}
+use Rattle.reg_registers.specs.Answers.{answer_to_account}
+use Rattle.reg_registers.proofs.Decided.{Decides, makes_found, performs_declined, performs_found}
+use Rattle.reg_registers.proofs.Requests.{decides_about}
 use Rattle.reg_commands.proofs.applicant.withdraw.Given.{Over}
 use Rattle.reg_commands.proofs.applicant.withdraw.Goals.{After-decide_withdraw}
 use Rattle.reg_commands.proofs.applicant.withdraw.Goals as goal

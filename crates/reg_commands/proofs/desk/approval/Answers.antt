@@ -6,10 +6,10 @@ use Rattle.reg_core.specs.Rules.{approve_rule}
 use Rattle.reg_core.specs.View.{published}
 use Rattle.reg_core.specs.World.{World}
 use Rattle.reg_core.specs.declared.request.Request.{Request}
-use Rattle.reg_commands.specs.Decisions.{approval_of}
+use Rattle.reg_registers.specs.Decisions.{approval_of}
 use Rattle.reg_commands.proofs.Approvals.{approve_read}
-use Rattle.reg_commands.proofs.Decided.{finds_decided, finds_denied}
-use Rattle.reg_commands.proofs.Rows.{selected_after}
+use Rattle.reg_registers.proofs.Decided.{finds_decided, finds_denied}
+use Rattle.reg_registers.proofs.Rows.{selected_after}
 use Rattle.reg_commands.proofs.desk.approval.Given.{Over}
 use Rattle.reg_commands.proofs.desk.approval.Goals.{After-decide_approve}
 use Rattle.reg_commands.proofs.desk.approval.Goals as goal

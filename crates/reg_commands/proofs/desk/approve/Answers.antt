@@ -16,10 +16,10 @@ use Rattle.reg_core.specs.declared.refusal.Refusal.{Refusal}
 use Rattle.reg_core.specs.declared.request.Case.{Case}
 use Rattle.reg_core.specs.declared.request.Request.{Request}
 use Rattle.reg_core.proofs.Fitting.{approve_fits}
-use Rattle.reg_commands.specs.Answers.{answer_to_clerk}
-use Rattle.reg_commands.specs.Decisions.{approval_of}
-use Rattle.reg_commands.proofs.Decided.{Rules, decides_found, makes_found, performs_found, performs_stopped_at}
-use Rattle.reg_commands.proofs.Rows.{IsFileOf, answer_about, file_is, selected_after, there}
+use Rattle.reg_registers.specs.Answers.{answer_to_clerk}
+use Rattle.reg_registers.specs.Decisions.{approval_of}
+use Rattle.reg_registers.proofs.Decided.{Rules, decides_found, makes_found, performs_found, performs_stopped_at}
+use Rattle.reg_registers.proofs.Rows.{IsFileOf, answer_about, file_is, selected_after, there}
 use Rattle.reg_commands.proofs.desk.approve.Given.{Over}
 use Rattle.reg_commands.proofs.desk.approve.Goals.{After-approval}
 use Rattle.reg_commands.proofs.desk.approve.Goals as goal

@@ -14,9 +14,9 @@ use Rattle.reg_core.specs.declared.request.Case.{Case}
 use Rattle.reg_core.specs.declared.request.Request.{Request}
 use Rattle.reg_core.proofs.Files.{among_experts}
 use Rattle.reg_core.proofs.Fitting.{assign_fits}
-use Rattle.reg_commands.specs.Answers.{answer_to_clerk}
-use Rattle.reg_commands.proofs.Decided.{Decides, makes_found, performs_declined, performs_found}
-use Rattle.reg_commands.proofs.Rows.{IsFileOf, answer_about, file_is, selected_after, there}
+use Rattle.reg_registers.specs.Answers.{answer_to_clerk}
+use Rattle.reg_registers.proofs.Decided.{Decides, makes_found, performs_declined, performs_found}
+use Rattle.reg_registers.proofs.Rows.{IsFileOf, answer_about, file_is, selected_after, there}
 use Rattle.reg_commands.proofs.desk.assign.Given.{Over}
 use Rattle.reg_commands.proofs.desk.assign.Goals.{After-decide_assign}
 use Rattle.reg_commands.proofs.desk.assign.Goals as goal

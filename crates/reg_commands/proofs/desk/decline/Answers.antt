@@ -6,9 +6,9 @@ use Rattle.reg_core.specs.declared.command.ClerkCommand.TheVariants.{Decline}
 use Rattle.reg_core.specs.declared.told.Told.TheVariants.{Desk}
 use Rattle.reg_core.specs.declared.request.Request.{Request}
 use Rattle.reg_core.proofs.Fitting.{decline_fits}
-use Rattle.reg_commands.specs.Answers.{answer_to_clerk}
-use Rattle.reg_commands.proofs.Decided.{Decides, makes_fitting, performs_denied, performs_decided}
-use Rattle.reg_commands.proofs.Requests.{decides_about}
+use Rattle.reg_registers.specs.Answers.{answer_to_clerk}
+use Rattle.reg_registers.proofs.Decided.{Decides, makes_fitting, performs_denied, performs_decided}
+use Rattle.reg_registers.proofs.Requests.{decides_about}
 use Rattle.reg_commands.proofs.desk.decline.Given.{Over}
 use Rattle.reg_commands.proofs.desk.decline.Goals.{After-decide_decline}
 use Rattle.reg_commands.proofs.desk.decline.Goals as goal

@@ -14,10 +14,10 @@ use Rattle.reg_core.specs.declared.queue.QueueRow.{QueueRow}
 use Rattle.reg_core.specs.declared.refusal.Refusal.TheVariants as no
 use Rattle.reg_core.proofs.Fitting.{advise_fits}
 use Rattle.reg_core.proofs.Queues.{queued_found}
-use Rattle.reg_commands.specs.Answers.{answer_to_expert}
-use Rattle.reg_commands.specs.Rows.{advised_row}
-use Rattle.reg_commands.proofs.Decided.{Decides, always, the_value, makes_fitting, performs_denied, performs_decided}
-use Rattle.reg_commands.proofs.Rows.{queued_in, queued_is, selected_after}
+use Rattle.reg_registers.specs.Answers.{answer_to_expert}
+use Rattle.reg_registers.specs.Rows.{advised_row}
+use Rattle.reg_registers.proofs.Decided.{Decides, always, the_value, makes_fitting, performs_denied, performs_decided}
+use Rattle.reg_registers.proofs.Rows.{queued_in, queued_is, selected_after}
 use Rattle.reg_commands.proofs.expert.advise.Given.{Over}
 use Rattle.reg_commands.proofs.expert.advise.Goals.{After-decide_advise}
 use Rattle.reg_commands.proofs.expert.advise.Goals as goal

@@ -1,4 +1,4 @@
-use Rattle.reg_commands.specs.Caller.{stamp_by}
+use Rattle.reg_registers.specs.Caller.{stamp_by}
 use Rattle.reg_commands.proofs.expert.perform.Goals as goal
 
 pub returns-in-Queue : goal.returns-in-Queue

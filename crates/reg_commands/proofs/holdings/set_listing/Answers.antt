@@ -15,10 +15,10 @@ use Rattle.reg_core.specs.declared.holding.Holding.{Holding}
 use Rattle.reg_core.specs.declared.refusal.Refusal.TheVariants as no
 use Rattle.reg_core.proofs.Blocks.{holding_found}
 use Rattle.reg_core.proofs.Fitting.{listing_fits}
-use Rattle.reg_commands.specs.Answers.{answer_to_account}
-use Rattle.reg_commands.specs.Rows.{marked_row}
-use Rattle.reg_commands.proofs.Decided.{Decides, follows, makes_fitting, performs_decided, the_value}
-use Rattle.reg_commands.proofs.Rows.{holding_is, selected_after}
+use Rattle.reg_registers.specs.Answers.{answer_to_account}
+use Rattle.reg_registers.specs.Rows.{marked_row}
+use Rattle.reg_registers.proofs.Decided.{Decides, follows, makes_fitting, performs_decided, the_value}
+use Rattle.reg_registers.proofs.Rows.{holding_is, selected_after}
 use Rattle.reg_commands.proofs.holdings.set_listing.Given.{Over}
 use Rattle.reg_commands.proofs.holdings.set_listing.Goals.{After-decide_listing-decision}
 use Rattle.reg_commands.proofs.holdings.set_listing.Goals as goal

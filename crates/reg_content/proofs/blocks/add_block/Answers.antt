@@ -1,5 +1,5 @@
 use Rattle.std.proofs.Common.{refl}
-use Rattle.reg_content.proofs.Joining.{steps_in}
+use Rattle.reg_rows.proofs.Joining.{steps_in}
 use Rattle.reg_content.proofs.blocks.add_block.Goals as goal
 
 pub returns-clause-steps : goal.returns-clause-steps

@@ -1,9 +1,9 @@
 use Rattle.std.proofs.Common.{map, refl, ap, ◌∙◌}
 use Rattle.reg_core.specs.Holding.{holding_row}
-use Rattle.reg_content.proofs.BlockRowsListed.{listed_are, pair}
-use Rattle.reg_content.proofs.Found.{pairs_again}
-use Rattle.reg_content.proofs.Looking.{looks_made}
-use Rattle.reg_content.proofs.Statements.{lists_blocks}
+use Rattle.reg_rows.proofs.BlockRowsListed.{listed_are, pair}
+use Rattle.reg_rows.proofs.Found.{pairs_again}
+use Rattle.reg_rows.proofs.Looking.{looks_made}
+use Rattle.reg_rows.proofs.Statements.{lists_blocks}
 use Rattle.reg_content.proofs.blocks.blocks.Goals as goal
 
 pub returns : goal.returns

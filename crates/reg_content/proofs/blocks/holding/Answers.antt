@@ -1,8 +1,8 @@
 use Rattle.std.proofs.Common.{◌∙◌}
 use Rattle.reg_blocks.specs.Block.{first_address}
-use Rattle.reg_content.proofs.BlockRowsFound.{found_holding}
-use Rattle.reg_content.proofs.Looking.{looks_made}
-use Rattle.reg_content.proofs.Statements.{finds_blocks}
+use Rattle.reg_rows.proofs.BlockRowsFound.{found_holding}
+use Rattle.reg_rows.proofs.Looking.{looks_made}
+use Rattle.reg_rows.proofs.Statements.{finds_blocks}
 use Rattle.reg_content.proofs.blocks.holding.Goals as goal
 
 pub returns : goal.returns

@@ -1,6 +1,6 @@
 use Rattle.std.proofs.Common.{◌∙◌}
-use Rattle.reg_content.proofs.Looking.{looks_made}
-use Rattle.reg_content.proofs.Statements.{lists_holdings}
+use Rattle.reg_rows.proofs.Looking.{looks_made}
+use Rattle.reg_rows.proofs.Statements.{lists_holdings}
 use Rattle.reg_content.proofs.blocks.holdings.Goals as goal
 
 pub returns : goal.returns

@@ -4,9 +4,9 @@ use Rattle.reg_core.specs.Holding.{with_mark}
 use Rattle.reg_core.proofs.KeyOrders.{block_keys}
 use Rattle.reg_blocks.specs.Block.{first_address}
 use Rattle.reg_statements.specs.Content.{content_of}
-use Rattle.reg_content.proofs.BlocksApart.{begins_alone}
-use Rattle.reg_content.proofs.Joining.{steps_in}
-use Rattle.reg_content.proofs.Statements.{begins, changes_mark}
+use Rattle.reg_rows.proofs.BlocksApart.{begins_alone}
+use Rattle.reg_rows.proofs.Joining.{steps_in}
+use Rattle.reg_rows.proofs.Statements.{begins, changes_mark}
 use Rattle.reg_content.proofs.blocks.set_private.Goals as goal
 
 pub returns-clause-steps : goal.returns-clause-steps

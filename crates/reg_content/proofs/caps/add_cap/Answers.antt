@@ -1,6 +1,6 @@
 use Rattle.std.proofs.Common.{refl}
 use Rattle.reg_records.specs.declared.caps.Grant.{Grant}
-use Rattle.reg_content.proofs.Joining.{steps_in}
+use Rattle.reg_rows.proofs.Joining.{steps_in}
 use Rattle.reg_content.proofs.caps.add_cap.Goals as goal
 
 pub returns-clause-steps : goal.returns-clause-steps

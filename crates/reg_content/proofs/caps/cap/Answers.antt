@@ -1,7 +1,7 @@
 use Rattle.std.proofs.Common.{rules, ◌≡◌, ap, ◌∙◌, option_map, refl}
-use Rattle.reg_content.proofs.Found.{made_back}
-use Rattle.reg_content.proofs.Looking.{looks_made}
-use Rattle.reg_content.proofs.Statements.{finds_cap}
+use Rattle.reg_rows.proofs.Found.{made_back}
+use Rattle.reg_rows.proofs.Looking.{looks_made}
+use Rattle.reg_rows.proofs.Statements.{finds_cap}
 use Rattle.reg_content.proofs.caps.cap.Goals as goal
 
 pub returns : goal.returns

@@ -1,6 +1,6 @@
 use Rattle.std.proofs.Common.{◌<◌, ◌∙◌, ap, arith, length}
-use Rattle.reg_content.proofs.RegistryRowsSteps.{steps_then}
-use Rattle.reg_content.proofs.Revoked.{later, next_taken}
+use Rattle.reg_rows.proofs.RegistryRowsSteps.{steps_then}
+use Rattle.reg_rows.proofs.Revoked.{later, next_taken}
 use Rattle.reg_content.proofs.caps.take_caps.Goals as goal
 
 pub loop-digest-preserved : goal.loop-digest-preserved

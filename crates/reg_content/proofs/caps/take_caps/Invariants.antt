@@ -2,7 +2,7 @@ use Rattle.std.proofs.Common.{◌≡◌, suc, take, Ok}
 use Rattle.sqlite.specs.Held.{state}
 use Rattle.reg_core.specs.World.{World, without}
 use Rattle.reg_keeper.specs.declared.keeper.Fault.{Fault}
-use Rattle.reg_content.specs.Calls.{Steps}
+use Rattle.reg_rows.specs.Calls.{Steps}
 use Rattle.reg_content.proofs.caps.take_caps.Given as goal
 
 abbrev pub invariant-loop-digest : goal.invariant-loop-digest

@@ -5,8 +5,8 @@ use Rattle.reg_core.specs.World.{without}
 use Rattle.reg_core.specs.declared.request.Given.TheVariants as given
 use Rattle.reg_core.specs.declared.request.State.TheVariants.{Approved}
 use Rattle.reg_core.proofs.KeyOrders.{place_keys}
-use Rattle.reg_content.proofs.Fitting.{given_expires, given_kind, makes, may_turn}
-use Rattle.reg_content.proofs.Revoked.{has_some}
+use Rattle.reg_rows.proofs.Fitting.{given_expires, given_kind, makes, may_turn}
+use Rattle.reg_rows.proofs.Revoked.{has_some}
 use Rattle.reg_content.proofs.change.make.Goals as goal
 
 pub returns-in-Grant-clause-steps : goal.returns-in-Grant-clause-steps

@@ -1,10 +1,10 @@
 use Rattle.std.proofs.Common.{ap, length, refl, sym, ◌∙◌, ◌≡◌, false}
 use Rattle.reg_core.specs.Journal.{with_acts}
 use Rattle.reg_core.specs.World.{World, applied}
-use Rattle.reg_content.specs.Changing.{writes_row}
-use Rattle.reg_content.proofs.Joining.{steps_as}
-use Rattle.reg_content.proofs.Journaled.{applied_journal, nothing_applied}
-use Rattle.reg_content.proofs.RegistryRowsSteps.{steps_last}
+use Rattle.reg_rows.specs.Changing.{writes_row}
+use Rattle.reg_rows.proofs.Joining.{steps_as}
+use Rattle.reg_rows.proofs.Journaled.{applied_journal, nothing_applied}
+use Rattle.reg_rows.proofs.RegistryRowsSteps.{steps_last}
 use Rattle.reg_content.proofs.change.make_with.Goals as goal
 
 pub returns-then-not-writes_row-clause-steps : goal.returns-then-not-writes_row-clause-steps

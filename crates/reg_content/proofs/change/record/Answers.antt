@@ -5,7 +5,7 @@ use Rattle.sqlite.specs.Held.{state}
 use Rattle.reg_core.specs.World.{World}
 use Rattle.reg_keeper.specs.Keeper.{applied_with}
 use Rattle.reg_statements.specs.Content.{world_in}
-use Rattle.reg_content.proofs.Journaled.{applied_alone}
+use Rattle.reg_rows.proofs.Journaled.{applied_alone}
 use Rattle.reg_content.proofs.change.record.Goals as goal
 
 pub returns-then-is_empty-clause-alters : goal.returns-then-is_empty-clause-alters

@@ -1,6 +1,6 @@
 use Rattle.std.proofs.Common.{refl}
-use Rattle.reg_content.proofs.Joining.{steps_as}
-use Rattle.reg_content.proofs.RegistryRowsSteps.{steps_then}
+use Rattle.reg_rows.proofs.Joining.{steps_as}
+use Rattle.reg_rows.proofs.RegistryRowsSteps.{steps_then}
 use Rattle.reg_content.proofs.give.give_block.Goals as goal
 
 pub returns-clause-steps : goal.returns-clause-steps

@@ -2,9 +2,9 @@ use Rattle.std.proofs.Common.{ap, option_map, sym, ◌∙◌}
 use Rattle.std.specs.FinMap.{insert}
 use Rattle.reg_core.specs.Minutes.{bare_ask}
 use Rattle.reg_core.specs.World.{RequestName, pending}
-use Rattle.reg_content.proofs.Joining.{steps_as}
-use Rattle.reg_content.proofs.MinutesWritten.{can_name, minute_put}
-use Rattle.reg_content.proofs.RegistryRowsSteps.{steps_last}
+use Rattle.reg_rows.proofs.Joining.{steps_as}
+use Rattle.reg_rows.proofs.MinutesWritten.{can_name, minute_put}
+use Rattle.reg_rows.proofs.RegistryRowsSteps.{steps_last}
 use Rattle.reg_content.proofs.give.submit.Goals as goal
 
 pub returns-in-Some-clause-steps : goal.returns-in-Some-clause-steps

@@ -1,7 +1,7 @@
 use Rattle.std.proofs.Common.{refl}
 use Rattle.reg_records.specs.declared.links.Link.{Link}
-use Rattle.reg_content.proofs.Found.{absent}
-use Rattle.reg_content.proofs.Joining.{steps_in}
+use Rattle.reg_rows.proofs.Found.{absent}
+use Rattle.reg_rows.proofs.Joining.{steps_in}
 use Rattle.reg_content.proofs.links.add_agent.Goals as goal
 
 pub returns-clause-steps : goal.returns-clause-steps

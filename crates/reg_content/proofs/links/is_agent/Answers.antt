@@ -1,8 +1,8 @@
 use Rattle.std.proofs.Common.{ap, is_some, ◌∙◌}
 use Rattle.reg_core.specs.World.{Link}
-use Rattle.reg_content.proofs.Found.{made_some}
-use Rattle.reg_content.proofs.Looking.{looks_made}
-use Rattle.reg_content.proofs.Statements.{finds_link}
+use Rattle.reg_rows.proofs.Found.{made_some}
+use Rattle.reg_rows.proofs.Looking.{looks_made}
+use Rattle.reg_rows.proofs.Statements.{finds_link}
 use Rattle.reg_content.proofs.links.is_agent.Goals as goal
 
 pub returns : goal.returns

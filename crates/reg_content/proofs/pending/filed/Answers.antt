@@ -1,4 +1,4 @@
-use Rattle.reg_content.proofs.Looking.{looks_told}
+use Rattle.reg_rows.proofs.Looking.{looks_told}
 use Rattle.reg_content.proofs.pending.filed.Goals as goal
 
 pub returns-in-Ok : goal.returns-in-Ok

@@ -2,8 +2,8 @@ use Rattle.std.proofs.Common.{◌≡◌, ◌++◌, ◌∷◌, [], map, sym, ap, 
 use Rattle.std.proofs.lemmas.List.{map-append, map-id}
 use Rattle.std.proofs.lemmas.Iterator.Adapters.{YieldsList-from_vec}
 use Rattle.std.proofs.lemmas.Iterator.Consumers.{YieldsList-end}
-use Rattle.reg_content.specs.Seats.{filed}
-use Rattle.reg_content.proofs.Looking.{looks_failed, looks_still, looks_then, looks_told}
+use Rattle.reg_rows.specs.Seats.{filed}
+use Rattle.reg_rows.proofs.Looking.{looks_failed, looks_still, looks_then, looks_told}
 use Rattle.reg_content.proofs.pending.filed_each.Goals as goal
 
 pub loop-request-init : goal.loop-request-init

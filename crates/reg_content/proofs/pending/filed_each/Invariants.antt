@@ -1,8 +1,8 @@
 use Rattle.std.proofs.Common.{◌≡◌, Ok, map}
 use Rattle.sqlite.specs.Held.{state}
 use Rattle.reg_keeper.specs.declared.keeper.Fault.{Fault}
-use Rattle.reg_content.specs.Calls.{Looks}
-use Rattle.reg_content.specs.Seats.{filed}
+use Rattle.reg_rows.specs.Calls.{Looks}
+use Rattle.reg_rows.specs.Seats.{filed}
 use Rattle.reg_content.proofs.pending.filed_each.Given as goal
 
 abbrev pub invariant-loop-request : goal.invariant-loop-request

@@ -1,7 +1,7 @@
 use Rattle.std.proofs.Common.{ap, map, ◌∙◌}
 use Rattle.std.proofs.lemmas.Simd.{map-map}
-use Rattle.reg_content.specs.Seats.{filed}
-use Rattle.reg_content.proofs.Looking.{looks_then}
+use Rattle.reg_rows.specs.Seats.{filed}
+use Rattle.reg_rows.proofs.Looking.{looks_then}
 use Rattle.reg_content.proofs.pending.pending.Goals as goal
 
 pub returns : goal.returns

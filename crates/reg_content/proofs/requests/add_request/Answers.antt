@@ -5,8 +5,8 @@ use Rattle.reg_records.specs.Requests.Forms.{gives_its_kind}
 use Rattle.reg_core.specs.Minutes.{bare, bare_ask}
 use Rattle.reg_records.proofs.RequestLaws.Rows.{bare_form, request_values-bare}
 use Rattle.reg_statements.specs.Content.{content_of, parts_of}
-use Rattle.reg_content.proofs.Joining.{steps_in}
-use Rattle.reg_content.proofs.MinutesWritten.{request_added}
+use Rattle.reg_rows.proofs.Joining.{steps_in}
+use Rattle.reg_rows.proofs.MinutesWritten.{request_added}
 use Rattle.reg_content.proofs.requests.add_request.Goals as goal
 
 pub returns-clause-steps : goal.returns-clause-steps

@@ -1,8 +1,8 @@
 use Rattle.std.proofs.Common.{ap, map, ◌∙◌}
-use Rattle.reg_content.specs.Marks.{request_minuted}
-use Rattle.reg_content.proofs.Looking.{looks_joined}
-use Rattle.reg_content.proofs.MinutedRows.{all_listed}
-use Rattle.reg_content.proofs.Statements.{lists_requests}
+use Rattle.reg_rows.specs.Marks.{request_minuted}
+use Rattle.reg_rows.proofs.Looking.{looks_joined}
+use Rattle.reg_rows.proofs.MinutedRows.{all_listed}
+use Rattle.reg_rows.proofs.Statements.{lists_requests}
 use Rattle.reg_content.proofs.requests.all.Goals as goal
 
 pub returns : goal.returns

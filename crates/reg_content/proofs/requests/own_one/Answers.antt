@@ -1,9 +1,9 @@
 use Rattle.std.proofs.Common.{Some, option_map, sym, ap, ◌∙◌}
 use Rattle.reg_core.specs.World.{RequestName}
-use Rattle.reg_content.specs.Marks.{request_minuted}
-use Rattle.reg_content.proofs.Looking.{looks_joined, looks_made}
-use Rattle.reg_content.proofs.MinutedRows.{request_found}
-use Rattle.reg_content.proofs.Statements.{finds_request}
+use Rattle.reg_rows.specs.Marks.{request_minuted}
+use Rattle.reg_rows.proofs.Looking.{looks_joined, looks_made}
+use Rattle.reg_rows.proofs.MinutedRows.{request_found}
+use Rattle.reg_rows.proofs.Statements.{finds_request}
 use Rattle.reg_content.proofs.requests.own_one.Goals as goal
 
 pub returns-in_ok-minuted-in-Some : goal.returns-in_ok-minuted-in-Some

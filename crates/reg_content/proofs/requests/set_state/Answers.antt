@@ -1,8 +1,8 @@
 use Rattle.reg_core.specs.World.{RequestName}
 use Rattle.reg_statements.specs.Content.{parts_of}
-use Rattle.reg_content.proofs.Joining.{steps_in}
-use Rattle.reg_content.proofs.MinutesWritten.{state_set}
-use Rattle.reg_content.proofs.Statements.{changes_state}
+use Rattle.reg_rows.proofs.Joining.{steps_in}
+use Rattle.reg_rows.proofs.MinutesWritten.{state_set}
+use Rattle.reg_rows.proofs.Statements.{changes_state}
 use Rattle.reg_content.proofs.requests.set_state.Goals as goal
 
 pub returns-clause-steps : goal.returns-clause-steps

@@ -4,11 +4,11 @@ use Rattle.reg_tables.proofs.RestLemmas.{stays_held}
 use Rattle.reg_keeper.specs.declared.keeper.Fault.{Fault}
 use Rattle.reg_core.specs.Queue.{queue_rows}
 use Rattle.reg_core.specs.View.{queue_of}
-use Rattle.reg_content.specs.Calls.{LooksIn}
-use Rattle.reg_content.specs.Seats.{seen_row}
-use Rattle.reg_content.proofs.Looking.{looks, looks_joined}
-use Rattle.reg_content.proofs.MinutedRows.{bare_world, queue_minuted}
-use Rattle.reg_content.proofs.QueuedRowsFound.{queue_found}
+use Rattle.reg_rows.specs.Calls.{LooksIn}
+use Rattle.reg_rows.specs.Seats.{seen_row}
+use Rattle.reg_rows.proofs.Looking.{looks, looks_joined}
+use Rattle.reg_rows.proofs.MinutedRows.{bare_world, queue_minuted}
+use Rattle.reg_rows.proofs.QueuedRowsFound.{queue_found}
 use Rattle.reg_content.proofs.reviews.queue.Goals as goal
 
 pub returns : goal.returns

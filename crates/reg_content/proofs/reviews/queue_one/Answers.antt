@@ -4,10 +4,10 @@ use Rattle.reg_core.specs.Queue.{queue_row}
 use Rattle.reg_core.specs.World.{RequestName}
 use Rattle.reg_statements.specs.Content.{world_in}
 use Rattle.reg_keeper.specs.declared.keeper.Fault.{Fault}
-use Rattle.reg_content.specs.Calls.{Looks}
-use Rattle.reg_content.specs.Seats.{assigned_to}
-use Rattle.reg_content.proofs.Looking.{looks, looks_then}
-use Rattle.reg_content.proofs.QueueRows.{is_assigned, not_assigned}
+use Rattle.reg_rows.specs.Calls.{Looks}
+use Rattle.reg_rows.specs.Seats.{assigned_to}
+use Rattle.reg_rows.proofs.Looking.{looks, looks_then}
+use Rattle.reg_rows.proofs.QueueRows.{is_assigned, not_assigned}
 use Rattle.reg_content.proofs.reviews.queue_one.Goals as goal
 
 pub returns-then-not-branch : goal.returns-then-not-branch

@@ -2,9 +2,9 @@ use Rattle.std.proofs.Common.{rules, ◌≡◌, map, filter_map, ◌∙◌}
 use Rattle.sqlite.specs.Held.{state}
 use Rattle.reg_core.specs.World.{RequestName}
 use Rattle.reg_tables.proofs.RestLemmas.{stays_held}
-use Rattle.reg_content.specs.Seats.{opinion_at}
-use Rattle.reg_content.proofs.Looking.{looks}
-use Rattle.reg_content.proofs.SeatRows.{seats_experts, seats_opinions}
+use Rattle.reg_rows.specs.Seats.{opinion_at}
+use Rattle.reg_rows.proofs.Looking.{looks}
+use Rattle.reg_rows.proofs.SeatRows.{seats_experts, seats_opinions}
 use Rattle.reg_content.proofs.reviews.seats.Goals as goal
 
 pub returns : goal.returns

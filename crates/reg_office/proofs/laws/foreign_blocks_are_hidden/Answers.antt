@@ -1,4 +1,4 @@
-use Rattle.reg_commands.specs.Caller.{token_digest}
+use Rattle.reg_registers.specs.Caller.{token_digest}
 use Rattle.reg_office.proofs.laws.foreign_blocks_are_hidden.Goals as goal
 
 pub returns : goal.returns

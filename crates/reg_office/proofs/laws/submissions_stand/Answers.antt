@@ -1,4 +1,4 @@
-use Rattle.reg_commands.proofs.Digests.{gives_digests}
+use Rattle.reg_registers.proofs.Digests.{gives_digests}
 use Rattle.reg_office.proofs.laws.submissions_stand.Goals as goal
 
 pub returns : goal.returns

@@ -7,9 +7,9 @@ use Rattle.reg_core.specs.World.{World}
 use Rattle.reg_core.specs.declared.capability.Kind.TheVariants as kind
 use Rattle.reg_core.specs.declared.refusal.Refusal.{Refusal}
 use Rattle.reg_core.specs.declared.told.Told.TheVariants.{InUse}
-use Rattle.reg_commands.specs.Answers.{answer_about_times, answer_to_account, answer_to_clerk, answer_to_expert}
-use Rattle.reg_commands.specs.Caller.{token_digest, caller_of as caller, admission, stamp_by, valid_cap}
-use Rattle.reg_commands.specs.declared.admission.Caller.{Caller}
+use Rattle.reg_registers.specs.Answers.{answer_about_times, answer_to_account, answer_to_clerk, answer_to_expert}
+use Rattle.reg_registers.specs.Caller.{token_digest, caller_of as caller, admission, stamp_by, valid_cap}
+use Rattle.reg_registers.specs.declared.caller.Caller.{Caller}
 use Rattle.reg_office.proofs.Admitted.{is_open_on, public_answered, applicant_answered, times_answered, token_answered, expert_answered, clerk_answered, signed_by}
 use Rattle.reg_office.proofs.Performing.{performs_as, performs_then, performs_stopped}
 use Rattle.reg_office.proofs.office.answer.Given.{Over}

@@ -1,6 +1,6 @@
 //! Lines that an office is asked, and their answers.
 use crate::tests::disks::rows::ROWS;
-use reg_testing::transcript::{answered, sent};
+use crate::tests::transcript::{answered, sent};
 use std::alloc::{AllocError, Global};
 
 /// The token of the first clerk.

@@ -4,9 +4,9 @@ use crate::tests::disks::image::Image;
 use crate::tests::disks::left::{NEVER, Stop};
 use crate::tests::disks::making::{asking, blank, seen};
 use crate::tests::disks::sessions::{Statement, ask, carry_out};
+use crate::tests::facts::ensure;
 use reg_opening::kind::StoreKind;
 use reg_tables::version::NEWEST;
-use reg_testing::facts::ensure;
 use std::alloc::Global;
 use std::test::Fail;
 

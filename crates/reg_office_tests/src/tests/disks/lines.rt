@@ -6,7 +6,7 @@ use crate::tests::disks::left::{AT_ONCE, Left, NEVER, Stop, stops};
 use crate::tests::disks::making::{answered, asking, calls_of_opening, founded, prepared, seen};
 use crate::tests::disks::rows::ROWS;
 use crate::tests::disks::sessions::ask;
-use reg_testing::facts::ensure;
+use crate::tests::facts::ensure;
 use std::alloc::Global;
 use std::test::Fail;
 

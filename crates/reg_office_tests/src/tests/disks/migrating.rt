@@ -5,9 +5,9 @@ use crate::tests::disks::left::{NEVER, Stop, stops};
 use crate::tests::disks::making::{asking, calls_of_opening, prepared_by, refused, seen};
 use crate::tests::disks::rows::{OF_THE_FIRST, OF_THE_SECOND, OF_THE_THIRD};
 use crate::tests::disks::sessions::{Statement, ask, carry_out};
+use crate::tests::facts::ensure;
 use reg_opening::kind::StoreKind;
 use reg_tables::version::{NEWEST, Version};
-use reg_testing::facts::ensure;
 use std::alloc::Global;
 use std::test::Fail;
 

@@ -5,9 +5,9 @@ use crate::tests::disks::image::Image;
 use crate::tests::disks::left::{NEVER, Stop};
 use crate::tests::disks::making::{answered, asking, calls_of_opening, founded, seen};
 use crate::tests::disks::sessions::ask;
+use crate::tests::facts::ensure;
+use crate::tests::transcript::part;
 use crate::tests::worked::rows::ROWS;
-use reg_testing::facts::ensure;
-use reg_testing::transcript::part;
 use std::alloc::Global;
 use std::test::Fail;
 

@@ -1,10 +1,10 @@
 //! An office in a file of the system, which `SqlKeeper` opens by itself.
+use crate::tests::facts::ensure;
+use crate::tests::folders::folder_for;
 use reg_keeper::keeper::Keeper;
 use reg_office::Office;
 use reg_sql::keeper::SqlKeeper;
 use reg_sql::open::OpenFault;
-use reg_testing::facts::ensure;
-use reg_testing::folders::folder_for;
 use reg_wire::script::run;
 use sqlite::{Alter, FileFrom, FileStore, Unknown};
 use std::alloc::Global;

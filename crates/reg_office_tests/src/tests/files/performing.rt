@@ -1,9 +1,9 @@
 //! Each job of the program, over an office in a file and given streams.
+use crate::tests::facts::ensure;
+use crate::tests::folders::folder_for;
+use crate::tests::transcript::{answered, sent};
 use reg_files::performing::perform;
 use reg_jobs::command_line::job;
-use reg_testing::facts::ensure;
-use reg_testing::folders::folder_for;
-use reg_testing::transcript::{answered, sent};
 use std::net::{Ipv4Addr, SocketAddr, TcpListener};
 use std::test::Fail;
 use std::{fs, str};

@@ -1,8 +1,8 @@
 //! What is made of the answers of an office that is served about its capabilities: known bytes.
+use crate::tests::facts::ensure;
 use reg_jobs::jobs::Which;
 use reg_program::capabilities::{print_listed, print_revoked, revocation_path};
 use reg_program::faults::{JobFailure, Undone};
-use reg_testing::facts::ensure;
 use std::alloc::{AllocError, Global};
 use std::test::Fail;
 

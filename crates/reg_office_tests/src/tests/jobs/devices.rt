@@ -1,10 +1,10 @@
 //! Scripts whose reader fails before a byte or never ends, and whose writer fails after a byte.
+use crate::tests::devices::{FailsAfter, FailsBefore, NeverEnds};
 use crate::tests::exercise::{Exercise, over_lists};
+use crate::tests::facts::ensure;
 use crate::tests::jobs::running::run_over;
 use reg_keeper::keeper::Keeper;
 use reg_program::faults::{JobFailure, Undone};
-use reg_testing::devices::{FailsAfter, FailsBefore, NeverEnds};
-use reg_testing::facts::ensure;
 use std::alloc::{AllocError, Global};
 use std::io::{Read, Write};
 use std::test::Fail;

@@ -1,5 +1,6 @@
 //! Jobs whose store fails, and one that counts at a moment that is none.
 use crate::tests::exercise::{Exercise, over_lists};
+use crate::tests::facts::ensure;
 use crate::tests::jobs::failing_keeper::FailingKeeper;
 use crate::tests::jobs::running::{MOMENT, list_in};
 use reg_keeper::keeper::Keeper;
@@ -7,7 +8,6 @@ use reg_office::{Choice, Office};
 use reg_program::checking::check_in;
 use reg_program::faults::{JobFailure, Undone};
 use reg_program::tokens::{revoke_in, tokens_in};
-use reg_testing::facts::ensure;
 use std::test::Fail;
 
 // The store failed.

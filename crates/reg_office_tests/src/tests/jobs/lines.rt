@@ -1,10 +1,10 @@
 //! A store that fails: lines that need it are answered `503`, and the others as ever.
 use crate::tests::exercise::{Exercise, over_lists};
+use crate::tests::facts::ensure;
 use crate::tests::jobs::failing_keeper::FailingKeeper;
 use crate::tests::jobs::running::run_over;
+use crate::tests::transcript::{answered, sent};
 use reg_keeper::keeper::Keeper;
-use reg_testing::facts::ensure;
-use reg_testing::transcript::{answered, sent};
 use std::test::Fail;
 
 /// The pool, requests, single entries and agents cannot be read; capabilities and registries can.

@@ -1,10 +1,10 @@
 //! What is sent to an office that is served, and what is made of its answers: known bytes.
+use crate::tests::facts::ensure;
 use reg_client::answers::answer_in;
 use reg_print::answer::Format;
 use reg_program::asking::AnswerForm;
 use reg_program::faults::{JobFailure, Undone};
 use reg_program::served::{ServedRequest, print_answer, request_bytes};
-use reg_testing::facts::ensure;
 use std::alloc::{AllocError, Global};
 use std::test::Fail;
 

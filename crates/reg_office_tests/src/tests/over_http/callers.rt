@@ -1,10 +1,10 @@
 //! A caller whose bytes are all known, at a date that is known.
 use crate::tests::exercise::{Exercise, over_lists};
+use crate::tests::facts::ensure;
 use crate::tests::over_http::served::Served;
 use reg_http::known::{OneCaller, OneDate};
 use reg_http::listener::Connections;
 use reg_keeper::keeper::Keeper;
-use reg_testing::facts::ensure;
 use reg_wire::log::Sent;
 use std::test::Fail;
 use std::time::Duration;

@@ -1,11 +1,11 @@
 //! Requests that come in pieces, break off or fail on their way, and answers that do.
+use crate::tests::devices::{FailsAfter, FailsBefore, GivesOne};
 use crate::tests::exercise::{Exercise, over_lists};
+use crate::tests::facts::ensure;
 use crate::tests::over_http::asking::{founded, opened};
 use crate::tests::over_http::messages::{HEAD, MADE, SHORT, SUBMISSION, SUBMISSION_HEAD, THERE};
 use crate::tests::over_http::served::Served;
 use reg_keeper::keeper::Keeper;
-use reg_testing::devices::{FailsAfter, FailsBefore, GivesOne};
-use reg_testing::facts::ensure;
 use reg_wire::wire_fault::WireFault;
 use std::alloc::{AllocError, Global};
 use std::test::Fail;

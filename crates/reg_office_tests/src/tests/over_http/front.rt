@@ -1,12 +1,12 @@
 //! What stands in front of an office and has no memory.
 use crate::tests::exercise::{Exercise, over_lists};
+use crate::tests::facts::ensure;
 use crate::tests::over_http::listening::{all_of, client, free_address};
 use crate::tests::over_http::served::Served;
 use reg_http::dates::ClockDates;
 use reg_http::front::{Front, FrontAnswer};
 use reg_http::tcp::peers_at;
 use reg_keeper::keeper::Keeper;
-use reg_testing::facts::ensure;
 use std::alloc::{AllocError, Global};
 use std::test::Fail;
 use std::time::Duration;

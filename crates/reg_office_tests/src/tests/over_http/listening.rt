@@ -1,12 +1,12 @@
 //! A listener on loopback, and its clients.
 use crate::tests::exercise::{Exercise, over_lists};
+use crate::tests::facts::ensure;
 use crate::tests::over_http::served::Served;
 use reg_http::dates::ClockDates;
 use reg_http::front::NoFront;
 use reg_http::listener::Connections;
 use reg_http::tcp::peers_at;
 use reg_keeper::keeper::Keeper;
-use reg_testing::facts::ensure;
 use std::io::{Read, Write};
 use std::net::{Ipv4Addr, Shutdown, SocketAddr, TcpListener, TcpStream};
 use std::test::Fail;

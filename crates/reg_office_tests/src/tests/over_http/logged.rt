@@ -1,9 +1,9 @@
 //! The lines of a log say why an answer has status 503.
+use crate::tests::facts::ensure;
 use http::StatusCode;
 use reg_http::log::LineLog;
 use reg_keeper::keeper::Fault;
 use reg_program::log::Lines;
-use reg_testing::facts::ensure;
 use reg_wire::log::{Log, Sent};
 use std::alloc::Global;
 use std::str;

@@ -1,4 +1,5 @@
 //! An office that is asked over HTTP.
+use crate::tests::facts::ensure;
 use crate::tests::over_http::messages::request;
 use reg_http::dates::Dates;
 use reg_http::listener::{Connections, serve_listener};
@@ -7,7 +8,6 @@ use reg_http::peers::Peers;
 use reg_keeper::keeper::Keeper;
 use reg_office::Office;
 use reg_parse::route::Routes;
-use reg_testing::facts::ensure;
 use reg_wire::log::Unlogged;
 use reg_wire::serving::serve_one;
 use reg_wire::wire_fault::WireFault;

@@ -1,5 +1,6 @@
 //! A client over loopback that takes nothing of a long answer, and the next one.
 use crate::tests::exercise::{Exercise, over_lists};
+use crate::tests::facts::ensure;
 use crate::tests::over_http::listening::{all_of, assert_counts, client, free_address};
 use crate::tests::over_http::served::Served;
 use http::StatusCode;
@@ -11,7 +12,6 @@ use reg_http::peers::Peers;
 use reg_http::tcp::peers_at;
 use reg_keeper::keeper::{Fault, Keeper};
 use reg_parse::shown::Shown;
-use reg_testing::facts::ensure;
 use reg_wire::log::{Log, Sent, Unlogged};
 use std::alloc::Global;
 use std::io;

@@ -1,5 +1,7 @@
 //! The answers of an office that is served, as a job reads them.
+use crate::tests::devices::{FailsBefore, GivesOne, NeverEnds};
 use crate::tests::exercise::{Exercise, over_lists};
+use crate::tests::facts::ensure;
 use crate::tests::sites::files::answer;
 use crate::tests::sites::office::opened;
 use reg_client::answers::body_of;
@@ -14,8 +16,6 @@ use reg_print::answer::Format;
 use reg_print::comparing::is_page;
 use reg_source::bounded::read_up_to;
 use reg_source::unpublished::Unpublished;
-use reg_testing::devices::{FailsBefore, GivesOne, NeverEnds};
-use reg_testing::facts::ensure;
 use std::alloc::Global;
 use std::test::Fail;
 

@@ -3,17 +3,17 @@ ghost use Rattle.std.specs.Prelude.{◌≡◌, IfOk};
 ghost use Rattle.reg_core.specs.View.{published as shown};
 ghost use Rattle.reg_core.specs.World.{empty_world};
 
+use crate::tests::facts::ensure;
 use crate::tests::sites::office::FILES;
 use reg_core::command::PublicCommand;
 use reg_core::told::Told;
-use reg_disk::folder::{Folder, MOST_READ_BYTES};
 use reg_keeper::keeper::Keeper;
 use reg_office::Office;
 use reg_pages::portions::Portions;
 use reg_site::files::File;
+use reg_source::folder::{Folder, MOST_READ_BYTES};
 use reg_source::source::Source;
 use reg_source::unpublished::Unpublished;
-use reg_testing::facts::ensure;
 use std::alloc::{AllocError, Global};
 use std::test::Fail;
 

@@ -1,6 +1,8 @@
 //! What is published where a source or a folder fails: the first files of the site, and no more. And
 //! the fault that a job ends with whose source fails.
 use crate::tests::exercise::{Exercise, over_lists};
+use crate::tests::facts::ensure;
+use crate::tests::folders::folder_for;
 use crate::tests::sites::devices::{Faulty, Kept, Placed};
 use crate::tests::sites::files::site;
 use crate::tests::sites::office::{FILES, LATER, MOMENT, opened};
@@ -13,8 +15,6 @@ use reg_publish::faults::PublishFault;
 use reg_publish::publishing::publish;
 use reg_source::source::Source;
 use reg_source::unpublished::Unpublished;
-use reg_testing::facts::ensure;
-use reg_testing::folders::folder_for;
 use std::test::Fail;
 use std::{fs, io};
 

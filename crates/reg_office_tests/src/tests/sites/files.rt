@@ -1,5 +1,6 @@
 //! The files of a site, their order, and those that are others on another day.
 use crate::tests::exercise::{Exercise, over_lists};
+use crate::tests::facts::ensure;
 use crate::tests::sites::devices::Kept;
 use crate::tests::sites::office::{FILES, LATER, MOMENT, opened};
 use reg_core::command::{Command, PublicCommand};
@@ -11,7 +12,6 @@ use reg_print::answer::{Answer, body_of};
 use reg_publish::faults::PublishFault;
 use reg_publish::publishing::publish;
 use reg_source::unpublished::Unpublished;
-use reg_testing::facts::ensure;
 use std::str;
 use std::test::Fail;
 

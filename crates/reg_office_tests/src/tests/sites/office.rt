@@ -1,10 +1,10 @@
 //! The office that is published.
+use crate::tests::facts::ensure;
 use crate::tests::over_http::served::CLERK;
+use crate::tests::transcript::sent;
 use reg_keeper::keeper::Keeper;
 use reg_office::Office;
 use reg_program::scripts::found_and_run;
-use reg_testing::facts::ensure;
-use reg_testing::transcript::sent;
 use std::str;
 use std::test::Fail;
 

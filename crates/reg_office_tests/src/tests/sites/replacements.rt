@@ -1,12 +1,12 @@
 //! Files that take the places of others in a folder of a file system.
+use crate::tests::facts::ensure;
+use crate::tests::folders::folder_for;
 use reg_core::text::Name;
-use reg_disk::directory::Directory;
-use reg_disk::folder::Folder;
 use reg_pages::portions::Whole;
 use reg_site::files::File;
+use reg_source::directory::Directory;
+use reg_source::folder::Folder;
 use reg_source::unpublished::Unpublished;
-use reg_testing::facts::ensure;
-use reg_testing::folders::folder_for;
 use std::fs;
 use std::test::Fail;
 

@@ -1,11 +1,11 @@
 //! Files that are published where the system cannot synchronise them, or their folder.
-use reg_disk::directory::Directory;
-use reg_disk::folder::Folder;
+use crate::tests::facts::ensure;
+use crate::tests::folders::folder_for;
 use reg_pages::portions::Whole;
 use reg_site::files::File;
+use reg_source::directory::Directory;
+use reg_source::folder::Folder;
 use reg_source::unpublished::Unpublished;
-use reg_testing::facts::ensure;
-use reg_testing::folders::folder_for;
 use std::alloc::{Allocator, Global};
 use std::fs::{Files, Metadata, OpenFile, OpenOptions, Permissions};
 use std::io::{ErrorKind, Read, Seek, SeekFrom, Write};

@@ -1,13 +1,13 @@
 //! Requests that a fixed sequence of numbers draws, and asks in a wide registry, are answered alike by
 //! scripts and over HTTP, over lists and over tables in memory.
+use crate::tests::facts::ensure;
+use crate::tests::transcript::sent;
 use crate::tests::worked::exercise::{assert_answers, assert_over_both, over_both};
 use crate::tests::worked::generated::requests;
 use crate::tests::worked::rows::ROWS;
 use crate::tests::worked::scripts::{Scripts, part_of};
 use crate::tests::worked::served::Requests;
 use crate::tests::worked::wide::wide;
-use reg_testing::facts::ensure;
-use reg_testing::transcript::sent;
 use std::alloc::Global;
 use std::test::Fail;
 

@@ -1,8 +1,8 @@
 //! What an office answers, over lists and over tables in memory.
+use crate::tests::facts::ensure;
 use reg_keeper::keeper::Keeper;
 use reg_sql::keeper::SqlKeeper;
 use reg_store::lists::ListKeeper;
-use reg_testing::facts::ensure;
 use std::alloc::Global;
 use std::test::Fail;
 

@@ -1,12 +1,12 @@
 //! Requests without the form of one, and one whose answer is cut, where the rows end.
+use crate::tests::devices::FailsAfter;
+use crate::tests::facts::ensure;
+use crate::tests::transcript::sent;
 use crate::tests::worked::exercise::{CLERK, Exercise, over_both};
 use crate::tests::worked::rows::ROWS;
 use crate::tests::worked::served::{answer, answer_to};
 use reg_keeper::keeper::Keeper;
 use reg_office::Office;
-use reg_testing::devices::FailsAfter;
-use reg_testing::facts::ensure;
-use reg_testing::transcript::sent;
 use reg_wire::serving::serve_one;
 use reg_wire::wire_fault::WireFault;
 use std::alloc::{AllocError, Global};

@@ -1,13 +1,13 @@
 //! The lines, each by itself, and a request at their end, where memory may be refused: they are answered
 //! by their own answer, also where they are sent again. `tools/refuse-allocations` refuses each allocation
 //! of these calls in turn; before and after each call the clock is read, as a sign to it.
+use crate::tests::facts::ensure;
+use crate::tests::transcript::{answered, sent};
 use crate::tests::worked::exercise::{CLERK, Exercise, over_both};
 use crate::tests::worked::messages::{Line, line_of};
 use crate::tests::worked::rows::ROWS;
 use reg_keeper::keeper::Keeper;
 use reg_office::Office;
-use reg_testing::facts::ensure;
-use reg_testing::transcript::{answered, sent};
 use reg_wire::script::run;
 use reg_wire::serving::serve_one;
 use reg_wire::wire_fault::WireFault;

@@ -1,12 +1,12 @@
 //! The lines as scripts.
+use crate::tests::facts::ensure;
+use crate::tests::transcript::{answered, part, sent};
 use crate::tests::worked::after::AFTER;
 use crate::tests::worked::exercise::{CLERK, Exercise, assert_over_both};
 use crate::tests::worked::floods::FLOODS;
 use crate::tests::worked::rows::ROWS;
 use reg_keeper::keeper::Keeper;
 use reg_office::Office;
-use reg_testing::facts::ensure;
-use reg_testing::transcript::{answered, part, sent};
 use reg_wire::script::run;
 use std::alloc::Global;
 use std::str;

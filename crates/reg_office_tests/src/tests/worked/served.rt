@@ -1,12 +1,12 @@
 //! The lines as requests over HTTP, at their moments.
+use crate::tests::facts::ensure;
+use crate::tests::transcript::{answered, sent};
 use crate::tests::worked::after::AFTER;
 use crate::tests::worked::exercise::{CLERK, Exercise, assert_over_both};
 use crate::tests::worked::messages::{Line, line_of};
 use crate::tests::worked::rows::ROWS;
 use reg_keeper::keeper::Keeper;
 use reg_office::Office;
-use reg_testing::facts::ensure;
-use reg_testing::transcript::{answered, sent};
 use reg_wire::serving::serve_one;
 use std::alloc::Global;
 use std::test::Fail;

@@ -3,6 +3,7 @@ ghost use Rattle.std.specs.Prelude.{◌≡◌, true};
 ghost use Rattle.reg_core.specs.WellKept.{has_request_form};
 ghost use Rattle.reg_core.specs.World.{pending};
 
+use crate::tests::transcript::{answered, sent};
 use crate::tests::worked::exercise::{CLERK, Exercise, assert_over_both};
 use crate::tests::worked::rows::ROWS;
 use crate::tests::worked::scripts::{answers_of, part_of};
@@ -13,7 +14,6 @@ use reg_keeper::keeper::{Fault, Keeper};
 use reg_office::Office;
 use reg_ranges::evidence::Evidence;
 use reg_ranges::formed::Formed;
-use reg_testing::transcript::{answered, sent};
 use std::alloc::Global;
 use std::test::Fail;
 

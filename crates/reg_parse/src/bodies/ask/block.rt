@@ -1,14 +1,14 @@
 //! Reads asks for a block of addresses.
 ghost use Rattle.std.specs.Prelude.{◌≡◌};
 ghost use Rattle.serde_json.specs.View.{view};
-ghost use Rattle.reg_parse.specs.Bodies.Members.{Gives, needed};
+ghost use Rattle.reg_json.specs.Members.{Gives, needed};
 ghost use Rattle.reg_parse.specs.Bodies.Ask.{block_of, size_form, size_named};
 
-use crate::bodies::members;
 use reg_blocks::size::Size;
 use reg_core::ask::BlockAsk;
 use reg_core::item::Item;
 use reg_core::wire_refusal::ReadFault;
+use reg_json::members;
 use serde_json::Value;
 use std::alloc::Global;
 

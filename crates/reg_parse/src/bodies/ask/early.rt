@@ -1,13 +1,13 @@
 //! Reads asks for an early allocation.
 ghost use Rattle.serde_json.specs.View.{view};
-ghost use Rattle.reg_parse.specs.Bodies.Members.{Gives};
+ghost use Rattle.reg_json.specs.Members.{Gives};
 ghost use Rattle.reg_parse.specs.Bodies.Ask.{early_of};
 
 use crate::bodies::early_evidence::{EARLY_EVIDENCE_ITEMS, read_early_evidence};
-use crate::bodies::members;
 use crate::bodies::value::{WANTED_ITEMS, read_wanted_value};
 use reg_core::ask::EarlyAsk;
 use reg_core::wire_refusal::ReadFault;
+use reg_json::members;
 use serde_json::Value;
 use std::alloc::Global;
 

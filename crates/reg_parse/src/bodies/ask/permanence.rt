@@ -1,14 +1,14 @@
 //! Reads asks that an early allocation become permanent.
 ghost use Rattle.serde_json.specs.View.{view};
-ghost use Rattle.reg_parse.specs.Bodies.Members.{Gives};
+ghost use Rattle.reg_json.specs.Members.{Gives};
 ghost use Rattle.reg_parse.specs.Bodies.Ask.{permanence_of};
 
 use crate::bodies::evidence::{EVIDENCE_ITEMS, read_evidence};
-use crate::bodies::members;
 use crate::bodies::value::read_allocated_value;
 use reg_core::ask::PermanenceAsk;
 use reg_core::item::Item;
 use reg_core::wire_refusal::ReadFault;
+use reg_json::members;
 use serde_json::Value;
 use std::alloc::Global;
 

@@ -4,11 +4,11 @@ use Rattle.sqlite.specs.Held.{state}
 use Rattle.reg_core.specs.Page.{entry_rows}
 use Rattle.reg_vacancies.specs.Pool.{prefix_set}
 use Rattle.reg_tables.proofs.RestLemmas.{stays_held}
-use Rattle.reg_content.specs.Calls.{LooksIn}
+use Rattle.reg_rows.specs.Calls.{LooksIn}
 use Rattle.reg_statements.specs.Content.{parts_of, world_in}
 use Rattle.reg_statements.proofs.Marks.{get-marked}
-use Rattle.reg_content.proofs.Found.{made_some}
-use Rattle.reg_content.proofs.Looking.{looks}
+use Rattle.reg_rows.proofs.Found.{made_some}
+use Rattle.reg_rows.proofs.Looking.{looks}
 use Rattle.reg_sql.specs.Listed.{registrations}
 use Rattle.reg_sql.proofs.Reading.{listed_in_pool, listed_leave, looks_next, looks_so}
 use Rattle.reg_sql.proofs.vacancies.read_vacancies.Goals as goal

@@ -1,5 +1,5 @@
 use Rattle.std.proofs.Common.{ap, ◌∙◌}
-use Rattle.reg_parse.specs.Bodies.Members.{◌>>=◌}
+use Rattle.reg_json.specs.Members.{◌>>=◌}
 use Rattle.reg_parse.specs.Bodies.Ask.{ask_of}
 use Rattle.reg_wire.proofs.AskText.{object_of-ask_text}
 use Rattle.reg_wire.proofs.ReadBack.{ask_of-ask_tree}

@@ -10,7 +10,7 @@ use Rattle.reg_core.specs.declared.ask_kind.AskKind.{AskKind}
 use Rattle.reg_core.specs.declared.item.Item.TheVariants as item
 use Rattle.reg_core.specs.declared.wire_refusal.WireRefusal.TheVariants.{Field}
 use Rattle.reg_parse.specs.Bodies.Ask.{ask_kind_form}
-use Rattle.reg_parse.specs.Bodies.Members.{or_refusal}
+use Rattle.reg_json.specs.Members.{or_refusal}
 use Rattle.reg_parse.proofs.bodies.ask.ask_kind.Goals as goal
 
 -- a member whose word names a kind

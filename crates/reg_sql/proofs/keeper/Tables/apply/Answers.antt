@@ -1,5 +1,5 @@
-use Rattle.reg_content.proofs.Joining.{alters_as}
-use Rattle.reg_content.proofs.Journaled.{applied_alone}
+use Rattle.reg_rows.proofs.Joining.{alters_as}
+use Rattle.reg_rows.proofs.Journaled.{applied_alone}
 use Rattle.reg_sql.proofs.keeper.Tables.apply.Goals as goal
 
 pub returns : goal.returns

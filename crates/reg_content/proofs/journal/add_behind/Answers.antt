@@ -1,8 +1,0 @@
-use Rattle.std.proofs.Common.{◌+◌, ◌∙◌, ap, refl}
-use Rattle.reg_content.proofs.Joining.{steps_as, steps_told}
-use Rattle.reg_content.proofs.journal.add_behind.Goals as goal
-
-pub returns-clause-steps : goal.returns-clause-steps
-returns-clause-steps g c =
-    steps_told c.in-Some.number (steps_as c.in_ok-add_act.ensures.steps
-    (λ w is. (c.in-Some.ensures.1 ∙ ap (λ n. n + 1) is, refl)))

@@ -1,2 +1,0 @@
-pub mod Copying
-pub mod Steps

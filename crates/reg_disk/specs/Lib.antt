@@ -1,3 +1,0 @@
-pub mod Copied
-pub mod Disk
-pub mod Names

@@ -1,0 +1,12 @@
+pub mod ArrivalsInOrder
+pub mod CapLists
+pub mod Counted
+pub mod Decided
+pub mod Deeds
+pub mod Digests
+pub mod LastMoments
+pub mod Pages
+pub mod Requests
+pub mod Rows
+pub mod Selected
+pub mod TimesOfActs
