@@ -83,6 +83,8 @@ def applicants_times(office, person):
     shown = dict(person.script('return [...document.querySelectorAll("main dl > div")].map(one => [one.firstChild.textContent, one.lastChild.textContent])'))
     judge([shown.get('Asked'), shown.get('Decided')] == right['p-843'], f'the details are {shown}')
     asks(office, 'zephyr', f'{today}-2', least='first-come-first-served')
+    # (moments are seconds: what comes next is newer from the next one on)
+    time.sleep(1)
     for number in (1, 3):
         begun(person)
         reference = person.control('Your reference').get_attribute('value')
