@@ -30,8 +30,8 @@ PLACES, ADDRESSES = 8, ['127.0.1.1', '127.0.1.2', '127.0.1.3']
 # The seconds after which a proxy has given back the connections, and the most that it may hold meanwhile: seconds, and megabytes of memory, of all
 # temporary files, and of those on the disk.
 FREE, MOST = 80, {'wait': 1, 'memory': 250, 'kept': 129, 'disk': 1}
-# What readers of three addresses may take of that together: all that nginx has for temporary files.
-MORE = {'addresses': {'kept': 257}}
+# What readers of three addresses may take of that together: all that nginx has for temporary files. Two hundred of one address take 17.
+MORE = {'addresses': {'kept': 257}, 'readers': {'kept': 33}}
 # The crowds, and those that ask for so large answers that only nginx keeps anything of them.
 CROWDS = {'greetings': HEADS, 'heads': HEADS, 'bodies': READERS, 'idle': READERS, 'readers': READERS, 'strangers': READERS, 'files': READERS}
 LARGE = {'address': PLACES, 'addresses': PLACES * len(ADDRESSES)}
@@ -43,7 +43,7 @@ HARMS = [(nginx, 'greetings', ('worker_connections 8192', 'worker_connections 76
          (nginx, 'greetings', ('LimitNOFILE=65536\n', ''), 'wait'),
          (nginx, 'heads', ('    client_header_timeout 10s;\n', '    client_header_timeout 120s;\n'), 'free'),
          (nginx, 'bodies', ('    client_body_timeout 10s;\n', '    client_body_timeout 120s;\n'), 'free'),
-         (nginx, 'readers', ('        limit_conn registry_office 8;\n', ''), 'wait'),
+         (nginx, 'readers', ('        limit_conn registry_office 8;\n', ''), 'kept'),
          (nginx, 'idle', ('    keepalive_timeout 20s;\n', '    keepalive_timeout 120s;\n'), 'free'),
          (nginx, 'readers', ('    send_timeout 10s;\n', '    send_timeout 120s;\n'), 'free'),
          (nginx, 'address', ('TemporaryFileSystem=/var/lib/nginx:mode=0755,size=256M\n', ''), 'disk'),
