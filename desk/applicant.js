@@ -3,7 +3,7 @@ import { ask } from './office.js';
 import { Told, attempt, button, choice, control, details, drafts, element, form, say, sure } from './dom.js';
 import { table } from './list.js';
 import {
-  KINDS, POLICIES, STATES, askOf, easiest, evidenceFor, faultsOf, freeUnder, inWords, noteOn, openPolicies, optionsFor, outcome, policyOf, rowsOf,
+  KINDS, POLICIES, STATES, askOf, easiest, evidenceFor, faultsOf, freeUnder, inWords, isNew, noteOn, openPolicies, optionsFor, outcome, policyOf, rowsOf,
   stateOf, valuesOf, waitingTwin,
 } from './forms.js';
 import { ENTRY, endingBy, entryOf, valuesHeld } from './cases.js';
@@ -59,8 +59,8 @@ function requestTable(rows, act, caption, empty, pages = new Map()) {
   return table({ caption, columns, rows, act, empty, states: STATES, quiet: true });
 }
 
-/** A request in all its parts. */
-export function requestDetails(row, pages = new Map()) {
+// A request in all its parts.
+function requestDetails(row, pages = new Map()) {
   const result = outcome(row, entryOf(row, pages)), told = {
     pending: 'Waiting: nothing is decided yet.', approved: `Approved. ${result}.`, declined: `Declined. ${result}`, withdrawn: 'Withdrawn by the applicant.',
   };
@@ -207,8 +207,7 @@ class Draft {
   refresh() {
     const values = this.read();
     if (this.isOfMine()) this.page = this.pages.get(values.registry) ?? null;
-    const isAsked = this.kind === 'code' || this.kind === 'early';
-    this.allow(this.parts.top.length > 0 && (!isAsked || !this.page || this.parts.wishes.length > 0));
+    this.allow(this.parts.top.length > 0 && (!isNew(this.kind) || !this.page || this.parts.wishes.length > 0));
     const entry = this.page?.entries.find(({ value }) => value === Number(values.value));
     this.values.renewed = values.renewed = Boolean(this.isOfMine() && entry?.renewed);
     const policy = policyOf(this.kind, values, this.page), { needed, optional } = evidenceFor(this.kind, policy, values.renewed);

@@ -1,14 +1,11 @@
 // What an approval would do, what stands in its way, who else wants the same, and what approvals gave. Nothing here needs a page.
-import { POLICIES, leastFree, policyOf } from './forms.js';
+import { POLICIES, isNew, leastFree, policyOf, valuesOf } from './forms.js';
 
-const isNew = ({ kind }) => kind === 'code' || kind === 'early';
 /** Whether two rows are of one request. */
 export const isSame = (one, other) => one.account === other.account && one.reference === other.reference;
 
 /** The policy under which an ask falls, if the page of its registry is known. */
-export function policyFor(ask, page) {
-  return policyOf(ask.kind, { ...ask, wish: ask.least ? 'least' : 'value', value: String(ask.value ?? '') }, page);
-}
+export const policyFor = (ask, page) => policyOf(ask.kind, valuesOf(ask), page);
 
 /** The value or block that an approval would give now; undefined if none is free. `page` is that of the registry, or has `prefixes` and `blocks`. */
 export const valueDue = (ask, page) => (ask.kind === 'block' ? blockDue(ask.size, page) : ask.least ? leastFree(page, ask.least) : ask.value);
@@ -41,7 +38,7 @@ export function lossOf({ ask }, page) {
   const value = valueDue(ask, page), entry = page.entries?.find(one => one.value === value), decline = 'Decline this request.';
   if (value === undefined && ask.kind === 'block') return `No block of size ${ask.size} is free. Add a prefix, or decline this request.`;
   if (value === undefined) return `No value is free under ${POLICIES[ask.least]?.title ?? ask.least}. ${decline}`;
-  if (isNew(ask)) return entry && `Value ${value} was assigned to ${entry.assignee} meanwhile. ${decline}`;
+  if (isNew(ask.kind)) return entry && `Value ${value} was assigned to ${entry.assignee} meanwhile. ${decline}`;
   if (entry && !entry.expires) return `Value ${value} was made permanent meanwhile. ${decline}`;
   const wasRenewed = ask.kind === 'renew' && entry?.renewed && !ask.iesg;
   return wasRenewed ? `Value ${value} was renewed before, and this request cites no IESG minutes. ${decline}` : undefined;
@@ -59,11 +56,11 @@ export function adviceLacking({ ask, experts, advice }, page) {
 }
 
 // The new value that a request names, if it names one.
-const named = ({ ask }) => (isNew(ask) && !ask.least ? `${ask.registry} ${ask.value}` : undefined);
+const named = ({ ask }) => (isNew(ask.kind) && !ask.least ? `${ask.registry} ${ask.value}` : undefined);
 
 /** The waiting requests, in order of arrival, that want just the value that this one would get, with this one; none if nobody else wants it. */
 export function rivalsOf(row, page, rows) {
-  const value = isNew(row.ask) ? valueDue(row.ask, page) : undefined;
+  const value = isNew(row.ask.kind) ? valueDue(row.ask, page) : undefined;
   const all = rows.filter(one => isSame(one, row) || (named(one) === `${row.ask.registry} ${value}` && one.state === 'pending'));
   return value !== undefined && all.length > 1 ? all : [];
 }

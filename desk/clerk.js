@@ -40,7 +40,8 @@ async function openCase(app, asked, seen, { message, before } = {}) {
     const onward = next ? button('Next waiting request', () => go(next), { class: isOpen ? 'plain' : undefined }) : null;
     const ways = isOpen ? decision({ row, ...await groundOf(row), listed, next, onward, go }) : null;
     const timeline = table({ caption: 'Time line', columns: ACT, rows, empty: 'Nothing is noted about it. It is older than the journal of acts.' });
-    return element('div', {}, before, !isOpen && next ? element('p', { class: 'actions' }, onward) : null, details(told), experts(row), ways, timeline);
+    return element('div', {}, before, !isOpen && next ? element('p', { class: 'actions' }, onward) : null, details(told),
+      before ? null : noteCard(row), experts(row), ways, timeline);
   }, message);
 }
 
@@ -97,8 +98,9 @@ function others(row, rivals, go) {
 }
 
 function noteCard(row) {
-  const line = noteLine(row), about = 'Add this line to notes.csv, in place of any other line about this value. The site then shows the reference.';
-  const title = element('h3', {}, `Line for notes.csv, from ${row.reference} of ${row.account}`);
+  const line = noteLine(row), title = element('h3', {}, `Line for notes.csv, from ${row.reference} of ${row.account}`);
+  const about = 'Add this line to notes.csv. The site then shows the reference. If the file has a line about this value already, change its reference,'
+    + ' unless that is from a later request.';
   return line && element('section', { class: 'card' }, title, element('p', {}, about), copyable(line, 'line'));
 }
 

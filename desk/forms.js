@@ -109,6 +109,8 @@ export function faultOf(name, text, needed = true) {
 export const rangeOf = (page, value) => page.ranges.find(({ lo, hi }) => lo <= value && value <= hi);
 /** Whether a kind of request can be made under a policy. */
 export const isOpen = (kind, policy) => (kind === 'early' || kind === 'renew' ? EARLY.includes(policy) : Boolean(POLICIES[policy]?.items));
+/** Whether a kind of request asks for a value that nobody has. */
+export const isNew = kind => kind === 'code' || kind === 'early';
 
 /** How many values under a policy have no entry. */
 export function freeUnder(page, policy) {
@@ -181,8 +183,8 @@ function valueFault(kind, values, page) {
   if (value > page.max) return `The largest value of this registry is ${page.max}.`;
   const { treatment, lo, hi } = rangeOf(page, value);
   if (!isOpen(kind, treatment)) return whyClosed(kind, treatment, `${lo} to ${hi}`);
-  const isNew = kind === 'code' || kind === 'early', entry = page.entries.find(one => one.value === value);
-  return isNew && entry ? `Value ${value} is taken: ${entry.label}. Choose another, or ask for the lowest free one.` : null;
+  const entry = isNew(kind) && page.entries.find(one => one.value === value);
+  return entry ? `Value ${value} is taken: ${entry.label}. Choose another, or ask for the lowest free one.` : null;
 }
 
 function whyClosed(kind, treatment, values) {
@@ -195,7 +197,7 @@ function whyClosed(kind, treatment, values) {
 export function noteOn(kind, values, page) {
   const policy = policyOf(kind, values, page);
   if (!page || !policy) return '';
-  const isLeast = values.wish === 'least' && (kind === 'code' || kind === 'early');
+  const isLeast = values.wish === 'least' && isNew(kind);
   const fault = isLeast ? null : valueFault(kind, values, page);
   if (fault) return fault;
   const { title, section, says } = POLICIES[policy], free = isLeast ? ` ${freeInWords(page, policy)}` : '';
@@ -212,7 +214,7 @@ function freeInWords(page, policy) {
 /** Under which policy a request falls, as far as its values say so. */
 export function policyOf(kind, values, page) {
   if (kind === 'block' || !page) return undefined;
-  if (values.wish === 'least' && (kind === 'code' || kind === 'early')) return values.least;
+  if (values.wish === 'least' && isNew(kind)) return values.least;
   return faultOf('value', values.value ?? '') ? undefined : rangeOf(page, Number(values.value))?.treatment;
 }
 

@@ -44,8 +44,8 @@ export function table({ caption, columns: texts, rows, act, acts = 'Actions', em
   return element('div', {}, quiet ? null : element('h3', {}, caption), isAsked ? tools(caption, columns, states, at, draw) : null, info, frame, pages);
 }
 
-// The lines that are searched for, in the order that is chosen.
-function found(lines, { text, state, order }) {
+/** The lines that are searched for, in the order that is chosen. */
+export function found(lines, { text, state, order }) {
   const wanted = text.toLowerCase(), [way, place] = order.split(' ');
   const isSeen = line => (line.seen ??= line.texts.join('\n').toLowerCase()).includes(wanted);
   const all = lines.filter(line => (!state || line.row.state === state) && (!wanted || isSeen(line)));

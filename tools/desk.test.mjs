@@ -12,7 +12,7 @@ after(() => rmSync(folder, { recursive: true }));
 cpSync(new URL('../desk', import.meta.url), folder, { recursive: true });
 writeFileSync(`${folder}/package.json`, '{"type":"module"}');
 const load = name => import(`file://${folder}/${name}`);
-const forms = await load('forms.js'), errors = await load('errors.js'), cases = await load('cases.js'), times = await load('times.js');
+const forms = await load('forms.js'), errors = await load('errors.js'), cases = await load('cases.js'), times = await load('times.js'), list = await load('list.js');
 const page = read('desk/errors.html');
 errors.readErrors(page);
 
@@ -169,6 +169,16 @@ test('requests with their times, the newest first, and the reference of the next
   const next = (...taken) => times.newReference('2026-11-30', taken.map(reference => ({ reference })));
   assert.deepEqual([next(), next('2026-11-30-1', '2026-11-30-3', '2026-11-29-2'), next('2026-11-30-2')], ['2026-11-30-1', '2026-11-30-2', '2026-11-30-1']);
   assert.equal(forms.faultOf('reference', next()), null);
+});
+
+test('lists are ordered by date or number, and searched in what is seen', () => {
+  const days = [['r-10', 1799884800], ['r-9', 1798761600], ['r-1', undefined], ['r-2', 1799971200]];
+  const state = name => (name === 'r-9' ? 'declined' : 'pending');
+  const lines = () => days.map(([name, submitted]) => ({ texts: [name, times.waitOf({ submitted }, 1799971200)], row: { state: state(name) } }));
+  const found = (order, more = {}) => list.found(lines(), { text: '', state: '', order, ...more }).map(({ texts }) => texts[0]).join(' ');
+  assert.deepEqual(['', 'up 1', 'down 1', 'up 0'].map(order => found(order)), ['r-10 r-9 r-1 r-2', 'r-1 r-9 r-10 r-2', 'r-2 r-10 r-9 r-1', 'r-1 r-2 r-9 r-10']);
+  assert.deepEqual(['WAITS 1 day', 'pending', '2027-01-1'].map(text => found('up 0', { text })), ['r-10', '', 'r-2 r-10']);
+  assert.equal(found('', { state: 'declined' }), 'r-9');
 });
 
 test('acts of the transcripts are told in words, each kind', () => {
@@ -364,6 +374,11 @@ test('asks of the transcripts are told in words, and in rows', () => {
     assert.doesNotMatch(forms.inWords(ask) + JSON.stringify(forms.rowsOf(ask)), /undefined|\[object/);
     assert.ok(forms.rowsOf(ask).length > 3);
   }
+  assert.equal(forms.inWords({ kind: 'renew', registry: 'frame-flags', value: 157 }), 'Renewal: value 157 of frame-flags');
+  assert.equal(forms.inWords({ kind: 'permanent', registry: 'frame-flags', value: 157 }), 'Make permanent: value 157 of frame-flags');
+  const least = { least: 'first-come-first-served', registry: 'service-ports' };
+  assert.equal(forms.inWords({ kind: 'code', ...least, label: 'L' }), 'Lowest free value of service-ports (First Come First Served), "L"');
+  assert.equal(forms.inWords({ kind: 'early', ...least }), 'Early allocation: lowest free value of service-ports (First Come First Served)');
   assert.equal(forms.outcome({ ask: { kind: 'renew' }, state: 'approved', given: '7' }), 'Value 7, for one year');
   assert.equal(forms.outcome({ ask: { kind: 'code' }, state: 'declined', reason: 'duplicate' }), 'Reason: duplicate');
 });

@@ -36,9 +36,14 @@ def a_day(office, people, folder):
 
 def defined(clerk, folder):
     clerk.go('Registries')
+    words = clerk.script('return [...document.querySelectorAll("main details dt")].map(one => one.textContent)')
+    judge(len(words) == 11 and {'expert-review', 'reserved'} < {*words}, f'the words for a treatment are {words}')
     (folder / 'codes.csv').write_text(RANGES)
+    (folder / 'wrong.csv').write_text(RANGES.replace('expert-review', 'Expert Review'))
+    clerk.control('Range file (CSV)').send_keys(str(folder / 'wrong.csv'))
+    clerk.sees('Row 2: "Expert Review" is not one of the words.')
     clerk.control('Range file (CSV)').send_keys(str(folder / 'codes.csv'))
-    clerk.sees('Ranges in this file')
+    clerk.until(lambda: 'is not one of the words' not in clerk.text() and clerk.rows('Ranges in this file'), 'the ranges of the file')
     shown = clerk.rows('Ranges in this file')
     judge(shown[1] == ['100', '199', 'Expert Review', ''] and len(shown) == 4, f'the preview is {shown}')
     judge(clerk.control('Largest value').get_attribute('value') == '255', 'the largest value is not taken from the file')

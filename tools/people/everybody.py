@@ -1,4 +1,5 @@
 """What must hold for everybody: how pages look, the reader's own colours, the keyboard, narrow screens, sessions."""
+from people.clerks import RED
 from people.office import CLERK
 from people.person import judge, narrow
 from people.tasks import asks, token_of, within
@@ -11,7 +12,8 @@ ROLES = '''const roles = { TABLE: 'table', THEAD: 'rowgroup', TBODY: 'rowgroup',
         .filter(one => one.getAttribute('role') !== (roles[one.tagName] ?? (one.scope === 'col' ? 'columnheader' : 'rowheader'))).map(one => one.outerHTML.slice(0, 80))'''
 MARKS = '''const shows = (node, part) => { const style = getComputedStyle(node, part); return [style.backgroundColor, style.borderBottomColor, style.appearance] };
     const tab = is => document.querySelector(is ? 'nav a[aria-current]' : 'nav a:not([aria-current])');
-    return { paper: getComputedStyle(document.body).backgroundColor, mark: shows(document.querySelector('.badge.approved'), '::before')[0],
+    const marks = ['pending', 'approved', 'declined', 'withdrawn'].map(state => document.querySelector(`.badge.${state}`)).map(one => shows(one, '::before')[0]);
+    return { paper: getComputedStyle(document.body).backgroundColor, marks,
         tabs: [true, false].map(is => shows(tab(is))[1]) }'''
 
 
@@ -21,7 +23,7 @@ EDGES = '''const first = node => { const range = document.createRange(); range.s
     const [row] = document.querySelector('tbody').rows;
     return { sides: ['footer a', 'main h2'].map(css => document.querySelector(css).getBoundingClientRect().left), tops: [row.cells[0], row.querySelector('button')].map(node => first(node).top),
         rule: ['footer', 'main table'].map(css => document.querySelector(css).getBoundingClientRect().width) }'''
-GREEN, RED = 'rgb(11, 107, 58)', 'rgb(179, 38, 30)'
+GREEN = 'rgb(11, 107, 58)'
 
 
 def emulated(person, **features):
@@ -34,7 +36,7 @@ def forced_colours(person):
     emulated(person, forced_colors='active')
     judge(person.script('return matchMedia("(forced-colors: active)").matches'), 'the colours are not forced')
     shown = person.script(MARKS)
-    judge(shown['mark'] != shown['paper'], f'the marks of states vanish: {shown}')
+    judge(shown['paper'] not in shown['marks'], f'the marks of states vanish: {shown}')
     judge(shown['tabs'][0] != shown['paper'] == shown['tabs'][1], f'the open section is not told apart: {shown}')
     person.go('My blocks')
     looks = person.script('return [...document.querySelectorAll("input[role=switch]")].map(one => getComputedStyle(one).appearance)')

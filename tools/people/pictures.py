@@ -70,6 +70,11 @@ def pictures_of_clerk(office, clerk, folder):
     clerk.click('Approve')
     pictures(clerk, folder, 'clerk-question')
     clerk.click('Cancel')
+    clerk.go('All requests')
+    row = next(one for one in office.ask('GET', '/desk/requests', CLERK) if one['state'] == 'approved' and one['ask']['kind'] == 'early')
+    clerk.click(f'Open {row["reference"]} of {row["account"]}')
+    clerk.sees('Line for notes.csv')
+    pictures(clerk, folder, 'clerk-approved')
 
 
 # ---- README's

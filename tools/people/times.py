@@ -1,13 +1,16 @@
 """Whether the page tells when things were done, by whom, and whose token it is."""
 import time
 
+from people.applicants import begun
 from people.compared import day_of, newest_first
 from people.office import CLERK
 from people.person import judge
-from people.tasks import asks, begun, token_of, within
+from people.tasks import asks, token_of, within
 
 # As many rows as a list shows at a time.
 SHOWN = 100
+HIGHEST = '''const height = node => { const range = document.createRange(); range.selectNodeContents(node); return range.getBoundingClientRect().height };
+    return Math.max(...[...document.querySelectorAll('tbody th')].map(height))'''
 
 
 def headed(office, person, token):
@@ -42,6 +45,8 @@ def clerks_times(office, clerk):
     with within(clerk, 1, 'what was done today'):
         clerk.go('Acts')
         same_acts(office, clerk, f'Acts on {today}', f'days/{today}')
+    highest = clerk.script(HIGHEST)
+    judge(highest < 30, f'the text of a moment is {highest} pixels high, so it has more than one line')
     judge(clerk.named('button', 'Next day').get_attribute('aria-disabled') == 'true', 'there is a day after today')
     clerk.click('Next day')
     clerk.click('Previous day')

@@ -176,6 +176,14 @@ def ends(office, alice):
     alice.status('You were signed out after an hour without use.')
 
 
+def stores_nothing(person, token):
+    """No storage of the browser has anything, and neither the document nor an input has the token."""
+    kept = person.driver.execute_async_script('''const done = arguments[0]; (async () => JSON.stringify([{ ...localStorage }, { ...sessionStorage }, document.cookie,
+        await indexedDB.databases(), await caches.keys(), document.documentElement.outerHTML, [...document.querySelectorAll('input')].map(one => one.value)]))().then(done, done)''')
+    judge(kept.startswith('[{},{},"",[],[],'), f'there is something in a storage: {kept[:200]}')
+    judge(token not in kept, 'the document has the token')
+
+
 def secrets(office, alice, log):
     """After signing out nothing of a token is left."""
     token = 'gil-secret-token-00001'
@@ -184,7 +192,8 @@ def secrets(office, alice, log):
     alice.sees('You have no requests yet.')
     heap = devtools(alice, 'HeapProfiler.takeHeapSnapshot', reportProgress=False)
     judge(token in heap, 'a snapshot of the heap does not show the token while it is used, so its absence later says nothing')
-    judge(token not in alice.script('return document.documentElement.outerHTML + location.href'), 'the document has the token')
+    stores_nothing(alice, token)
+    judge(token not in alice.script('return location.href'), 'the address has the token')
     alice.go('New request')
     office.ask('PUT', '/requests/told-to-nobody', token, {'contact': 'C', 'kind': 'code', 'label': 'Secret', 'least': 'first-come-first-served', 'registry': 'codes'})
     alice.go('My requests')
@@ -199,10 +208,7 @@ def secrets(office, alice, log):
     judge(not places, f'a snapshot of the heap has the token {len(places)} times: {[heap[max(0, at - 60):at + 60] for at in places[:3]]}')
     history = json.dumps(alice.driver.execute_cdp_cmd('Page.getNavigationHistory', {}))
     judge(token not in history and 'token=' not in history, f'the history is {history}')
-    kept = alice.driver.execute_async_script('''const done = arguments[0]; (async () => JSON.stringify([{ ...localStorage }, { ...sessionStorage }, document.cookie,
-        await indexedDB.databases(), await caches.keys(), document.documentElement.outerHTML, [...document.querySelectorAll('input')].map(one => one.value)]))().then(done, done)''')
-    judge(kept.startswith('[{},{},"",[],[],'), f'there is something in a storage: {kept[:200]}')
-    judge(token not in kept, 'the document has the token')
+    stores_nothing(alice, token)
     profile = alice.profile
     alice.quiet('the applicant')
     alice.end()
