@@ -146,7 +146,7 @@ fn put<P: Targets, W: Write>(
         (P.Unopened places.now path.now folder.now) snapshot) }
 {
     let done = put_into(alloc, &mut snapshot, places, path, folder, output);
-    let_go(snapshot.look);
+    let_go(snapshot);
     done
 }
 
@@ -220,7 +220,12 @@ fn put_look<S: Alter, D: Disk, W: Write>(
     copy_in(alloc, &mut look.keeper, version, disk, names, bytes, output)
 }
 
-/// Lets a copy go, over any store too.
-pub(crate) fn let_go<S: Alter + Drop>(look: Look<S>) {
+/// Lets a copy go.
+pub(crate) fn let_go(snapshot: Snapshot) {
+    let_look_go(snapshot.look);
+}
+
+// Lets go of what was seen in it, over any store too.
+fn let_look_go<S: Alter + Drop>(look: Look<S>) {
     drop(look);
 }

@@ -45,7 +45,7 @@ fn tell<W: Write>(
         (W.contents output.old) (W.contents output.new) result }
 {
     let told = tell_seen(alloc, &mut snapshot.look, noted, output);
-    let_go(snapshot.look);
+    let_go(snapshot);
     told
 }
 

@@ -22,11 +22,11 @@ use crate::sites::{SitePlace, site_at};
 use reg_http::dates::Dates;
 use reg_program::console::Console;
 use reg_program::faults::{JobFailure, Undone};
+use reg_program::opened::{check_with, do_with};
 use reg_program::publishing::Directories;
-use reg_program::stores::{LookedAt, OfficesIn, Stores};
 use reg_program::tasks::{Offices, Task};
 use reg_sql::keeper::SqlKeeper;
-use reg_sql::look::look_at;
+use reg_sql::look::{Look, look_at};
 use reg_sql::open::{OpenFault, Opened as Left, open_by};
 use reg_sql::opener::SystemFiles;
 use reg_sql::trouble::Trouble;
@@ -44,7 +44,7 @@ impl Offices for Files {
 
     ghost Checked = { λ _ _ _ _ _. Unit {0} };
 
-    fn carry_out<D: Dates, R: Read, W: Write, E: Write>(
+    fn open_and_do<D: Dates, R: Read, W: Write, E: Write>(
         &mut self,
         rt: &HostRuntime,
         dates: &mut D,
@@ -59,13 +59,7 @@ impl Offices for Files {
         // Where it cannot be made, opening it says why.
         let _ = make_private(rt, path);
         match opened(rt, Unknown, path, task.begins()) {
-            Ok(keeper) => {
-                let office = OneOffice {
-                    keeper: Some(keeper),
-                    version: 0,
-                };
-                do_in(rt, office, site, dates, path, Wish::Done(task), console)
-            }
+            Ok(keeper) => do_and_close(rt, keeper, site, dates, path, task, console),
             Err(undone) => Err(undone),
         }
     }
@@ -78,90 +72,44 @@ impl Offices for Files {
         console: &mut Console<'_, R, W, E>,
     ) -> Result<(), Undone> {
         match look_at(rt, path) {
-            Ok(look) => {
-                let office = OneOffice {
-                    keeper: Some(look.keeper),
-                    version: look.version.number(),
-                };
-                do_in(rt, office, None, dates, path, Wish::Checked, console)
-            }
+            Ok(look) => check_and_close(rt, look, dates, console),
             Err(trouble) => Err(explained(rt.alloc(), trouble)?),
         }
     }
 }
 
-// What is to be done with the office that was found at a path.
-enum Wish<'a> {
-    // A task is to be carried out.
-    Done(&'a Task<'a>),
-    // It is to be said how well it is kept.
-    Checked,
-}
-
-// Does what is wished with the office that was found at a path. It is over any store, since what is
-// over a known one unfolds all that it holds.
-fn do_in<S: Alter + Drop, D: Dates, R: Read, W: Write, E: Write>(
+// Does a task with the office that was opened at a path, on the ports and in the folders of the system, and
+// closes it. It is over any store, since what is over a known one unfolds all that it holds.
+fn do_and_close<S: Alter + Drop, D: Dates, R: Read, W: Write, E: Write>(
     rt: &HostRuntime,
-    office: OneOffice<S>,
+    keeper: SqlKeeper<S>,
     site: Option<SitePlace>,
     dates: &mut D,
     path: &str,
-    wish: Wish<'_>,
+    task: &Task<'_>,
     console: &mut Console<'_, R, W, E>,
 ) -> Result<(), Undone> {
-    let mut offices = offices_in(rt, office, site);
-    match wish {
-        Wish::Done(task) => offices.carry_out(rt, dates, path, task, console),
-        Wish::Checked => offices.check(rt, dates, path, console),
+    if task.serves() {
+        warn_of_readers(rt.alloc(), rt, path, console.errors);
     }
+    let ports = SitePorts { rt, site };
+    let folders = Directories { rt };
+    let (keeper, done) = do_with(rt, &ports, &folders, dates, keeper, task, console);
+    drop(keeper);
+    done
 }
 
-// The offices in what was opened, on the ports and in the folders of the system.
-fn offices_in<S: Alter + Drop>(
+// Says how well an office is kept that was looked at, over any store too.
+fn check_and_close<S: Alter + Drop, D: Dates, R: Read, W: Write, E: Write>(
     rt: &HostRuntime,
-    stores: OneOffice<S>,
-    site: Option<SitePlace>,
-) -> OfficesIn<OneOffice<S>, SitePorts<'_>, Directories<'_>> {
-    OfficesIn {
-        stores,
-        ports: SitePorts { rt, site },
-        folders: Directories { rt },
-    }
-}
-
-// The one office that was opened, and the version that its file says.
-#[derive(Drop)]
-struct OneOffice<S: Alter> {
-    keeper: Option<SqlKeeper<S>>,
-    version: i64,
-}
-
-impl<S: Alter + Drop> Stores for OneOffice<S> {
-    type Kept = SqlKeeper<S>;
-
-    type Copied = SqlKeeper<S>;
-
-    fn open(&mut self, rt: &HostRuntime, path: &str, begins: bool) -> Result<SqlKeeper<S>, Undone> {
-        self.keeper.take().ok_or(Undone::Fault(JobFailure::NotOurs))
-    }
-
-    fn warn_of_readers<E: Write>(&self, rt: &HostRuntime, path: &str, errors: &mut E) {
-        warn_of_readers(rt.alloc(), rt, path, errors);
-    }
-
-    fn close(&mut self, keeper: SqlKeeper<S>) {
-        drop(keeper);
-    }
-
-    fn look(&mut self, rt: &HostRuntime, path: &str) -> Result<LookedAt<SqlKeeper<S>>, Undone> {
-        match self.keeper.take() {
-            Some(keeper) => Ok(LookedAt {
-                version: self.version,
-                keeper,
-            }),
-            None => Err(Undone::Fault(JobFailure::NotOurs)),
-        }
-    }
+    look: Look<S>,
+    dates: &mut D,
+    console: &mut Console<'_, R, W, E>,
+) -> Result<(), Undone> {
+    let version = look.version.number();
+    let (keeper, done) = check_with(rt, dates, look.keeper, version, console);
+    drop(keeper);
+    done
 }
 
 // The office in the files at a path, whatever is known of them.

@@ -1,8 +1,8 @@
 -- Tasks that a job had carried out.
-use Rattle.std.proofs.Common.{◌≡◌, List, ℕ, Option, Result, Ok, Err, subst, inl, inr}
+use Rattle.std.proofs.Common.{List, ℕ, Result, Ok, Err, inl, inr}
 use Rattle.std.specs.Prelude.{⊤}
 use Rattle.reg_jobs.specs.Asking.{IsAddress}
-use Rattle.reg_program.specs.Performing.{Carries, CarriesThen, TellsFrom, Tries, after_reading}
+use Rattle.reg_program.specs.Performing.{Carries, TellsFrom, Tries}
 use Rattle.reg_program.specs.Tasks.{Streams}
 use Rattle.reg_program.specs.declared.faults.Undone.{Undone}
 use Rattle.reg_program.specs.declared.tasks.Task.{Task}
@@ -36,21 +36,3 @@ module _ (Carried : List ℕ → Task → Streams → Result ⊤ Undone → Type
       → Tries Untouched (Carries Carried file Is io) result
   carries file Is io task result carried is =
       tried Untouched (Carries Carried file Is io) result (task, is, carried)
-
-  -- the same, at the file that a job names
-  pub carries_at : (at file : List ℕ) (Is : Task → Type 0) (io : Streams) (task : Task)
-      (result : Result ⊤ Undone) → at ≡ file → Carried at task io result → Is task
-      → Tries Untouched (Carries Carried file Is io) result
-  carries_at at file Is io task result same carried is =
-      let P : List ℕ → Type 0 = λ name. Carried name task io result in
-      carries file Is io task result (subst P same carried) is
-
-  -- the same, once what is on standard input was read
-  pub carries_then : (at file : List ℕ) (Is : Task → Type 0) (io : Streams)
-      (unread : Option (List ℕ)) (task : Task) (result : Result ⊤ Undone) → at ≡ file
-      → Carried at task (after_reading unread io) result → Is task
-      → Tries Untouched (CarriesThen Carried file Is io) result
-  carries_then at file Is io unread task result same carried is =
-      let P : List ℕ → Type 0 = λ name. Carried name task (after_reading unread io) result in
-      tried Untouched (CarriesThen Carried file Is io) result
-      (unread, (task, is, subst P same carried))

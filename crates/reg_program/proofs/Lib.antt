@@ -2,12 +2,12 @@ pub mod Acts
 mod Asked
 pub mod Carried
 pub mod Checked
-pub mod Closed
 pub mod Did
 pub mod Founded
 pub mod Gotten
 pub mod InMemory
 pub mod Listed
+pub mod Questions
 pub mod Results
 pub mod Revoked
 pub mod Taken

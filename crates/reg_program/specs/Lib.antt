@@ -1,6 +1,5 @@
 pub mod Asking
 pub mod Capabilities
-pub mod Carrying
 pub mod Checking
 pub mod Copying
 pub mod Doing
@@ -13,6 +12,7 @@ pub mod Looking
 pub mod Performing
 pub mod Printing
 pub mod Publishing
+pub mod Requests
 pub mod Revoking
 pub mod Served
 pub mod Serving

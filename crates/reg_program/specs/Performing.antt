@@ -36,6 +36,8 @@ use Rattle.reg_program.specs.declared.asking.AnswerForm.{AnswerForm}
 use Rattle.reg_program.specs.declared.asking.AnswerForm.TheVariants.{Body, Line}
 use Rattle.reg_program.specs.declared.faults.Undone.{Undone}
 use Rattle.reg_program.specs.declared.listening.Serving.{Serving}
+use Rattle.reg_program.specs.declared.requests.JobQuestion.{JobQuestion}
+use Rattle.reg_program.specs.declared.requests.JobQuestion.TheVariants as asks
 use Rattle.reg_program.specs.declared.tasks.Task.{Task}
 use Rattle.reg_program.specs.declared.tasks.Task.TheVariants.{Found, Run, Serve, Ask, Tokens, Revoke, Publish, Due}
 
@@ -182,6 +184,15 @@ abbrev pub AnswersListing : List ℕ → Option (List ℕ) → ToldOfTasks → T
     → Result ⊤ Undone → Type 0
 AnswersListing source registry Carried Untouched io done =
     AnswersFrom Untouched source Body io (Carries Carried source (IsListedBy registry) io) done
+
+-- what a job asks is answered
+abbrev pub AnswersQuestion : JobQuestion → ToldOfTasks → Type 0 → Streams → Result ⊤ Undone → Type 0
+AnswersQuestion (asks.Request order) Carried Untouched io done =
+    AnswersRequest order.now Carried Untouched io done
+AnswersQuestion (asks.Definition order) Carried Untouched io done =
+    AnswersDefinition order.now Carried Untouched io done
+AnswersQuestion (asks.Listing source registry) Carried Untouched io done =
+    AnswersListing source.now (option_map string_bytes registry.now) Carried Untouched io done
 
 -- the office in a file is published in a folder; of one that is served nothing is said here
 abbrev pub PublishesFrom : Publication → ToldOfTasks → Type 0 → Streams → Result ⊤ Undone → Type 0

@@ -2,102 +2,23 @@
 //!
 //! Each is a command at the moment of the clock, as a request asks it, and what is printed of its
 //! answer.
-ghost use Rattle.std.specs.Prelude.{◌≡◌, ◌++◌, [], codes, option_map, IfOk, IfErr, OnOk, false, true};
+ghost use Rattle.std.specs.Prelude.{◌≡◌, ◌++◌, IfOk, IfErr, OnOk, false, true};
 ghost use Rattle.std.specs.Io.KnownBytes.{Appends, Keeps};
-ghost use Rattle.std.specs.String.{string_bytes};
 ghost use Rattle.reg_core.specs.Laws.{is_refused as refuses};
-ghost use Rattle.reg_parse.specs.Command.{asked};
 ghost use Rattle.reg_print.specs.declared.answer.Answer.TheVariants as answer;
-ghost use Rattle.reg_program.specs.Asking.{PrintsStep, Spells, after_body, definition_at, in_form, listing_at, printed, step_of};
+ghost use Rattle.reg_program.specs.Asking.{PrintsStep, after_body, in_form, printed, step_of};
 ghost use Rattle.reg_program.specs.Looking.{only_looks};
 ghost use Rattle.reg_program.specs.Undone.{IsRefusedBy, answer_line as line_of, line_by, refusal_line as text_of_refusal};
 
 use crate::faults::{JobFailure, Undone};
-use http::Method;
 use reg_core::command::Command;
 use reg_core::refusal::Refusal;
 use reg_core::reply::Reply;
-use reg_core::wire_refusal::ReadFault;
-use reg_jobs::jobs::{Definition, OfficeRequest};
 use reg_keeper::keeper::Keeper;
 use reg_office::Office;
-use reg_parse::command::read_command;
-use reg_parse::route::Routes;
 use reg_print::answer::{Answer, Format, body_of};
 use std::alloc::{AllocError, Global};
 use std::io::Write;
-
-/// The command that defines a registry from the bytes of a range file. `Refused` where they spell
-/// none.
-pub fn definition(alloc: Global, order: &Definition, ranges: &[u8]) -> Result<Command, Undone>
-    ensures { let path = definition_at (string_bytes order.now.name) (string_bytes order.now.max) in
-        Spells (asked (codes "PUT") path ranges.now) result }
-{
-    let path = definition_path(alloc, order)?;
-    command(
-        alloc,
-        Method::PUT.as_str().as_bytes(),
-        path.as_bytes(),
-        ranges,
-    )
-}
-
-/// The path at which a registry is defined.
-pub fn definition_path(alloc: Global, order: &Definition) -> Result<String, AllocError>
-    ensures { IfOk result (λ path. string_bytes path
-        ≡ definition_at (string_bytes order.now.name) (string_bytes order.now.max)) }
-{
-    let name = order.name.as_str();
-    let max = order.max.as_str();
-    format!(in alloc; "/desk/registries/{name}/{max}")
-}
-
-/// The command that lists a registry or, without one, the blocks. `Refused` where the name is none.
-pub fn listing(alloc: Global, registry: &Option<String>) -> Result<Command, Undone>
-    ensures spelled { let path = listing_at (option_map string_bytes registry.now) in
-        Spells (asked (codes "GET") path []) result }
-    ensures looks { IfOk result (λ command. only_looks command ≡ true) }
-{
-    let path = listing_path(alloc, registry)?;
-    command(alloc, Method::GET.as_str().as_bytes(), path.as_bytes(), b"")
-}
-
-/// The path at which a registry is listed or, without one, the blocks.
-pub fn listing_path(alloc: Global, registry: &Option<String>) -> Result<String, AllocError>
-    ensures { IfOk result (λ path. string_bytes path
-        ≡ listing_at (option_map string_bytes registry.now)) }
-{
-    match registry {
-        Some(name) => format!(in alloc; "/listings/registries/{name}"),
-        None => String::from_str(alloc, "/listings/blocks"),
-    }
-}
-
-/// The command that a request spells with this body. `Refused` where it spells none.
-pub fn requested(alloc: Global, request: &OfficeRequest, body: &[u8]) -> Result<Command, Undone>
-    ensures spelled { Spells
-        (asked (string_bytes request.now.method) (string_bytes request.now.path) body.now) result }
-    ensures looks { string_bytes request.now.method ≡ codes "GET" →
-        IfOk result (λ command. only_looks command ≡ true) }
-{
-    let method = request.method.as_bytes();
-    command(alloc, method, request.path.as_bytes(), body)
-}
-
-fn command(alloc: Global, method: &[u8], path: &[u8], body: &[u8]) -> Result<Command, Undone>
-    ensures spelled { Spells (asked method.now path.now body.now) result }
-    ensures looks { method.now ≡ codes "GET" →
-        IfOk result (λ command. only_looks command ≡ true) }
-{
-    let routes = Routes::new(alloc)?;
-    match read_command(alloc, &routes, method, path, body) {
-        Ok(command) => Ok(command),
-        Err(ReadFault::Refused(refusal)) => {
-            Err(Undone::Refused(answer_line(alloc, &Answer::Wire(refusal))?))
-        }
-        Err(ReadFault::Memory) => Err(Undone::Fault(JobFailure::Memory)),
-    }
-}
 
 /// What is printed of the answer to a command that was accepted. A line feed comes after JSON.
 #[derive(Clone, Copy, Debug, PartialEq, Eq)]

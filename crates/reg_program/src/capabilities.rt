@@ -16,7 +16,8 @@ use crate::console::Console;
 use crate::faults::{JobFailure, Undone};
 use crate::inputs::optional_token;
 use crate::publishing::port_of;
-use crate::served::{ServedRequest, answer_of, unaccepted};
+use crate::requests::JobRequest;
+use crate::served::{answer_of, unaccepted};
 use crate::tasks::{Offices, Task};
 use crate::tokens::{account_of, no_token, print_rows};
 use http::Method;
@@ -111,13 +112,8 @@ pub fn list_served<W: Write>(
 {
     let alloc = rt.alloc();
     let token = optional_token(rt, alloc, token)?;
-    let method = Method::GET;
-    let sent = ServedRequest {
-        method: method.as_str(),
-        path: "/desk/tokens",
-        body: b"",
-    };
-    let answer = answer_of(rt, port, sent, token.as_deref())?;
+    let path = String::from_str(alloc, "/desk/tokens")?;
+    let answer = answer_to(rt, port, token, &Method::GET, path)?;
     print_listed(alloc, answer.as_slice(), output)
 }
 
@@ -135,14 +131,26 @@ pub fn revoke_served<W: Write>(
     let alloc = rt.alloc();
     let token = optional_token(rt, alloc, token)?;
     let path = revocation_path(alloc, which)?;
-    let method = Method::DELETE;
-    let sent = ServedRequest {
-        method: method.as_str(),
-        path: path.as_str(),
-        body: b"",
-    };
-    let answer = answer_of(rt, port, sent, token.as_deref())?;
+    let answer = answer_to(rt, port, token, &Method::DELETE, path)?;
     print_revoked(alloc, answer.as_slice(), output)
+}
+
+// The bytes that the office that is served on a port of loopback answers to a request without a body.
+fn answer_to(
+    rt: &HostRuntime,
+    port: u16,
+    token: Option<Vec<u8>>,
+    method: &Method,
+    path: String,
+) -> Result<Vec<u8>, Undone> {
+    let alloc = rt.alloc();
+    let request = JobRequest {
+        token,
+        method: String::from_str(alloc, method.as_str())?,
+        path,
+        body: Vec::new(alloc),
+    };
+    answer_of(rt, port, &request)
 }
 
 /// The path at which these capabilities are taken away. `Refused` where they are said by no digits of a

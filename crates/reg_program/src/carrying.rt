@@ -1,4 +1,4 @@
-//! Carrying tasks out with the offices in files.
+//! Tasks of jobs, with the offices in files.
 ghost use Rattle.reg_program.specs.Tasks.{streams_by};
 
 use crate::console::Console;
@@ -20,5 +20,5 @@ pub fn carry_out<D: Dates, O: Offices, R: Read, W: Write, E: Write>(
         dates.new in
         O.Carried offices.old offices.new path.now task.entry io result }
 {
-    offices.carry_out(rt, dates, path, &task, console)
+    offices.open_and_do(rt, dates, path, &task, console)
 }

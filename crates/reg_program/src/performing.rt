@@ -2,10 +2,8 @@
 ghost use Rattle.std.specs.Prelude.{◌≡◌, ◌⊎◌, OnOk, is_some, option_map};
 ghost use Rattle.std.specs.String.{string_bytes};
 ghost use Rattle.reg_program.specs.Founding.{RunsAllOn};
-ghost use Rattle.reg_program.specs.Importing.{IsImported};
 ghost use Rattle.reg_program.specs.Performing.{Carries, EndsJob, IsFounding, IsPublishedTo, IsServedBy, PublishesFrom, RunsIn, TellsDue, TriesIn, TriesJob, TriesTask, refused_status};
 ghost use Rattle.reg_program.specs.Tasks.{streams_by};
-ghost use Rattle.reg_program.specs.Verifying.{IsVerifiedBy};
 
 use crate::asking::print;
 use crate::capabilities::{list_tokens, revoke};
@@ -19,13 +17,14 @@ use crate::inputs::token_of;
 use crate::listening::Serving;
 use crate::noting::notes_at;
 use crate::publishing::{port_of, publish_served};
-use crate::requesting::{define, list, request};
+use crate::requesting::ask;
+use crate::requests::JobQuestion;
 use crate::scripts::run_in;
 use crate::tasks::{Offices, Task};
 use crate::verifying::verify;
 use crate::version::print_version;
 use reg_http::dates::{Dates, moment_now};
-use reg_jobs::jobs::{Importation, Job, JobFault, Publication, Service};
+use reg_jobs::jobs::{Job, JobFault, Publication, Service};
 use reg_keeper::keeper::Keeper;
 use reg_office::Office;
 use reg_pages::notes::Notes;
@@ -108,14 +107,17 @@ fn attempt<D: Dates, O: Offices, C: Copies, R: Read, W: Write, E: Write>(
 {
     match job {
         Job::Script { clerk, file } => script(rt, dates, offices, clerk, file, console),
-        Job::Import(order) => import_now(rt, dates, order, console),
+        Job::Import(order) => import(rt, moment_now(dates), order, console.output),
         Job::Init { file, clerk } => init(rt, dates, offices, file, clerk, console),
         Job::Serve(order) => serve(rt, dates, offices, order, console),
-        Job::Request(order) => request(rt, dates, offices, order, console),
-        Job::Define(order) => define(rt, dates, offices, order, console),
-        Job::Listing { source, registry } => list(rt, dates, offices, source, registry, console),
+        Job::Request(order) => ask(rt, dates, offices, JobQuestion::Request(order), console),
+        Job::Define(order) => ask(rt, dates, offices, JobQuestion::Definition(order), console),
+        Job::Listing { source, registry } => {
+            let question = JobQuestion::Listing(source.as_str(), registry);
+            ask(rt, dates, offices, question, console)
+        }
         Job::Publish(order) => publish_at(rt, dates, offices, order, console),
-        Job::Verify { folder, digest } => verify_at(rt, folder, digest, console),
+        Job::Verify { folder, digest } => verify(rt, folder, digest, console.output),
         Job::Due { source, within } => due_at(rt, dates, offices, source, *within, console),
         Job::Check { file } => offices.check(rt, dates, file, console),
         Job::Copy { file, folder } => copies.copy(rt, file, folder, console.output),
@@ -172,21 +174,6 @@ fn run_over<K: Keeper + Drop, R: Read, W: Write, E: Write>(
 {
     let mut office = Office::new(rt.alloc(), keeper);
     run_in(rt, &mut office, clerk, console)
-}
-
-// Turns a register into a script on the day of the clock. No office is opened.
-fn import_now<D: Dates, R: Read, W: Write, E: Write>(
-    rt: &HostRuntime,
-    dates: &mut D,
-    order: &Importation,
-    console: &mut Console<'_, R, W, E>,
-) -> Result<(), Undone>
-    ensures { let io = streams_by R.remaining W.contents D.readings console.old console.new dates.old
-        dates.new in
-        IsImported order.now io result }
-{
-    let moment = moment_now(dates);
-    import(rt, moment, order, console.output)
 }
 
 fn init<D: Dates, O: Offices, R: Read, W: Write, E: Write>(
@@ -271,19 +258,6 @@ fn due_at<D: Dates, O: Offices, R: Read, W: Write, E: Write>(
         Some(port) => print_due_served(rt, port, moment_now(dates), days, console.output),
         None => carry_out(rt, dates, offices, source, Task::Due(days), console),
     }
-}
-
-// Verifies a published folder. No office is opened.
-fn verify_at<R: Read, W: Write, E: Write>(
-    rt: &HostRuntime,
-    folder: &str,
-    noted: &Option<String>,
-    console: &mut Console<'_, R, W, E>,
-) -> Result<(), Undone>
-    ensures { IsVerifiedBy (option_map string_bytes noted.now) (W.contents console.old.output.now)
-        (W.contents console.new.output.now) result }
-{
-    verify(rt, folder, noted, console.output)
 }
 
 // Publishes the office in a file with these notes.

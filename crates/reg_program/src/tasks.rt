@@ -72,11 +72,11 @@ pub trait Offices {
     /// What becomes of them by a look at the office in the file at a path, with this result.
     ghost Checked: { Self → Self → List ℕ → OfConsole → Result ⊤ OfJob → Type 0 };
 
-    /// Carries a task out with the office in the file at a path, which is begun, empty, where the
-    /// task begins it and there is no file, or one with nothing in it. `Busy` where another job has
-    /// the file open, `NotOurs` where there is no office, or one that is not well kept, and `Version`
-    /// where it is of another version; else as `Task::carry_out`.
-    fn carry_out<D: Dates, R: Read, W: Write, E: Write>(
+    /// Opens the office in the file at a path, does one task with it, and closes it. The office is begun,
+    /// empty, where the task begins it and there is no file, or one with nothing in it. `Busy` where another
+    /// job has the file open, `NotOurs` where there is no office, or one that is not well kept, and `Version`
+    /// where it is of another version; else as `Task::do_in`.
+    fn open_and_do<D: Dates, R: Read, W: Write, E: Write>(
         &mut self,
         rt: &HostRuntime,
         dates: &mut D,
@@ -128,7 +128,7 @@ impl Task<'_> {
 
     /// Does it with an office that is open, at the moment that these dates say, and serves it on one
     /// of these ports, or publishes it in one of these folders.
-    pub fn carry_out<N: Ports, F: Folders, D: Dates, K: Keeper, R: Read, W: Write, E: Write>(
+    pub fn do_in<N: Ports, F: Folders, D: Dates, K: Keeper, R: Read, W: Write, E: Write>(
         &self,
         rt: &HostRuntime,
         ports: &N,

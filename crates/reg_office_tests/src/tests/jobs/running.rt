@@ -1,8 +1,10 @@
 //! Offices over a keeper that are asked as jobs ask them.
+use reg_core::command::Command;
 use reg_keeper::keeper::Keeper;
 use reg_office::Office;
-use reg_program::asking::{AnswerForm, Question, ask_in, listing};
+use reg_program::asking::{AnswerForm, Question, ask_in};
 use reg_program::faults::Undone;
+use reg_program::requests::{command_of, listing};
 use reg_program::scripts::found_and_run;
 use std::alloc::Global;
 use std::io::{Read, Write};
@@ -20,12 +22,18 @@ pub fn list_in<K: Keeper>(
 ) -> Result<(), Undone> {
     let question = Question {
         token: None,
-        command: listing(alloc, &None)?,
+        command: blocks_asked(alloc)?,
         form: AnswerForm::Body,
     };
     let done = ask_in(alloc, office, MOMENT, &question, output);
     drop(question);
     done
+}
+
+// The command that lists the blocks.
+fn blocks_asked(alloc: Global) -> Result<Command, Undone> {
+    let request = listing(alloc, &None)?;
+    command_of(alloc, &request)
 }
 
 /// Founds an office over this keeper, and has it answer the lines of a script.

@@ -4,7 +4,8 @@ use reg_client::answers::answer_in;
 use reg_print::answer::Format;
 use reg_program::asking::AnswerForm;
 use reg_program::faults::{JobFailure, Undone};
-use reg_program::served::{ServedRequest, print_answer, request_bytes};
+use reg_program::requests::JobRequest;
+use reg_program::served::{print_answer, request_bytes};
 use std::alloc::{AllocError, Global};
 use std::test::Fail;
 
@@ -142,12 +143,17 @@ const WITHOUT: &[u8] =
 
 // The bytes of a request with this token.
 fn request(alloc: Global, token: Option<&[u8]>) -> Result<Vec<u8>, AllocError> {
-    let sent = ServedRequest {
-        method: "PUT",
-        path: "/agents/bob",
-        body: b"{\"reads\":true}",
+    let token = match token {
+        Some(token) => Some(token.to_vec(alloc)?),
+        None => None,
     };
-    request_bytes(alloc, sent, token)
+    let request = JobRequest {
+        token,
+        method: String::from_str(alloc, "PUT")?,
+        path: String::from_str(alloc, "/agents/bob")?,
+        body: b"{\"reads\":true}".to_vec(alloc)?,
+    };
+    request_bytes(alloc, &request)
 }
 
 #[test]

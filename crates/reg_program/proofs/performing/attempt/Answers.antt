@@ -3,7 +3,7 @@ use Rattle.std.specs.Prelude.{option_map, string_bytes, OnOk}
 use Rattle.reg_program.specs.Copying.{PrintsCopied}
 use Rattle.reg_program.specs.Importing.{IsImported}
 use Rattle.reg_program.specs.Journal.{TellsActs}
-use Rattle.reg_program.specs.Tasks.{streams_by}
+use Rattle.reg_program.specs.Tasks.{streams}
 use Rattle.reg_program.specs.Verifying.{IsVerifiedBy}
 use Rattle.reg_program.proofs.Carried.{touches_none}
 use Rattle.reg_program.proofs.performing.attempt.Goals as goal
@@ -13,10 +13,14 @@ returns-in-Publish g c = rw c.in-Publish.is c.publish_at.ensures
 
 pub returns-in-Import : goal.returns-in-Import
 returns-in-Import g c =
-    let io = streams_by g.R.Read.remaining g.W.Write.contents g.D.Dates.readings c.args.console.now
-    c.import_now.new.console c.args.dates.now c.import_now.new.dates in
+    let console = c.args.console.now in
+    let unread = g.R.Read.remaining console.input.now in
+    let io = streams console.is_watched unread unread (g.W.Write.contents console.output.now)
+    (g.W.Write.contents c.import.new.output) (g.D.Dates.readings c.args.dates.now)
+    (g.D.Dates.readings c.moment_now.new.dates) in
     rw c.in-Import.is
-    (touches_none (c.args.offices.now ≡ c.args.offices.now) (IsImported c.in-Import.order io) c.import_now.result refl c.import_now.ensures)
+    (touches_none (c.args.offices.now ≡ c.args.offices.now) (IsImported c.in-Import.order io) c.import.result refl
+    (c.moment_now.result, c.moment_now.ensures, c.import.ensures))
 
 pub returns-in-Copy : goal.returns-in-Copy
 returns-in-Copy g c =
@@ -43,19 +47,19 @@ returns-in-Due g c = rw c.in-Due.is (rw c.deref-in-Due.ensures at c.due_at.ensur
 pub returns-in-Verify : goal.returns-in-Verify
 returns-in-Verify g c =
     let had = g.W.Write.contents c.args.console.now.output.now in
-    let has = g.W.Write.contents c.verify_at.new.console.output.now in
+    let has = g.W.Write.contents c.verify.new.output in
     rw c.in-Verify.is
     (touches_none (c.args.offices.now ≡ c.args.offices.now) (IsVerifiedBy (option_map string_bytes c.in-Verify.digest) had has)
-    c.verify_at.result refl c.verify_at.ensures)
+    c.verify.result refl c.verify.ensures)
 
 pub returns-in-Request : goal.returns-in-Request
-returns-in-Request g c = rw c.in-Request.is c.request.ensures
+returns-in-Request g c = rw c.in-Request.is c.ask.ensures
 
 pub returns-in-Define : goal.returns-in-Define
-returns-in-Define g c = rw c.in-Define.is c.define.ensures
+returns-in-Define g c = rw c.in-Define.is c.ask-in-Define.ensures
 
 pub returns-in-Listing : goal.returns-in-Listing
-returns-in-Listing g c = rw c.in-Listing.is (rw c.deref-in-Listing.ensures at c.list.ensures)
+returns-in-Listing g c = rw c.in-Listing.is (rw c.as_str.ensures.value at c.ask-in-Listing.ensures)
 
 pub returns-in-Tokens : goal.returns-in-Tokens
 returns-in-Tokens g c = rw c.in-Tokens.is (rw c.deref-in-Tokens.ensures at c.list_tokens.ensures)

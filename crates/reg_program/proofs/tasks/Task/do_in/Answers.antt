@@ -1,5 +1,5 @@
 use Rattle.reg_program.proofs.Results.{ok_as}
-use Rattle.reg_program.proofs.tasks.Task.carry_out.Goals as goal
+use Rattle.reg_program.proofs.tasks.Task.do_in.Goals as goal
 
 pub returns-in-Found-clause-did : goal.returns-in-Found-clause-did
 returns-in-Found-clause-did g c =

@@ -1,7 +1,7 @@
 use Rattle.std.proofs.Common.{ℕ, List, sym, ap, ◌∙◌}
 use Rattle.reg_parse.specs.Command.{asked}
 use Rattle.reg_program.proofs.Gotten.{gotten_looks}
-use Rattle.reg_program.proofs.asking.command.Goals as goal
+use Rattle.reg_program.proofs.requests.command.Goals as goal
 
 pub returns-in-Ok-clause-looks : goal.returns-in-Ok-clause-looks
 returns-in-Ok-clause-looks c =
