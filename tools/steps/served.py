@@ -210,16 +210,38 @@ def is_taken(case, file, given, wanted):
         wants(case.run(f'serve {file} --port {port}'), (1, b'', b'fault: port\n'), 'a port that is taken')
 
 
-def is_silent(case, file, given, wanted):
+def until_dropped(case, file, send):
+    """What a client hears that sends so, from the office in the file, which closes the connection ten seconds after it came."""
+    heard = b''
     with serving(case, file) as server:
         begun = time.monotonic()
         with socket.create_connection(('127.0.0.1', server.port), timeout=60) as client:
-            client.sendall(given)
-            heard = client.recv(1)
+            send(client)
+            with contextlib.suppress(ConnectionResetError):
+                heard = client.recv(1)
             lasted = time.monotonic() - begun
         output, errors = server.communicate(timeout=60)
-    wants((heard, server.returncode, output, errors), (b'', 0, b'', b''), 'what a silent client hears')
+    wants((server.returncode, output, errors), (0, b'', b''), f'serve {file}')
     wants(9.5 < lasted < 15, True, f'{lasted} seconds after which it is closed')
+    return heard
+
+
+def is_silent(case, file, given, wanted):
+    wants(until_dropped(case, file, lambda client: client.sendall(given)), b'', 'what a silent client hears')
+
+
+def is_dripping(case, file, given, wanted):
+    wants(until_dropped(case, file, functools.partial(send_each_second, given)), b'', 'what a dripping client hears')
+
+
+def send_each_second(given, client):
+    """Sends a byte of this each second, beside what goes on here, for as long as the office takes them."""
+    def send():
+        with contextlib.suppress(OSError):
+            for byte in given:
+                client.sendall(bytes([byte]))
+                time.sleep(1)
+    threading.Thread(target=send, daemon=True).start()
 
 
 def drip(client, given, ended):

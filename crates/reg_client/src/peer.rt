@@ -1,8 +1,10 @@
 //! Offices that are served over HTTP on loopback, as sources.
-ghost use Rattle.std.specs.Prelude.{◌≡◌, ◌*◌};
+ghost use Rattle.std.specs.Prelude.{◌≡◌, ◌*◌, IfOk};
 ghost use Rattle.std.specs.Duration.{as_nanos};
+ghost use Rattle.std.specs.String.{string_bytes};
 ghost use Rattle.reg_core.specs.View.{published as shown};
 ghost use Rattle.reg_core.specs.World.{empty_world};
+ghost use Rattle.reg_client.specs.Reading.{asking_text, format_of, path_of};
 
 use crate::answers::{body_of, read_answer};
 use crate::reading::told_of;
@@ -107,14 +109,18 @@ fn connect<H: Clock + Net<Listener = TcpListener, Stream = TcpStream>>(
 }
 
 // The bytes of a request without a token.
-fn request(alloc: Global, command: &PublicCommand) -> Result<String, AllocError> {
+fn request(alloc: Global, command: &PublicCommand) -> Result<String, AllocError>
+    ensures { IfOk result (λ text. string_bytes text ≡ asking_text command.now) }
+{
     let path = path_of(alloc, command)?;
     let method = Method::GET;
     format!(in alloc; "{method} {path} HTTP/1.1\r\nHost: 127.0.0.1\r\nConnection: close\r\n\r\n")
 }
 
 // The path of a command.
-fn path_of(alloc: Global, command: &PublicCommand) -> Result<String, AllocError> {
+fn path_of(alloc: Global, command: &PublicCommand) -> Result<String, AllocError>
+    ensures { IfOk result (λ path. string_bytes path ≡ path_of command.now) }
+{
     match command {
         PublicCommand::Registries => String::from_str(alloc, "/registries"),
         PublicCommand::Registry(name) => format!(in alloc; "/registries/{}", name.as_str()),
@@ -126,7 +132,10 @@ fn path_of(alloc: Global, command: &PublicCommand) -> Result<String, AllocError>
     }
 }
 
-fn format_of(command: &PublicCommand) -> Format {
+// The format of the answer to a command.
+fn format_of(command: &PublicCommand) -> Format
+    ensures { result ≡ format_of command.now }
+{
     match command {
         PublicCommand::Registries | PublicCommand::Registry(_) | PublicCommand::PoolList => {
             Format::Json

@@ -2,6 +2,7 @@ mod ActTexts
 mod Beginnings
 pub mod Changed
 mod Coming
+pub mod FactsPublished
 mod Fronts
 pub mod Histories
 mod Mapped

@@ -13,7 +13,6 @@ use Rattle.csv.specs.Writing.{default_writer, field_text, fields_text, needs_byt
 use Rattle.csv.specs.declared.parser.State.{State}
 use Rattle.csv.specs.declared.parser.State.TheVariants as st
 use Rattle.csv.specs.declared.reader.Reader.{Reader}
-use Rattle.csv.specs.declared.reader.Trim.TheVariants as trim
 use Rattle.reg_changes.specs.declared.change.HistoryRecord.{HistoryRecord}
 use Rattle.reg_history.specs.Chain.{change_fields, digest, last_digest, line, next_digest, next_line, record_fields}
 use Rattle.reg_history.specs.Reading.{BeginsWithRow, IsAt}

@@ -11,3 +11,4 @@ pub mod Recording
 pub mod Texts
 pub mod Unlike
 pub mod Written
+pub mod FactsInWords

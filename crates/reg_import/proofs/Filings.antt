@@ -16,7 +16,7 @@ use Rattle.reg_core.specs.Rules.{change_to_give}
 use Rattle.reg_core.specs.Step.{acts_as_clerk, is_clerk}
 use Rattle.reg_core.specs.View.{published}
 use Rattle.reg_core.specs.Step.{carried}
-use Rattle.reg_core.specs.World.{World, RequestName, pending}
+use Rattle.reg_core.specs.World.{World, RequestName, Seat, pending}
 use Rattle.reg_core.specs.declared.capability.Cap.{Cap}
 use Rattle.reg_core.specs.declared.capability.Kind.TheVariants.{Applicant, Expert}
 use Rattle.reg_core.specs.declared.change.Change.TheVariants as change
@@ -62,6 +62,12 @@ acts_on m k v q moment free acts =
     subst (λ (c : Option Cap). acts_as_clerk c moment ≡ true)
     (sym (other_at text_keys m k v q apart)) acts
 
+-- a request has the same experts and the same advice in both worlds
+abbrev pub SameReviews : World → World → RequestName → Type 0
+SameReviews w v name =
+    (expert : List ℕ) → (get v.queue (name, expert) ≡ get w.queue (name, expert))
+    × (get v.advice (name, expert) ≡ get w.advice (name, expert))
+
 module _ (digest_of : List ℕ → List ℕ) (by : Import) (f : Filing) (allowance : Allowance)
     (e : AwardedEntry) where
   abbrev name : RequestName
@@ -100,6 +106,7 @@ module _ (digest_of : List ℕ → List ℕ) (by : Import) (f : Filing) (allowan
     pub acts : (moment : ℕ) → acts_as_clerk (get w.caps clerk) moment ≡ true
         → acts_as_clerk (get after.caps clerk) moment ≡ true
     pub requests : (q : RequestName) → q ≢ name → get after.requests q ≡ get w.requests q
+    pub reviews : (q : RequestName) → q ≢ name → SameReviews w after q
 
   -- the worlds between the lines
   abbrev granted_to : World → World
@@ -217,7 +224,12 @@ module _ (digest_of : List ℕ → List ℕ) (by : Import) (f : Filing) (allowan
       caps = λ q first second. other_cap q first;
       acts = acts_first;
       requests = other_request;
+      reviews = λ q apart expert. (refl, refl);
     }
+
+    other_seat : (q : RequestName) (expert : List ℕ) → q ≢ name
+        → ◌≢◌ {A = Seat} (q, expert) (name, by.expert)
+    other_seat q expert apart same = apart (ap (λ (s : Seat). s.0) same)
 
     third_line : f.reviewed ≡ true → LineDoes digest_of (filed_in w) (assignment_line by f)
         (change.Assign f.account f.reference by.expert)
@@ -267,6 +279,11 @@ module _ (digest_of : List ℕ → List ℕ) (by : Import) (f : Filing) (allowan
           ∙ other_cap q first;
       acts = acts_second is;
       requests = other_request;
+      reviews = λ q apart expert. (
+        other_at seat_keys w.queue (name, by.expert) tt (q, expert) (other_seat q expert apart),
+        other_at seat_keys w.advice (name, by.expert) imported (q, expert)
+            (other_seat q expert apart),
+      );
     }
 
     -- the lines of a filing are accepted, and give what its request is allowed

@@ -5,4 +5,10 @@ pub mod RowFacts
 pub mod Steps
 pub mod Filings
 pub mod Allowed
+pub mod Renewals
+pub mod Needs
 pub mod Made
+pub mod WholeRegisters
+pub mod DaysSaid
+pub mod RowsSaid
+pub mod SaidEntries

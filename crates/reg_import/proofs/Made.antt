@@ -1,12 +1,10 @@
 -- The lines of an entry make it.
-use Rattle.std.proofs.Common.{◌≡◌, ◌∙◌, ℕ, ◌+◌, ◌-◌, ◌*◌, ◌<◌, ◌≤◌, Bool, true, false, cond, List, [], ◌++◌, get_or, refl, sym, ap, subst, arith}
-use Rattle.std.specs.Prelude.{◌≢◌, Option, Some, None, Result, Ok, Err, is_some, nat_lt, nat_le, ◌==◌, ◌&&◌, max, option_map, IsSome}
-use Rattle.std.specs.Cmp.{first_so, second_so}
+use Rattle.std.proofs.Common.{◌≡◌, ◌∙◌, ℕ, Bool, true, false, List, [], ◌∷◌, ◌++◌, get_or, refl, sym, ap, subst, arith}
+use Rattle.std.specs.Prelude.{◌≢◌, Option, Some, None, Ok, is_some, nat_lt, ◌&&◌, max, option_map, All, if◌then◌else◌}
+use Rattle.std.proofs.lemmas.List.Elements.{All-head, All-tail}
+use Rattle.std.specs.Cmp.{first_so}
 use Rattle.std.specs.FinMap.{get, insert}
 use Rattle.std.proofs.lemmas.Bool.{lt-ltb}
-use Rattle.std.proofs.lemmas.Slice.Eq.{bytes_eq-Decides}
-use Rattle.std.proofs.lemmas.Bool.Decides.{nat_tests}
-use Rattle.std.proofs.Math.Nat.{mul-div_cancel}
 use Rattle.reg_maps.specs.Maps.{same_text}
 use Rattle.reg_maps.proofs.MapLaws.{get-inserted, get-updated}
 use Rattle.reg_ranges.specs.Requirements.{is_expert_policy}
@@ -15,7 +13,6 @@ use Rattle.reg_ranges.specs.declared.evidence.Evidence.{Evidence}
 use Rattle.reg_ranges.specs.declared.policy.Treatment.TheVariants.{Under}
 use Rattle.reg_early.specs.Calendar.{year_after}
 use Rattle.reg_early.specs.Moment.{is_in_clock, utc_day}
-use Rattle.reg_early.specs.Forms.{is_day}
 use Rattle.reg_early.specs.Terms.{early_term, permanent_term}
 use Rattle.reg_early.proofs.YearAfter.{later}
 use Rattle.reg_core.specs.Award.{Allowance, AwardedEntry, awarded_entry, entry_on, renewed}
@@ -24,171 +21,59 @@ use Rattle.reg_core.specs.Entry.{registration_in, with_hold}
 use Rattle.reg_core.specs.Rules.{hold_rule}
 use Rattle.reg_core.specs.Run.{world_after}
 use Rattle.reg_core.specs.View.{published}
-use Rattle.reg_core.specs.declared.advice.Advice.{Advice}
 use Rattle.reg_core.specs.declared.ask.CodeAsk.{CodeAsk}
 use Rattle.reg_core.specs.declared.ask.EarlyAsk.{EarlyAsk}
 use Rattle.reg_core.specs.declared.ask.Want.TheVariants.{Value}
 use Rattle.reg_core.specs.declared.decide.Decision.TheVariants.{Make}
 use Rattle.reg_core.specs.Step.{acts_as_clerk}
-use Rattle.reg_core.specs.WellKept.{WellKept}
 use Rattle.reg_core.specs.Step.{carried}
 use Rattle.reg_core.specs.World.{World, Place, RequestName}
 use Rattle.reg_core.specs.declared.change.Change.TheVariants as change
 use Rattle.reg_core.specs.declared.entry.Registration.{Registration}
 use Rattle.reg_core.proofs.KeyOrders.{place_keys}
 use Rattle.reg_early.specs.DayReading.{midnight}
-use Rattle.reg_import.specs.Years.{or_else, year_before, year_before_by}
-use Rattle.reg_import.specs.Lines.{Filing, applicant_token, entry_filing, entry_lines, filing_lines, hold_line, hold_lines, renewal_filing, renewal_lines}
-use Rattle.reg_import.specs.Rows.{may_renew, renewal_for, renewal_on}
+use Rattle.reg_import.specs.Lines.{Filing, applicant_token, entry_filing, entry_lines, expert_token, filing_lines, hold_line, hold_lines, renewal_filing, renewal_lines}
 use Rattle.reg_import.specs.declared.entry.EarlyStanding.{EarlyStanding}
 use Rattle.reg_import.specs.declared.entry.ListedEntry.{ListedEntry}
 use Rattle.reg_import.specs.declared.entry.ListedStanding.{ListedStanding}
 use Rattle.reg_import.specs.declared.entry.ListedStanding.TheVariants.{ForGood, Early}
-use Rattle.reg_import.specs.declared.fault.ImportRowFault.{ImportRowFault}
-use Rattle.reg_import.specs.declared.fault.ImportRowFault.TheVariants as fault
 use Rattle.reg_import.specs.declared.import.Import.{Import}
-use Rattle.reg_import.specs.Imported.{AreMade, EntriesAreMade, IsNewRenewal, IsReadyFor, events_of, registration_said}
-use Rattle.reg_import.proofs.Allowed.{allowed_early, allowed_for_good, allowed_renewal, not_above}
-use Rattle.reg_import.proofs.Filings.{CanFile, IsFiled, filed_by, other_at, other_updated}
+use Rattle.reg_import.specs.Imported.{AreMade, EntriesAreMade, IsNewRenewal, SameRest, events_of, registration_said}
+use Rattle.reg_import.specs.WholeRegisters.{renewal_token, renewal_tokens, tokens_of}
+use Rattle.reg_import.proofs.Allowed.{allowed_early, allowed_for_good, allowed_renewal}
+use Rattle.reg_import.proofs.Filings.{CanFile, IsFiled, SameReviews, filed_by, other_at, other_updated}
+use Rattle.reg_import.proofs.Needs.{CanMake, can_make, first_name, same_text_swapped, second_name}
+use Rattle.reg_import.proofs.Renewals.{day_of_midnight, letters_differ, longer_term, no_renewal, open_day, renewal_of}
 use Rattle.reg_import.proofs.RowFacts.{IsRead, read_row}
 use Rattle.reg_import.proofs.Steps.{Runs, held, runs_append, runs_cons, runs_nil}
 
--- ---- Days
+-- ---- What stays
 
-day_of_midnight : (day : ℕ) → utc_day (midnight day) ≡ day
-day_of_midnight day = mul-div_cancel day (omega arith)
+pub same_rest : (w : World) → SameRest w w
+same_rest w = record { registries = refl; pool = refl; blocks = refl; agents = refl }
 
-open_day : (day : ℕ) → is_in_clock (midnight day) ≡ true → (10957 ≤ day) × (day < 376200)
-open_day day h =
-    let first : 946684800 ≤ day * 86400 = grind (arith, nat_tests) in
-    let last : day * 86400 < 32503680000 = grind (arith, nat_tests) in
-    (omega arith, omega arith)
-
--- ---- Renewals
-
-longer_term : (a b : ℕ) → a ≤ b → max a b ≡ b
-longer_term a b h = grind (arith, nat_tests)
-
--- where the year of a day ends on the day of expiry
-ends_then : (test : Bool) (day expires : ℕ) → (test && year_after day == expires) ≡ true
-    → year_after day ≡ expires
-ends_then test day expires h =
-    let ends : (year_after day == expires) ≡ true = second_so test (year_after day == expires) h in
-    grind (arith, nat_tests)
-
-chosen : (test : Bool) (there day expires : ℕ)
-    → (test ≡ true → year_after there ≡ expires) → cond test (Some there) None ≡ Some day
-    → year_after day ≡ expires
-chosen true there day expires so h =
-    let same : there ≡ day = cc in
-    subst (λ (d : ℕ). year_after d ≡ expires) same (so refl)
-chosen false there day expires so h = absurd (cc)
-
-before_by : (expires days day : ℕ) → year_before_by expires days ≡ Some day
-    → year_after day ≡ expires
-before_by expires days day h =
-    chosen (is_day (expires - days) && year_after (expires - days) == expires) (expires - days) day
-    expires (ends_then (is_day (expires - days)) (expires - days) expires) h
-
-either : (a b : Option ℕ) (day expires : ℕ) → (a ≡ Some day → year_after day ≡ expires)
-    → (b ≡ Some day → year_after day ≡ expires) → or_else a b ≡ Some day
-    → year_after day ≡ expires
-either (Some x) b day expires one two h = one h
-either None b day expires one two h = two h
-
--- what is so of a renewal: it ends on the day of expiry, and no term was longer before
-record Renews (first expires day : ℕ) : Type 0 where
-  ends : year_after day ≡ expires
-  late : year_after first ≤ day
-
-renewed_on : (first expires day : ℕ) (o : Option ℕ) → year_before expires ≡ o
-    → renewal_on first o ≡ Ok (Some day) → Renews first expires day
-renewed_on first expires day None is h = absurd (cc)
-renewed_on first expires day (Some d) is h = by (may_renew first d) refl h
-  where
-    by : (b : Bool) → may_renew first d ≡ b
-        → cond {A = Result (Option ℕ) ImportRowFault} b (Ok (Some d)) (Err fault.Expiry) ≡ Ok (Some day)
-        → Renews first expires day
-    by false may h = absurd (cc)
-    by true may h =
-        let same : d ≡ day = cc in
-        let late : nat_le (year_after first) d ≡ true = first_so (nat_le (year_after first) d) _ may in
-        subst (Renews first expires) same (record {
-          ends = either (year_before_by expires 366) (year_before_by expires 365) d expires
-              (before_by expires 366 d) (before_by expires 365 d) is;
-          late = grind (arith, nat_tests);
-        })
-
-renewal_of : (first expires day : ℕ) → renewal_for first expires ≡ Ok (Some day)
-    → Renews first expires day
-renewal_of first expires day h = by (year_after first == expires) h
-  where
-    by : (b : Bool) → cond b (Ok None) (renewal_on first (year_before expires)) ≡ Ok (Some day)
-        → Renews first expires day
-    by true h = absurd (cc)
-    by false h = renewed_on first expires day (year_before expires) refl h
-
-no_renewal : (first expires : ℕ) → renewal_for first expires ≡ Ok None
-    → year_after first ≡ expires
-no_renewal first expires h = by (year_after first == expires) refl h
-  where
-    never : (o : Option ℕ) → renewal_on first o ≡ Ok None → year_after first ≡ expires
-    never None h = absurd (cc)
-    never (Some d) h = refused (may_renew first d) h
-      where
-        refused : (b : Bool)
-            → cond {A = Result (Option ℕ) ImportRowFault} b (Ok (Some d)) (Err fault.Expiry) ≡ Ok None
-            → year_after first ≡ expires
-        refused true h = absurd (cc)
-        refused false h = absurd (cc)
-
-    by : (b : Bool) → (year_after first == expires) ≡ b
-        → cond b (Ok None) (renewal_on first (year_before expires)) ≡ Ok None
-        → year_after first ≡ expires
-    by true is h = grind (arith, nat_tests)
-    by false is h = never (year_before expires) h
-
--- the first letters of the two words of references
-letters_differ : ◌≡◌ {A = ℕ} 114 105 → ⊥
-letters_differ same = omega arith
-
--- ---- Rows of an office that is well kept
-
-same_text_swapped : (a b : List ℕ) → same_text a b ≡ false → same_text b a ≡ false
-same_text_swapped a b h = by (same_text b a) refl
-  where
-    by : (t : Bool) → same_text b a ≡ t → same_text b a ≡ false
-    by false is = is
-    by true is =
-        let same : a ≡ b = sym ((bytes_eq-Decides b a).0 is) in
-        absurd (let t = sym ((bytes_eq-Decides a b).1 same) ∙ h in cc)
-
--- nobody is to look at a request that is not there
-unqueued : (w : World) → WellKept w → (name : RequestName) (expert : List ℕ)
-    → get w.requests name ≡ None → get w.queue (name, expert) ≡ None
-unqueued w kept name expert gone = by (get w.queue (name, expert)) refl
-  where
-    by : (o : Option (Unit {0})) → get w.queue (name, expert) ≡ o
-        → get w.queue (name, expert) ≡ None
-    by None is = is
-    by (Some u) is =
-        let there : IsSome (get w.requests name) = kept.queued (name, expert) (ap is_some is) in
-        absurd (let no = rw gone at there in cc)
-
-unadvised : (w : World) → WellKept w → (name : RequestName) (expert : List ℕ)
-    → get w.requests name ≡ None → get w.advice (name, expert) ≡ None
-unadvised w kept name expert gone = by (get w.advice (name, expert)) refl
-  where
-    by : (o : Option Advice) → get w.advice (name, expert) ≡ o
-        → get w.advice (name, expert) ≡ None
-    by None is = is
-    by (Some a) is =
-        let there = kept.advised (name, expert) a is in
-        absurd (let no = sym (ap is_some (unqueued w kept name expert gone)) ∙ there in cc)
+pub rest_then : (w v u : World) → SameRest w v → SameRest v u → SameRest w u
+rest_then w v u first second = record {
+  registries = second.registries ∙ first.registries;
+  pool = second.pool ∙ first.pool;
+  blocks = second.blocks ∙ first.blocks;
+  agents = second.agents ∙ first.agents;
+}
 
 module _ (digest_of : List ℕ → List ℕ) (w : World) (by : Import) where
   abbrev pub place_of : ListedEntry → Place
   place_of entry = (by.registry, entry.value)
+
+  -- all else stayed that other entries need
+  pub record StaysBut (entry : ListedEntry) (after : World) : Type 0 where
+    pub caps : (q : List ℕ) → All (λ token. q ≢ digest_of token) (tokens_of by entry)
+        → get after.caps q ≡ get w.caps q
+    pub acts : (moment : ℕ) → acts_as_clerk (get w.caps (digest_of by.clerk)) moment ≡ true
+        → acts_as_clerk (get after.caps (digest_of by.clerk)) moment ≡ true
+    pub requests : (q : RequestName) → q ≢ first_name by entry → q ≢ second_name by entry
+        → get after.requests q ≡ get w.requests q
+    pub reviews : (q : RequestName) → q ≢ first_name by entry → q ≢ second_name by entry
+        → SameReviews w after q
 
   -- an entry was put at its place, and all else that is published stayed
   pub record IsPut (entry : ListedEntry) (after : World) (a : Registration) : Type 0 where
@@ -199,26 +84,82 @@ module _ (digest_of : List ℕ → List ℕ) (w : World) (by : Import) where
     pub blocks : after.blocks ≡ w.blocks
     pub agents : after.agents ≡ w.agents
 
-  made_of : (entry : ListedEntry) (after : World) (a : Registration)
-      → Runs digest_of w (entry_lines by entry) after → IsPut entry after a
-      → a ≡ registration_said entry
+  -- its lines lead to a world in which it is there
+  pub record IsMadeIn (entry : ListedEntry) (after : World) : Type 0 where
+    pub runs : Runs digest_of w (entry_lines by entry) after
+    pub put : IsPut entry after (registration_said entry)
+    pub stays : StaysBut entry after
+
+  pub rest_stays : (entry : ListedEntry) (after : World) → IsMadeIn entry after → SameRest w after
+  rest_stays entry after made = record {
+    registries = made.put.registries;
+    pool = made.put.pool;
+    blocks = made.put.blocks;
+    agents = made.put.agents;
+  }
+
+  made_of : (entry : ListedEntry) (after : World) → IsMadeIn entry after
       → AreMade digest_of w by entry (events_of digest_of (entry_lines by entry))
       (world_after digest_of w (events_of digest_of (entry_lines by entry)))
-  made_of entry after a runs put said =
+  made_of entry after made =
       subst (AreMade digest_of w by entry (events_of digest_of (entry_lines by entry)))
-      (sym runs.ends) (record {
-        accepted = runs.accepted;
-        made = put.there ∙ ap Some said;
-        others = put.others;
-        registries = put.registries;
-        pool = put.pool;
-        blocks = put.blocks;
-        agents = put.agents;
+      (sym made.runs.ends) (record {
+        accepted = made.runs.accepted;
+        made = made.put.there;
+        others = made.put.others;
+        registries = made.put.registries;
+        pool = made.put.pool;
+        blocks = made.put.blocks;
+        agents = made.put.agents;
       })
+
+  -- ---- Its tokens
+
+  module _ (entry : ListedEntry) (q : List ℕ)
+      (apart : All (λ token. q ≢ digest_of token) (tokens_of by entry)) where
+    abbrev f_of : Filing
+    f_of = entry_filing by entry
+
+    abbrev Apart : List ℕ → Type 0
+    Apart token = q ≢ digest_of token
+
+    abbrev later_tokens : List (List ℕ)
+    later_tokens = renewal_tokens by entry entry.standing
+
+    abbrev more_tokens : Bool → List (List ℕ)
+    more_tokens reviewed = if reviewed then expert_token by f_of ∷ later_tokens else later_tokens
+
+    apart_more : All Apart (more_tokens f_of.reviewed)
+    apart_more = All-tail Apart (applicant_token by f_of) (more_tokens f_of.reviewed) apart
+
+    apart_first : q ≢ digest_of (applicant_token by f_of)
+    apart_first = All-head Apart (applicant_token by f_of) (more_tokens f_of.reviewed) apart
+
+    apart_expert : f_of.reviewed ≡ true → q ≢ digest_of (expert_token by f_of)
+    apart_expert is =
+        All-head Apart (expert_token by f_of) later_tokens
+        (subst (λ b. All Apart (more_tokens b)) is apart_more)
+
+    apart_later : All Apart later_tokens
+    apart_later = by_review f_of.reviewed apart_more
+      where
+        by_review : (b : Bool) → All Apart (more_tokens b) → All Apart later_tokens
+        by_review true all = All-tail Apart (expert_token by f_of) later_tokens all
+        by_review false all = all
+
+  -- what a first filing leaves
+  stays_filed : (entry : ListedEntry) (allowance : Allowance) (e : AwardedEntry) (after : World)
+      → IsFiled digest_of by (entry_filing by entry) allowance e w after → StaysBut entry after
+  stays_filed entry allowance e after filed = record {
+    caps = λ q apart. filed.caps q (apart_first entry q apart) (apart_expert entry q apart);
+    acts = filed.acts;
+    requests = λ q first second. filed.requests q first;
+    reviews = λ q first second. filed.reviews q first;
+  }
 
   -- ---- The first filing
 
-  module _ (entry : ListedEntry) (ready : IsReadyFor digest_of w by entry)
+  module _ (entry : ListedEntry) (ready : CanMake digest_of w by entry)
       (read : IsRead by entry) where
     abbrev table : Table
     table = ready.policy.0
@@ -230,7 +171,7 @@ module _ (digest_of : List ℕ → List ℕ) (w : World) (by : Import) where
     treated = ready.policy.2
 
     below : nat_lt table.max entry.value ≡ false
-    below = not_above w ready.kept by.registry table entry.value entry.policy defined treated
+    below = ready.below
 
     abbrev f : Filing
     f = entry_filing by entry
@@ -249,10 +190,8 @@ module _ (digest_of : List ℕ → List ℕ) (w : World) (by : Import) where
         (record { award = awarded_entry e; needs_advice = is_expert_policy entry.policy }) e w
     can_file e allowed = record {
       new = ready.new;
-      unqueued = λ is.
-          unqueued w ready.kept (entry.assignee, f.reference) by.expert ready.new.reference;
-      unadvised = λ is.
-          unadvised w ready.kept (entry.assignee, f.reference) by.expert ready.new.reference;
+      unqueued = λ is. ready.unreviewed.0;
+      unadvised = λ is. ready.unreviewed.1;
       allowed = allowed;
       award = refl;
       needs = refl;
@@ -284,9 +223,7 @@ module _ (digest_of : List ℕ → List ℕ) (w : World) (by : Import) where
 
   for_good : (entry : ListedEntry) (e : Evidence)
       → let row = with_standing entry (ForGood e) in
-      IsReadyFor digest_of w by row → IsRead by row
-      → AreMade digest_of w by row (events_of digest_of (entry_lines by row))
-      (world_after digest_of w (events_of digest_of (entry_lines by row)))
+      CanMake digest_of w by row → IsRead by row → (after : World) × IsMadeIn row after
   for_good entry e ready read =
       let row = with_standing entry (ForGood e) in
       let asked : CodeAsk = record {
@@ -302,18 +239,24 @@ module _ (digest_of : List ℕ → List ℕ) (w : World) (by : Import) where
       let can = can_file row ready read given allowed in
       let filed = filed_by digest_of by (entry_filing by row) _ given w can in
       let runs = runs_append digest_of w filed.0 filed.0 (filing_lines by (entry_filing by row)) []
-      filed.1.runs (runs_nil digest_of filed.0) in
-      made_of row filed.0 _ runs (put_first row ready read given filed.0 _ filed.1 refl)
-      (ap (λ day. record {
-        label = entry.label;
-        assignee = entry.assignee;
-        term = permanent_term day;
-      }) (day_of_midnight entry.first))
+      filed.1.runs (runs_nil digest_of filed.0) in (
+        filed.0,
+        record {
+          runs = runs;
+          put = subst (λ day. IsPut row filed.0 (record {
+            label = entry.label;
+            assignee = entry.assignee;
+            term = permanent_term day;
+          })) (day_of_midnight entry.first)
+              (put_first row ready read given filed.0 _ filed.1 refl);
+          stays = stays_filed row _ given filed.0 filed.1;
+        },
+      )
 
   -- ---- Early allocations
 
   module _ (entry : ListedEntry) (st : EarlyStanding)
-      (ready : IsReadyFor digest_of w by (record entry { standing = Early st }))
+      (ready : CanMake digest_of w by (record entry { standing = Early st }))
       (read : IsRead by (record entry { standing = Early st })) where
     abbrev row : ListedEntry
     row = with_standing entry (Early st)
@@ -386,6 +329,8 @@ module _ (digest_of : List ℕ → List ℕ) (w : World) (by : Import) where
       held_put : IsPut row after (allocated mark)
       caps : after.caps ≡ first_world.caps
       requests : after.requests ≡ first_world.requests
+      queue : after.queue ≡ first_world.queue
+      advice : after.advice ≡ first_world.advice
 
     abbrev held_world : World
     held_world = carried first_world (Some (digest_of by.clerk)) (midnight entry.first)
@@ -416,6 +361,8 @@ module _ (digest_of : List ℕ → List ℕ) (w : World) (by : Import) where
           };
           caps = refl;
           requests = refl;
+          queue = refl;
+          advice = refl;
         }
 
     hold_it : (mark : Bool) → (after : World) × IsHeld mark after
@@ -427,6 +374,8 @@ module _ (digest_of : List ℕ → List ℕ) (w : World) (by : Import) where
         held_put = put;
         caps = refl;
         requests = refl;
+        queue = refl;
+        advice = refl;
       },
     )
 
@@ -435,6 +384,22 @@ module _ (digest_of : List ℕ → List ℕ) (w : World) (by : Import) where
 
     is_held : IsHeld st.held second_world
     is_held = (hold_it st.held).1
+
+    -- what stayed so far
+    stays_held : StaysBut row second_world
+    stays_held =
+        let first = stays_filed row allowance given first_world is_filed in
+        record {
+          caps = λ q apart. ap (λ m. get m q) is_held.caps ∙ first.caps q apart;
+          acts = λ moment acts.
+              subst (λ m. acts_as_clerk (get m (digest_of by.clerk)) moment ≡ true)
+              (sym is_held.caps) (first.acts moment acts);
+          requests = λ q one two. ap (λ m. get m q) is_held.requests ∙ first.requests q one two;
+          reviews = λ q one two expert. (
+            ap (λ m. get m (q, expert)) is_held.queue ∙ (first.reviews q one two expert).0,
+            ap (λ m. get m (q, expert)) is_held.advice ∙ (first.reviews q one two expert).1,
+          );
+        }
 
     -- the term that a row says, by its parts
     abbrev said_by : ℕ → Option ℕ → Registration
@@ -454,6 +419,7 @@ module _ (digest_of : List ℕ → List ℕ) (w : World) (by : Import) where
     record IsRenewed (after : World) : Type 0 where
       runs : Runs digest_of second_world (renewal_lines by row st st.renewal) after
       last_put : IsPut row after (registration_said row)
+      last_stays : StaysBut row after
 
     not_renewed : st.renewal ≡ None → IsRenewed second_world
     not_renewed is =
@@ -464,6 +430,7 @@ module _ (digest_of : List ℕ → List ℕ) (w : World) (by : Import) where
           runs = subst (λ o. Runs digest_of second_world (renewal_lines by row st o) second_world)
               (sym is) (runs_nil digest_of second_world);
           last_put = subst (IsPut row second_world) same is_held.held_put;
+          last_stays = stays_held;
         }
 
     module _ (day : ℕ) (is : st.renewal ≡ Some day) where
@@ -546,7 +513,25 @@ module _ (digest_of : List ℕ → List ℕ) (w : World) (by : Import) where
           blocks = filed_again.1.blocks ∙ is_held.held_put.blocks;
           agents = filed_again.1.agents ∙ is_held.held_put.agents;
         });
+        last_stays = record {
+          caps = λ q apart.
+              filed_again.1.caps q (apart_again q apart) (λ reviewed. absurd (cc))
+              ∙ stays_held.caps q apart;
+          acts = λ moment acts. filed_again.1.acts moment (stays_held.acts moment acts);
+          requests = λ q one two. filed_again.1.requests q two ∙ stays_held.requests q one two;
+          reviews = λ q one two expert. (
+            (filed_again.1.reviews q two expert).0 ∙ (stays_held.reviews q one two expert).0,
+            (filed_again.1.reviews q two expert).1 ∙ (stays_held.reviews q one two expert).1,
+          );
+        };
       }
+        where
+          apart_again : (q : List ℕ) → All (λ token. q ≢ digest_of token) (tokens_of by row)
+              → q ≢ digest_of (applicant_token by again)
+          apart_again q apart =
+              All-head (λ token. q ≢ digest_of token) (applicant_token by again) []
+              (subst (λ o. All (λ token. q ≢ digest_of token) (renewal_token by row st o)) is
+              (apart_later row q apart))
 
     renew_it : (after : World) × IsRenewed after
     renew_it = by_renewal st.renewal refl
@@ -555,23 +540,22 @@ module _ (digest_of : List ℕ → List ℕ) (w : World) (by : Import) where
         by_renewal None is = (second_world, not_renewed is)
         by_renewal (Some day) is = (last_world day is, is_renewed day is)
 
-    early : AreMade digest_of w by row (events_of digest_of (entry_lines by row))
-        (world_after digest_of w (events_of digest_of (entry_lines by row)))
+    early : (after : World) × IsMadeIn row after
     early =
         let last = renew_it in
         let runs = runs_append digest_of w first_world last.0 (filing_lines by (entry_filing by row))
         (hold_lines by row st.held ++ renewal_lines by row st st.renewal) is_filed.runs
         (runs_append digest_of first_world second_world last.0 (hold_lines by row st.held)
-        (renewal_lines by row st st.renewal) is_held.runs last.1.runs) in
-        made_of row last.0 (registration_said row) runs last.1.last_put refl
+        (renewal_lines by row st st.renewal) is_held.runs last.1.runs) in (
+          last.0,
+          record { runs = runs; put = last.1.last_put; stays = last.1.last_stays },
+        )
 
   -- ---- An entry
 
   abbrev IsMade : ListedEntry → Type 0
   IsMade entry =
-      IsReadyFor digest_of w by entry → IsRead by entry
-      → AreMade digest_of w by entry (events_of digest_of (entry_lines by entry))
-      (world_after digest_of w (events_of digest_of (entry_lines by entry)))
+      CanMake digest_of w by entry → IsRead by entry → (after : World) × IsMadeIn entry after
 
   pub entry_is_made : (entry : ListedEntry) → IsMade entry
   entry_is_made entry = by_standing entry.standing refl
@@ -584,4 +568,6 @@ module _ (digest_of : List ℕ → List ℕ) (w : World) (by : Import) where
 
 pub entries_made : (digest_of : List ℕ → List ℕ) → EntriesAreMade digest_of
 entries_made digest_of w by header row entry read ready =
-    entry_is_made digest_of w by entry ready (read_row by header row entry read)
+    let made = entry_is_made digest_of w by entry (can_make digest_of w by entry ready)
+    (read_row by header row entry read) in
+    made_of digest_of w by entry made.0 made.1

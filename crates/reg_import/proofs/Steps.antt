@@ -176,14 +176,14 @@ module _ (digest_of : List ℕ → List ℕ) where
       }
 
   -- what more lines do is done from the world that the first ones end in
-  ends_on : (more lines : List Line) (v : World)
+  pub ends_on : (more lines : List Line) (v : World)
       → world_after digest_of v (events_of digest_of (lines ++ more))
       ≡ world_after digest_of (world_after digest_of v (events_of digest_of lines))
       (events_of digest_of more)
   ends_on more [] v = refl
   ends_on more (l ∷ lines) v = ends_on more lines (step_of digest_of v (event_of digest_of l)).world
 
-  replies_on : (more lines : List Line) (v : World)
+  pub replies_on : (more lines : List Line) (v : World)
       → run digest_of v (events_of digest_of (lines ++ more))
       ≡ run digest_of v (events_of digest_of lines)
       ++ run digest_of (world_after digest_of v (events_of digest_of lines)) (events_of digest_of more)

@@ -45,6 +45,15 @@ command_of (advise account reference) = Expert (Advise account reference importe
 command_of (approve account reference) = Clerk (Approve account reference)
 command_of (hold registry value) = Clerk (SetHold registry value true)
 
+-- ---- Worlds
+
+-- the rest of what is published stays, and so does each link
+pub record SameRest (old new : World) : Type 0 where
+  pub registries : new.registries ≡ old.registries
+  pub pool : new.pool ≡ old.pool
+  pub blocks : new.blocks ≡ old.blocks
+  pub agents : new.agents ≡ old.agents
+
 -- ---- Entries
 
 -- the term that a row says: it was renewed where there is a day of renewal

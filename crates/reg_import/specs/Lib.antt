@@ -5,3 +5,5 @@ pub mod Lines
 pub mod Rows
 pub mod Scripts
 pub mod Imported
+pub mod WholeRegisters
+pub mod Saying

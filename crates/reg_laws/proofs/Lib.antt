@@ -1,5 +1,8 @@
 pub mod Types
 pub mod Capabilities
+pub mod Pairs
+pub mod ClerkLists
+pub mod Counts
 pub mod Outcomes
 pub mod Agents
 pub mod FirstRefusals
@@ -12,6 +15,7 @@ pub mod TwoWorldsByNow
 pub mod TwoWorlds
 pub mod ValuesAreGivenOnce
 pub mod TermsMoveDuly
+pub mod TermsInRuns
 pub mod LinksAreTheirPrincipals
 pub mod RevocationsTakeJust
 pub mod AsksInVain

@@ -11,7 +11,10 @@ ghost use Rattle.reg_core.specs.JournalLaws.{ChangesAreSigned, JournalIsExact, J
 ghost use Rattle.reg_core.specs.Laws.{AnswersAreDone, ApprovalsAreAdvised, ApprovalsGiveWhatIsAllowed, ApprovalsStand, ChangesFit, FirstWorldsAreWellKept, GivenStays, GivesDigests, RefusalsChangeNothing, RepeatsActOnce, RevocationsTakeJust, RunsKeepWell, SubmissionsStand, TwoWorlds, TwoWorldsByNow};
 ghost use Rattle.reg_core.specs.MayBeGiven.{AsksMeetTheirPolicy, NoValueIsGivenTwice};
 ghost use Rattle.reg_core.specs.Striking.{StagesAreOfRun, UnseenLeaveNoTrace};
+ghost use Rattle.reg_laws.specs.ClerkLists.{ActsAreListed, AllRequestsAreListed};
 ghost use Rattle.reg_laws.specs.CommandLines.{CommandsGoByTheirLines};
+ghost use Rattle.reg_laws.specs.Counts.{CountsAreExact};
+ghost use Rattle.reg_laws.specs.TermsInRuns.{TermsMoveDulyInRuns};
 
 /// Isolation: two well kept worlds that show a caller who is no clerk the same view answer its
 /// command alike, and then show it the same view again.
@@ -55,6 +58,26 @@ pub fn runs_keep_well()
 #[tactic(auto, using(crate::proofs::Outcomes::AnswersAreDone::all_done))]
 pub fn answers_are_done()
     ensures { (digest_of : List ℕ → List ℕ) → AnswersAreDone digest_of }
+{}
+
+/// All requests are listed: a clerk who asks for them is told of each request once, as it is, by
+/// account and reference, and of nothing else.
+pub fn all_requests_are_listed()
+    ensures { (digest_of : List ℕ → List ℕ) → AllRequestsAreListed digest_of }
+{}
+
+/// Acts are listed: a clerk who asks for those of a day, of an account or about a request is told of
+/// just these acts of the journal, the oldest first.
+#[tactic(auto, using(crate::proofs::ClerkLists::acts_listed))]
+pub fn acts_are_listed()
+    ensures { (digest_of : List ℕ → List ℕ) → ActsAreListed digest_of }
+{}
+
+/// Counts are exact: each number that a clerk is told is of just the things of its kind. An entry is
+/// temporary until its expiry day comes or while a clerk holds it, and expired from that day on where no
+/// clerk does; a capability is valid before its end.
+pub fn counts_are_exact()
+    ensures { (digest_of : List ℕ → List ℕ) → CountsAreExact digest_of }
 {}
 
 /// An approval that changes something gives exactly what the ask is allowed, on that day.
@@ -110,6 +133,14 @@ pub fn no_value_is_given_twice()
 #[tactic(auto, using(crate::proofs::TermsMoveDuly::terms_move))]
 pub fn terms_move_duly()
     ensures { (digest_of : List ℕ → List ℕ) → TermsMoveDuly digest_of }
+{}
+
+/// Terms move duly in runs: each event of a run leaves each entry as it was, or is such an approval or
+/// such a mark; and where no event approves a request of its assignee, only a clerk's mark may change.
+#[tactic(auto, using(crate::proofs::TermsInRuns::run_moves))]
+pub fn terms_move_duly_in_runs()
+    ensures { (digest_of : List ℕ → List ℕ) → GivesDigests digest_of
+        → TermsMoveDulyInRuns digest_of }
 {}
 
 /// Expired values are taken: no ask for a new entry at a value that has one is taken in, whatever

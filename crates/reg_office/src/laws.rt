@@ -9,7 +9,10 @@ ghost use Rattle.reg_core.specs.JournalLaws.{ChangesAreSigned, JournalIsExact, J
 ghost use Rattle.reg_core.specs.Laws.{AnswersAreDone, ApprovalsAreAdvised, ApprovalsGiveWhatIsAllowed, ApprovalsStand, ChangesFit, FirstWorldsAreWellKept, GivenStays, RefusalsChangeNothing, RepeatsActOnce, RevocationsTakeJust, RunsKeepWell, SubmissionsStand, TwoWorlds, TwoWorldsByNow};
 ghost use Rattle.reg_core.specs.MayBeGiven.{AsksMeetTheirPolicy, NoValueIsGivenTwice};
 ghost use Rattle.reg_core.specs.Striking.{StagesAreOfRun, UnseenLeaveNoTrace};
+ghost use Rattle.reg_laws.specs.ClerkLists.{ActsAreListed, AllRequestsAreListed};
 ghost use Rattle.reg_laws.specs.CommandLines.{CommandsGoByTheirLines};
+ghost use Rattle.reg_laws.specs.Counts.{CountsAreExact};
+ghost use Rattle.reg_laws.specs.TermsInRuns.{TermsMoveDulyInRuns};
 ghost use Rattle.reg_registers.specs.Caller.{token_digest};
 
 /// Isolation: two well kept offices that show a caller who is no clerk the same view answer its
@@ -76,6 +79,31 @@ pub fn answers_are_done()
     reg_laws::answers_are_done();
 }
 
+/// All requests are listed: a clerk who asks for them is told of each request once, as it is, by
+/// account and reference, and of nothing else.
+pub fn all_requests_are_listed()
+    ensures { AllRequestsAreListed token_digest }
+{
+    reg_laws::all_requests_are_listed();
+}
+
+/// Acts are listed: a clerk who asks for those of a day, of an account or about a request is told of
+/// just these acts of the journal, the oldest first.
+pub fn acts_are_listed()
+    ensures { ActsAreListed token_digest }
+{
+    reg_laws::acts_are_listed();
+}
+
+/// Counts are exact: each number that a clerk is told is of just the things of its kind. An entry is
+/// temporary until its expiry day comes or while a clerk holds it, and expired from that day on where no
+/// clerk does; a capability is valid before its end.
+pub fn counts_are_exact()
+    ensures { CountsAreExact token_digest }
+{
+    reg_laws::counts_are_exact();
+}
+
 /// An approval that changes something gives exactly what the ask is allowed, on that day.
 pub fn approvals_give_what_is_allowed()
     ensures { ApprovalsGiveWhatIsAllowed token_digest }
@@ -137,6 +165,14 @@ pub fn terms_move_duly()
     ensures { TermsMoveDuly token_digest }
 {
     reg_laws::terms_move_duly();
+}
+
+/// Terms move duly in runs: each event of a run leaves each entry as it was, or is such an approval or
+/// such a mark; and where no event approves a request of its assignee, only a clerk's mark may change.
+pub fn terms_move_duly_in_runs()
+    ensures { TermsMoveDulyInRuns token_digest }
+{
+    reg_laws::terms_move_duly_in_runs();
 }
 
 /// An entry is Temporary on each day before its expiry, and Expired on that day and on each day
