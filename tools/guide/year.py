@@ -290,7 +290,7 @@ class Year:
             rows = rows_of(self.expect(f'curl -s {OFFICE}/listings/registries/{name}'))
             self.judge_same(f'the listing of {name}', [row[:3] + row[4:] for row in rows if row[4]], self.books.listed(name))
             page = (self.root / SITE / f'registries/{name}.html').read_text()
-            shown = re.findall(r'<tr id="v(\d+)">.*?</th><td>.*?</td><td>(.*?)</td>', page)
+            shown = re.findall(r'<tr id="v(\d+)">.*?</th><td>.*?</td><td>.*?</td><td>(.*?)</td><td>[^<]*</td><td>\d', page)
             self.judge_same(f'the page of {name}', shown, self.books.shown(name))
         self.judge_same('due', rows_of(self.expect(command('reg_cli due'))), self.books.due(30))
 

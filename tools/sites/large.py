@@ -135,16 +135,21 @@ def judge_registers(office, site):
         pages.judge_table(office.tally, site, f'registries/{name}.html', pages.shown(name, rows, HELD))
         pages.judge_xml(office.tally, site, name, [(history.run_text(lo, hi), policy) for lo, hi, policy, _ in ranges], rows[1:])
         judge_anchors(office.tally, site, name, rows[1:])
-    pages.judge_table(office.tally, site, 'blocks.html', list(csv.reader(io.StringIO(office.listing(None)))))
+    blocks = pages.by_prefix(list(csv.reader(io.StringIO(office.listing(None)))))
+    pages.judge_table(office.tally, site, 'blocks.html', blocks)
+    anchors = [*(f'b{row[1]}' if row[1:] else row[0] for row in blocks[1:])]
+    office.tally.judge(pages.Page((site / 'blocks.html').read_text()).ids == anchors, 'blocks.html has other anchors')
     index = pages.Page((site / 'index.html').read_text())
     office.tally.judge(index.ids == sorted(RANGES), f'index.html has the anchors {index.ids}')
 
 
 def judge_anchors(tally, site, name, rows):
     page = pages.Page((site / f'registries/{name}.html').read_text())
-    wanted = [*(f'r{history.run_text(lo, hi)}' for lo, hi, *_ in RANGES[name][1]), *(f'v{row[0]}' for row in rows if row[4])]
+    ranges, values = RANGES[name][1], [f'v{row[0].partition("-")[0]}' for row in rows]
+    wanted = [*(f'r{history.run_text(lo, hi)}' for lo, hi, *_ in ranges), *values]
     tally.judge(page.ids == wanted, f'{name}.html has the anchors {page.ids[:3]}, not {wanted[:3]}')
-    tally.judge([link for link in page.links if link.startswith('#')] == [f'#{anchor}' for anchor in wanted], f'{name}.html has a row that does not link to itself')
+    wanted = [f'#{anchor}' for anchor in [*(f'v{lo}' for lo, *_ in ranges), *values]]
+    tally.judge([link for link in page.links if link.startswith('#')] == wanted, f'{name}.html has a row with another link')
 
 
 # ---- Runs

@@ -11,6 +11,7 @@ HEADER = 'registry,value,title,reference,note\n'
 MOST = 1_048_576
 ROWS = [
     ('', '', 'Büro für Nummern & "mehr"', 'https://registry.example.org/apply?a=1&b=2 to the desk', "Wir vergeben <b>Werte</b>, 'alle'."),
+    ('', 'desk', 'Schalter & <more>', 'http://desk.example.org/?a=1&b=2', '<i>Anträge</i>'),
     ('codes', '', 'Farben – Цвета', 'RFC 8126', '</td><script>alert(1)</script>'),
     ('codes', '64', 'Bleu & 青', 'RFC 1234, Section 5', ''),
     ('codes', '100', '', 'draft-x-00', ']]>'),
@@ -50,7 +51,7 @@ def judge_notes(year, pictures):
     judge_shown(year, folder, files)
     pages.take_pictures(year.tally, folder, ['index.html', 'registries/codes.html'], pictures)
     judge_others(year, contents(plain), files)
-    said, with_more = noting.published(text_of([*ROWS[:2], *ABOUT_NOTHING, *ROWS[2:]]), folder)
+    said, with_more = noting.published(text_of([*ROWS[:3], *ABOUT_NOTHING, *ROWS[3:]]), folder)
     year.tally.judge(with_more == files, f'notes about nothing changed {others(with_more, files)}')
     year.tally.judge(re.search(rf'\b{len(ABOUT_NOTHING)}\b', said) and all(re.search(rf'\b{word}\b', said) for word in ABOUT_NOTHING[0][:2]) and said.count('\n') == 1, f'notes about nothing gave {said!r}')
     said, none = noting.published(HEADER, folder)
@@ -63,20 +64,21 @@ def judge_shown(year, site, files):
     for path in ['index.html', 'changes.html', 'blocks.html', 'registries/alpha.html', 'registries/bits.html', 'registries/codes.html']:
         pages.judge_page(year.tally, site, path)
         page = pages.Page(files[path].decode())
-        year.tally.judge('https://registry.example.org/apply?a=1&b=2' in page.links, f'{path} does not say where to apply')
+        year.tally.judge({'https://registry.example.org/apply?a=1&b=2', ROWS[1][3]} <= {*page.links}, f'{path} does not say where to apply')
+        year.tally.judge(all(text in ''.join(page.texts) for text in ROWS[1][2:]), f'{path} lacks the note on the desk')
     page = pages.Page(files['index.html'].decode())
     year.tally.judge(all(text in ''.join(page.texts) for text in ROWS[0][2:]), 'index.html does not have the note of the authority')
     [head] = [row[0] for table in page.tables for row in table if 'codes' in row[0]]
-    year.tally.judge(head.startswith(f'{ROWS[1][2]}codes'), f'index.html has the registry {head}')
+    year.tally.judge(head.startswith(f'{ROWS[2][2]}codes'), f'index.html has the registry {head}')
     page = pages.Page(files['registries/codes.html'].decode())
     [row] = [row for table in page.tables for row in table if row[0] == '64']
-    year.tally.judge('Blue' in row[1] and all(text in row[1] for text in ROWS[2][2:]), f'the row of 64 is {row}')
+    year.tally.judge(row[1:3] == [f'Blue{ROWS[3][2]}', ROWS[3][3]], f'the row of 64 is {row}')
     year.tally.judge('https://www.rfc-editor.org/rfc/rfc1234' in page.links and 'https://www.rfc-editor.org/rfc/rfc8126' in page.links, f'the links are {page.links[:9]}')
-    year.tally.judge(all(text in ''.join(page.texts) for text in ROWS[1][2:]) and 'draft-x-00' in ''.join(page.texts), 'codes.html lacks a note')
+    year.tally.judge(all(text in ''.join(page.texts) for text in ROWS[2][2:]) and 'draft-x-00' in ''.join(page.texts), 'codes.html lacks a note')
     registry = pages.well_formed(year.tally, site / 'registries/codes.xml')
     found = {record.findtext(f'{pages.IANA}value'): [*record.findall(f'{pages.IANA}xref')] for record in registry.iter(f'{pages.IANA}record')}
     said = [(xref.get('type'), xref.get('data')) for value in ('64', '100', '0') for xref in found[value]]
-    year.tally.judge(registry.findtext(f'{pages.IANA}title') == ROWS[1][2] and said == [('rfc', 'rfc1234'), ('text', 'draft-x-00')], f'codes.xml has {said}')
+    year.tally.judge(registry.findtext(f'{pages.IANA}title') == ROWS[2][2] and said == [('rfc', 'rfc1234'), ('text', 'draft-x-00')], f'codes.xml has {said}')
     pages.judge_feed(year.tally, site, history.judge_site(site, files), ROWS[0][2])
 
 
@@ -94,7 +96,7 @@ FAULTS = [
     (HEADER.encode() + b'codes,64,a,b\n', 1), (HEADER.encode() + b'codes,64,a,b,c,d\n', 1), (HEADER.encode() + b'codes,64,a,b,c\ncodes,64,a,b,c\n', 2),
     (HEADER.encode() + b'codes,,a,b,c\nbits,,a,b,c\ncodes,,,,\n', 3), (HEADER.encode() + b',,a,b,c\n,,a,b,c\n', 2), (HEADER.encode() + b'CODES,64,a,b,c\n', 1),
     (HEADER.encode() + b'codes,064,a,b,c\n', 1), (HEADER.encode() + b'codes,4294967296,a,b,c\n', 1), (HEADER.encode() + b'codes,-1,a,b,c\n', 1),
-    (HEADER.encode() + b',64,a,b,c\n', 1), (HEADER.encode() + b'codes,64,a\tb,b,c\n', 1), (HEADER.encode() + b'codes,64,"a\nb",b,c\n', 1),
+    (HEADER.encode() + b',64,a,b,c\n', 1), (HEADER.encode() + b',Desk,a,b,c\n', 1), (HEADER.encode() + b',desk,,,\n,desk,,,\n', 2), (HEADER.encode() + b'codes,64,a\tb,b,c\n', 1), (HEADER.encode() + b'codes,64,"a\nb",b,c\n', 1),
     (HEADER.encode() + b'codes,64,\xff,b,c\n', 1), (HEADER.encode() + b'codes,64,' + b'a' * 1001 + b',b,c\n', 1), (HEADER.encode() + 'codes,64,\uffff,b,c\n'.encode(), 1),
     (HEADER.encode() + 'codes,64,\u0085,b,c\n'.encode(), 1),
 ]

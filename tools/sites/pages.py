@@ -73,6 +73,8 @@ def judge_page(tally, site, path):
     tally.judge('script' not in page.tags and 'onerror' not in page.tags, f'{path} has {page.tags}')
     tally.judge(len({*page.ids}) == len(page.ids), f'{path} has an anchor twice')
     tally.judge('<html lang="en">' in text and '<caption>' in text + '<caption>' * ('<table' not in text), f'{path} has no language or caption')
+    feed = '../changes.atom' if '/' in path else 'changes.atom'
+    tally.judge(f'<link rel="alternate" type="application/atom+xml" href="{feed}">' in text, f'{path} does not name the feed')
     done = subprocess.run(['tidy', '-q', '-e', '--drop-empty-elements', 'no', str(site / path)], capture_output=True, text=True, timeout=SECONDS)
     tally.judge(done.returncode == 0, f'{path}: tidy says {done.stderr[:600]}')
 
@@ -85,14 +87,14 @@ def judge_links(tally, site):
     for path, link in links:
         name, _, anchor = link.partition('#')
         target = (path.parent / name).resolve() if name else path
-        leads = link.startswith('https://') or target.is_file() and (not anchor or anchor in ids.get(target, ()))
+        leads = link.startswith(('https://', 'http://')) or target.is_file() and (not anchor or anchor in ids.get(target, ()))
         if not leads:
             tally.judge(False, f'{path.name} has a link to {link}')
             return
     tally.judge(True, '')
 
 
-MADE = {'range': 'range defined', 'entry': 'assigned', 'prefix': 'prefix added', 'block': 'block assigned'}
+MADE = {'range': 'registry defined', 'entry': 'assigned', 'prefix': 'prefix added', 'block': 'block assigned'}
 
 
 def said(record):
@@ -104,13 +106,28 @@ def said(record):
     return 'now held' if record['Held'] else f'now until {record["Expires"]}'
 
 
+def shown_records(records):
+    """The last 200 records, the newest first, without the ranges of a registry but its first, which stands for the registry."""
+    return [record for record in records[:-201:-1] if record['Change'] != 'range' or record['Value'].partition('-')[0] == '0']
+
+
+def texts_of(record):
+    """The register, the value and the description that are shown of a change."""
+    return ('', record['Register'], '') if record['Change'] == 'range' else (record['Register'], record['Value'], record['Description'])
+
+
 def judge_changes(tally, site, records):
-    """The page of the changes has the last 200, the newest first, each linked to what was changed."""
+    """The page of the changes has the last 200 below their months, the newest first, each linked to what was changed."""
     page = Page((site / 'changes.html').read_text())
     shown = [tuple(row) for table in page.tables for row in table[1:]]
-    wanted = [(record['Number'], record['Moment'], record['Register'], said(record), record['Value'], record['Description'])
-              for record in records[:-201:-1]]
-    tally.judge(shown == wanted, f'changes.html shows {len(shown)} changes: {shown[:2]}, not {wanted[:2]}')
+    wanted, month = [], ''
+    for record in shown_records(records):
+        register, value, description = texts_of(record)
+        if record['Moment'][:7] != month:
+            month = record['Moment'][:7]
+            wanted.append((month,))
+        wanted.append((record['Number'], record['Moment'], register, said(record), value, description))
+    tally.judge(shown == wanted, f'changes.html shows {len(shown)} rows: {shown[:2]}, not {wanted[:2]}')
 
 
 # ---- Chromium
@@ -121,10 +138,22 @@ def chromium(words):
 
 
 def shown(name, rows, held):
-    """The rows of the listing of a registry as its page shows them, with these entries held."""
+    """The rows of the listing of a registry as its page shows them, with these entries held, and no references."""
     head = [{'First': 'Since'}.get(field, field) for field in rows[0]]
-    return [head, *([value, words, 'Temporary (held)' if (name, value) in held else status, NAMES[policy], *rest]
-                    for value, words, status, policy, *rest in rows[1:])]
+    return [[*head[:2], 'Reference', *head[2:]],
+            *([value, words, '', 'Temporary (held)' if (name, value) in held else status, NAMES[policy], *rest]
+              for value, words, status, policy, *rest in rows[1:])]
+
+
+def by_prefix(rows):
+    """The rows of the listing of the blocks as their page shows them: each prefix stands above its blocks."""
+    head, *blocks = rows
+    shown = [head]
+    for before, block in zip([None, *blocks], blocks):
+        if before is None or before[1][:6] != block[1][:6]:
+            shown.append([block[1][:6]])
+        shown.append(block)
+    return shown
 
 
 def judge_table(tally, site, path, rows):
@@ -210,11 +239,11 @@ def judge_feed(tally, site, records, title):
     tally.judge(feed.tag == f'{ATOM}feed' and not faults, f'changes.atom: {feed.tag} {faults[:3]}')
     ids = [feed.findtext(f'{ATOM}id'), *(entry.findtext(f'{ATOM}id') for entry in entries)]
     tally.judge(len({*ids}) == len(ids), 'changes.atom has an id twice')
-    last = records[:-101:-1]
+    last = shown_records(records)[:100]
     told = [(entry.findtext(f'{ATOM}id'), entry.findtext(f'{ATOM}updated'), entry.findtext(f'{ATOM}summary') or '') for entry in entries]
-    tally.judge(told == [(f'urn:sha256:{record["Digest"]}', record['Moment'], record['Description']) for record in last], f'changes.atom has {told[:2]}')
+    tally.judge(told == [(f'urn:sha256:{record["Digest"]}', record['Moment'], texts_of(record)[2]) for record in last], f'changes.atom has {told[:2]}')
     titles = [entry.findtext(f'{ATOM}title') for entry in entries]
-    wanted = [f'{record["Register"]} {record["Value"]}: {said(record)}'.lstrip() for record in last]
+    wanted = [f'{" ".join(texts_of(record)[:2])}: {said(record)}'.lstrip() for record in last]
     tally.judge(titles == wanted, f'changes.atom has the titles {titles[:2]}, not {wanted[:2]}')
     tally.judge(feed.findtext(f'{ATOM}title') == title, f'changes.atom has the title {feed.findtext(f"{ATOM}title")}')
     tally.judge(not last or feed.findtext(f'{ATOM}updated') == last[0]['Moment'], 'changes.atom was updated at another moment')

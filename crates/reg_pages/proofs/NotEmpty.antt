@@ -2,13 +2,8 @@
 use Rattle.std.proofs.Common.{◌≡◌, ℕ, ◌<◌, List, [], ◌∷◌, codes, length, refl, arith}
 use Rattle.reg_pages.specs.Document.{plain}
 use Rattle.reg_pages.specs.Markup.{text, beside}
-use Rattle.reg_pages.specs.Noted.{apply_at, reference_shown}
+use Rattle.reg_pages.specs.Noted.{apply_at}
 use Rattle.reg_pages.specs.Reference.{reference_markup}
-
-pub reference_shown-some : (r : List ℕ) → 0 < length r
-    → reference_shown r ≡ beside (reference_markup r) (text (codes " "))
-reference_shown-some [] h = absurd (omega arith)
-reference_shown-some (b ∷ more) h = refl
 
 pub apply_at-some : (r : List ℕ) → 0 < length r
     → apply_at r

@@ -1,13 +1,13 @@
 -- Portions of a page.
-use Rattle.std.proofs.Common.{◌≡◌, ℕ, ◌+◌, ◌<◌, ◌≤◌, List, [], ◌∷◌, ◌++◌, length, get_or, drop, nat_lt, if◌then◌else◌, true, false, refl, sym, ap, ◌∙◌, append-nil, add-one, drop-cons, arith, Option}
+use Rattle.std.proofs.Common.{◌≡◌, ℕ, ◌+◌, ◌<◌, ◌≤◌, List, [], ◌∷◌, ◌++◌, length, get_or, drop, nat_lt, if◌then◌else◌, Bool, true, false, codes, refl, sym, ap, ◌∙◌, append-nil, add-one, drop-cons, arith, Option, None}
 use Rattle.std.proofs.lemmas.Bool.Decides.{nat_tests}
 use Rattle.std.proofs.lemmas.List.{length-append}
+use Rattle.reg_blocks.specs.Digits.{prefix_text}
 use Rattle.reg_core.specs.declared.holding.Listed.{Listed}
 use Rattle.reg_pages.specs.Appended.{Appended}
-use Rattle.reg_pages.specs.Markup.{markup_then}
-use Rattle.reg_pages.specs.Table.{below_rows}
+use Rattle.reg_pages.specs.Markup.{Markup, nothing, markup_then}
+use Rattle.reg_pages.specs.Table.{below_rows, group}
 use Rattle.reg_pages.proofs.Pieces.{bytes}
-use Rattle.reg_pages.specs.declared.note.Note.{Note}
 use Rattle.reg_pages.specs.Portions.{GivesPortion, after}
 use Rattle.reg_pages.specs.Blocks as blocks
 use Rattle.reg_pages.specs.declared.portions.Next.TheVariants as next
@@ -61,16 +61,28 @@ below_some = omega arith
 -- ---- The page of the blocks
 
 -- what stands above its rows has a byte
-pub blocks_above_some : (authority : Option Note) (rows : List Listed)
-    → 0 < length (blocks.above_rows authority rows [])
-blocks_above_some authority rows = omega arith
+pub blocks_above_some : (lines : Markup) (rows : List Listed)
+    → 0 < length (blocks.above_rows lines rows [])
+blocks_above_some lines rows = omega arith
 
--- a row has a byte
-pub block_some : (row : Listed) → 0 < length (markup_then (blocks.block_row row) [])
-block_some row = omega arith
+-- a row has a byte, whether a prefix stands above it or not
+headed_some : (headed : Bool) (digits : List ℕ) (row : Listed)
+    → 0
+    < length
+    (markup_then (if headed then nothing else group digits (codes "4"))
+    (markup_then (blocks.block_row row) []))
+headed_some true digits row = omega arith
+headed_some false digits row = omega arith
+
+pub row_some : (before : Option ℕ) (row : Listed)
+    → 0 < length (markup_then (blocks.row_behind before row) [])
+row_some before row =
+    let prefix = blocks.prefix_of row.block in
+    headed_some (blocks.is_prefix before prefix) (prefix_text prefix) row
 
 -- the page is what stands above its rows, and then these and what stands below
-pub blocks_parts : (authority : Option Note) (rows : List Listed)
-    → blocks.blocks_page authority rows ≡ blocks.above_rows authority rows (blocks.rows_left rows)
+pub blocks_parts : (lines : Markup) (rows : List Listed)
+    → blocks.blocks_page lines rows
+    ≡ blocks.above_rows lines rows (blocks.rows_left None rows)
 unfolding blocks.blocks_page
-blocks_parts authority rows = refl
+blocks_parts lines rows = refl

@@ -18,3 +18,8 @@ piece_then (piece.Link target title) rest = markup_then (link target.now title.n
 abbrev pub pieces_then : List Piece → List ℕ → List ℕ
 pieces_then [] rest = rest
 pieces_then (p ∷ more) rest = piece_then p (pieces_then more rest)
+
+-- a text with markup before it and behind it, nothing where it is empty, and then the rest
+abbrev pub framed_then : List ℕ → List ℕ → List ℕ → List ℕ → List ℕ
+framed_then before [] behind rest = rest
+framed_then before (b ∷ more) behind rest = before ++ (escaped (b ∷ more) ++ (behind ++ rest))

@@ -6,7 +6,7 @@ use Rattle.std.specs.Map.{lookup}
 use Rattle.std.specs.Option.{ok_or}
 use Rattle.std.specs.Str.{bytes_eq}
 use Rattle.reg_core.specs.Names.{is_name}
-use Rattle.reg_pages.specs.Notes.{entry_thing, note_at}
+use Rattle.reg_pages.specs.Notes.{authority, desk, entry_thing, note_at}
 use Rattle.reg_pages.specs.declared.notes.Notes.{Notes}
 use Rattle.reg_pages.specs.Words.{is_words}
 use Rattle.reg_pages.specs.declared.note.Note.{Note}
@@ -33,10 +33,15 @@ is_header fields = pointwise bytes_eq fields header
 
 -- ---- A row
 
+-- the thing that row n is about that is of no registry, whose value this is: the authority, or its desk
+abbrev pub own_thing : ℕ → List ℕ → Result (List ℕ) NotesFault
+own_thing n [] = Ok authority
+own_thing n (b ∷ more) =
+    if bytes_eq (b ∷ more) (codes "desk") then Ok desk else Err (fault.Row n part.Value)
+
 -- the thing that row n is about, whose registry and value these are
 abbrev pub thing_of : ℕ → List ℕ → List ℕ → Result (List ℕ) NotesFault
-thing_of n [] [] = Ok []
-thing_of n [] (d ∷ digits) = Err (fault.Row n part.Value)
+thing_of n [] value = own_thing n value
 thing_of n (b ∷ name) [] = ok_or (read_text is_name (b ∷ name)) (fault.Row n part.Registry)
 thing_of n (b ∷ name) (d ∷ digits) = do
   registry ← ok_or (read_text is_name (b ∷ name)) (fault.Row n part.Registry)

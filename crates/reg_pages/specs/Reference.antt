@@ -1,5 +1,5 @@
 -- What notes refer to, and where that is.
-use Rattle.std.specs.Prelude.{ℕ, Bool, ◌==◌, not, nat_eq, List, [], ◌∷◌, ◌++◌, drop, take, position, codes, Option, Some, None, if◌then◌else◌}
+use Rattle.std.specs.Prelude.{ℕ, Bool, ◌||◌, ◌==◌, not, nat_eq, List, [], ◌∷◌, ◌++◌, drop, take, position, codes, Option, Some, None, if◌then◌else◌}
 use Rattle.std.specs.Char.{is_ascii_digit}
 use Rattle.std.specs.Fmt.{decimal}
 use Rattle.std.specs.List.{starts_with}
@@ -33,7 +33,7 @@ rfc_of reference =
 -- the address by which a reference begins, up to the first space
 abbrev pub address_of : List ℕ → Option (List ℕ)
 address_of reference =
-    if starts_with nat_eq reference (codes "https://")
+    if starts_with nat_eq reference (codes "https://") || starts_with nat_eq reference (codes "http://")
     then read_text is_utf8 (until is_space reference) else None
 
 -- ---- On a page

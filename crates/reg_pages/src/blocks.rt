@@ -1,22 +1,39 @@
 //! The page of the blocks that were given, and IEEE's files of them.
-ghost use Rattle.std.specs.Prelude.{◌≡◌, ◌++◌, codes, length, string_bytes, IfOk, OnOk};
+ghost use Rattle.std.specs.Prelude.{◌≡◌, length, IfOk, OnOk};
 ghost use Rattle.std.specs.Option.{option_copied};
 ghost use Rattle.reg_pages.specs.Appended.{Appended, Shown};
-ghost use Rattle.reg_pages.specs.Table.{table_start};
-ghost use Rattle.reg_pages.specs.Blocks.{above_rows, assignments_text, block_links, block_row, blocks_page, no_blocks, page_left, row_by, rows_of, same_size};
-ghost use Rattle.reg_print.specs.BlockListing.{block_header};
+ghost use Rattle.reg_pages.specs.Noted.{apply_lines};
+ghost use Rattle.reg_pages.specs.Blocks.{above_rows, assignments_text, block_row, blocks_page, is_prefix, no_blocks, page_left, prefix_of, prefix_row, row_behind, row_by, rows_of, same_size};
 
 use crate::document::push_start;
-use crate::markup::Piece::{Link, Markup};
+use crate::markup::Piece::{Markup, Text};
 use crate::markup::{push, push_all};
-use crate::note::Note;
 use crate::noted::push_apply;
+use crate::notes::Notes;
 use crate::portions::{Next, Portions};
-use crate::table;
+use crate::table::{push_below, push_group};
+use reg_blocks::block::Block;
+use reg_blocks::prefix;
 use reg_blocks::size::Size;
 use reg_core::holding::Listed;
 use reg_print::listing::blocks::{address_text, block_listing, organization_text};
 use std::alloc::{AllocError, Global};
+
+// Links to the first page, and to the blocks in other forms; and how the block of an address is found.
+const INTRO: &str = "\
+    <p><a href=\"index.html\">All registries</a> <a href=\"blocks.csv\">CSV</a> \
+    <a href=\"oui.csv\">MA-L</a> <a href=\"mam.csv\">MA-M</a> <a href=\"oui36.csv\">MA-S</a></p>\
+    <p>To find a MAC address, write its digits in capitals, without separators, as 001A2B018123. \
+    The first 6 are its prefix. Put # and these 6 behind the address of this page, \
+    as in blocks.html#001A2B, to see the blocks of this prefix. The MAC address is in \
+    the block whose digits it begins with: 6 digits for MA-L, 7 for MA-M, 9 for MA-S.</p>";
+
+// The table up to its rows.
+const COLUMNS: &str = "\
+    <table class=\"blocks\"><caption>Blocks of MAC addresses</caption><thead><tr>\
+    <th scope=\"col\">Registry</th><th scope=\"col\">Assignment</th>\
+    <th scope=\"col\">Organization Name</th><th scope=\"col\">Organization Address</th>\
+    </tr></thead><tbody>";
 
 /// The blocks of one size in the form in which the IEEE Registration Authority publishes MA-L, MA-M
 /// and MA-S (`oui.csv`, `mam.csv`, `oui36.csv`), in their order. Only want of memory is an error.
@@ -59,24 +76,27 @@ fn same_size(a: Size, b: Size) -> bool
 }
 
 /// The page of the blocks that were given, in portions: the rows of their listing, each found by `b`
-/// and its digits. A private holder is shown as `Private`, without an address. The first portion has
-/// what stands above these rows, each other one a row, and the last what stands below.
+/// and its digits, below the 24-bit prefix of its addresses, which is found by its own digits. A private
+/// holder is shown as `Private`, without an address. The first portion has what stands above these rows,
+/// each other one a row, with the prefix if it is another than before, and the last what stands below.
 #[derive(Drop)]
 pub struct BlocksPage<'a> {
     rows: &'a [Listed],
-    authority: Option<&'a Note>,
+    notes: Option<&'a Notes>,
+    // The prefix of the row that was given last.
+    before: Option<u32>,
     next: Next,
 }
 
 impl<'a> BlocksPage<'a> {
-    /// All of the page of these blocks is to be given, with a line that says where to apply, if this note
-    /// says so.
-    pub fn of(rows: &'a [Listed], authority: Option<&'a Note>) -> Self
-        ensures { page_left result ≡ blocks_page (option_copied authority.entry) rows.now }
+    /// All of the page of these blocks is to be given, with where to apply, if these notes say so.
+    pub fn of(rows: &'a [Listed], notes: Option<&'a Notes>) -> Self
+        ensures { page_left result ≡ blocks_page (apply_lines (option_copied notes.entry)) rows.now }
     {
         BlocksPage {
             rows,
-            authority,
+            notes,
+            before: None,
             next: Next::Above,
         }
     }
@@ -87,33 +107,40 @@ impl Portions for BlocksPage<'_> {
 
     fn push_next(&mut self, out: &mut Vec<u8>) -> Result<bool, AllocError> {
         let alloc = *out.allocator();
-        match self.next {
-            Next::Above => push_above(out, self.authority, self.rows)?,
+        let before = match self.next {
+            Next::Above => {
+                push_above(out, self.notes, self.rows)?;
+                None
+            }
             Next::Row(place) => match self.rows.get(place) {
-                Some(row) => push_block(out, alloc, row)?,
-                None => table::push_below(out)?,
+                Some(row) => {
+                    push_row(out, alloc, self.before, row)?;
+                    Some(prefix_of(&row.block))
+                }
+                None => {
+                    push_below(out)?;
+                    None
+                }
             },
             Next::Nothing => return Ok(false),
-        }
+        };
+        self.before = before;
         self.next = self.next.after(self.rows.len());
         Ok(true)
     }
 }
 
 // What stands above the rows of the listing.
-fn push_above(
-    out: &mut Vec<u8>,
-    authority: Option<&Note>,
-    rows: &[Listed],
-) -> Result<(), AllocError>
+fn push_above(out: &mut Vec<u8>, notes: Option<&Notes>, rows: &[Listed]) -> Result<(), AllocError>
     ensures { OnOk result (Appended out.old.items out.new.items
-        (above_rows (option_copied authority.entry) rows.now)) }
+        (above_rows (apply_lines (option_copied notes.entry)) rows.now)) }
 {
-    push_start(out, "style.css", "Blocks")?;
-    push_links(out)?;
-    push_apply(out, authority)?;
+    push_start(out, "style.css", "changes.atom", "Blocks")?;
+    push(out, INTRO)?;
+    push_apply(out, notes)?;
     push_if_none(out, rows)?;
-    push_columns(out)
+    push(out, COLUMNS)?;
+    Ok(())
 }
 
 // That there are no blocks, where there are none.
@@ -126,50 +153,58 @@ fn push_if_none(out: &mut Vec<u8>, rows: &[Listed]) -> Result<(), AllocError>
     }
 }
 
-// Links to the first page, and to the blocks in other forms.
-fn push_links(out: &mut Vec<u8>) -> Result<(), AllocError>
-    ensures { OnOk result (Shown out.old.items out.new.items block_links) }
+// A block behind one of this prefix.
+fn push_row(
+    out: &mut Vec<u8>,
+    alloc: Global,
+    before: Option<u32>,
+    row: &Listed,
+) -> Result<(), AllocError>
+    ensures { OnOk result (Shown out.old.items out.new.items (row_behind before row.now)) }
 {
-    push_all(
-        out,
-        &[
-            Markup("<p>"),
-            Link("index.html", "All registries"),
-            Markup(" "),
-            Link("blocks.csv", "CSV"),
-            Markup(" "),
-            Link("oui.csv", "MA-L"),
-            Markup(" "),
-            Link("mam.csv", "MA-M"),
-            Markup(" "),
-            Link("oui36.csv", "MA-S"),
-            Markup("</p>"),
-        ],
-    )
+    push_prefix(out, alloc, before, prefix_of(&row.block))?;
+    push_block(out, alloc, row)?;
+    Ok(())
 }
 
-// The rows of the listing begin, by the heads of their columns.
-fn push_columns(out: &mut Vec<u8>) -> Result<(), AllocError>
-    ensures { OnOk result (Appended out.old.items out.new.items
-        (table_start (codes "Blocks of MAC addresses") block_header)) }
+// The first 24 bits of the addresses of a block.
+fn prefix_of(block: &Block) -> u32
+    ensures { result ≡ prefix_of block.now }
 {
-    let columns = [
-        "Registry",
-        "Assignment",
-        "Organization Name",
-        "Organization Address",
-    ];
-    table::push_start(out, "Blocks of MAC addresses", &columns)
+    (block.first() >> 24) as u32
+}
+
+// A prefix as a row, unless it is the one before.
+fn push_prefix(
+    out: &mut Vec<u8>,
+    alloc: Global,
+    before: Option<u32>,
+    prefix: u32,
+) -> Result<(), AllocError>
+    ensures { OnOk result (Shown out.old.items out.new.items (prefix_row before prefix)) }
+{
+    if is_prefix(before, prefix) {
+        return Ok(());
+    }
+    let digits = prefix::text(alloc, prefix)?;
+    push_group(out, digits.as_str(), "4")
+}
+
+fn is_prefix(before: Option<u32>, prefix: u32) -> bool
+    ensures { result ≡ is_prefix before prefix }
+{
+    match before {
+        Some(before) => before == prefix,
+        None => false,
+    }
 }
 
 fn push_block(out: &mut Vec<u8>, alloc: Global, row: &Listed) -> Result<(), AllocError>
     ensures { OnOk result (Shown out.old.items out.new.items (block_row row.now)) }
 {
     let digits = row.block.text(alloc)?;
-    let name = name_of(alloc, digits.as_str())?;
     push_block_texts(
         out,
-        name.as_str(),
         row.block.size().word(),
         digits.as_str(),
         organization_text(row),
@@ -177,16 +212,8 @@ fn push_block(out: &mut Vec<u8>, alloc: Global, row: &Listed) -> Result<(), Allo
     )
 }
 
-// By what a block is found, whose digits these are.
-fn name_of(alloc: Global, digits: &str) -> Result<String, AllocError>
-    ensures { IfOk result (λ name. string_bytes name ≡ codes "b" ++ digits.now) }
-{
-    format!(in alloc; "b{digits}")
-}
-
 fn push_block_texts<'a>(
     out: &mut Vec<u8>,
-    name: &'a str,
     size: &'a str,
     digits: &'a str,
     organization: &'a str,
@@ -194,12 +221,24 @@ fn push_block_texts<'a>(
 ) -> Result<(), AllocError>
     ensures { OnOk result
         (Shown out.old.items out.new.items
-        (row_by name.now size.now digits.now organization.now address.now)) }
+        (row_by size.now digits.now organization.now address.now)) }
 {
-    table::push_row_start(out, Some(name))?;
-    table::push_cell(out, size)?;
-    table::push_head(out, Some(name), digits)?;
-    table::push_cells(out, &[organization, address])?;
-    table::push_row_end(out)?;
-    Ok(())
+    push_all(
+        out,
+        &[
+            Markup("<tr id=\"b"),
+            Text(digits),
+            Markup("\"><td>"),
+            Text(size),
+            Markup("</td><th scope=\"row\"><a href=\"#b"),
+            Text(digits),
+            Markup("\">"),
+            Text(digits),
+            Markup("</a></th><td>"),
+            Text(organization),
+            Markup("</td><td>"),
+            Text(address),
+            Markup("</td></tr>\n"),
+        ],
+    )
 }

@@ -4,7 +4,7 @@ ghost use Rattle.std.specs.Fmt.{decimal};
 ghost use Rattle.reg_pages.specs.Appended.{Appended, Shown};
 ghost use Rattle.reg_pages.specs.Document.{link};
 ghost use Rattle.reg_pages.specs.Escape.{escaped};
-ghost use Rattle.reg_pages.specs.Pieces.{piece_then, pieces_then};
+ghost use Rattle.reg_pages.specs.Pieces.{framed_then, piece_then, pieces_then};
 
 use crate::escape::push_text;
 use std::alloc::AllocError;
@@ -41,6 +41,30 @@ fn push_piece(out: &mut Vec<u8>, piece: Piece<'_>) -> Result<(), AllocError>
         Piece::Number(n) => push_number(out, n),
         Piece::Link(target, title) => push_link(out, target, title),
     }
+}
+
+/// Appends a text with markup before it and behind it; nothing where the text is empty. Only want of
+/// memory is an error.
+pub fn push_framed<'a>(
+    out: &mut Vec<u8>,
+    before: &'a str,
+    text: &'a str,
+    behind: &'a str,
+) -> Result<(), AllocError>
+    ensures { OnOk result
+        (Appended out.old.items out.new.items (framed_then before.now text.now behind.now)) }
+{
+    if text.is_empty() {
+        return Ok(());
+    }
+    push_all(
+        out,
+        &[
+            Piece::Markup(before),
+            Piece::Text(text),
+            Piece::Markup(behind),
+        ],
+    )
 }
 
 /// Appends markup, as it is. Only want of memory is an error.

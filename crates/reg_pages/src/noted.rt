@@ -1,37 +1,26 @@
 //! What is noted about a thing, as a page shows it.
-ghost use Rattle.std.specs.Prelude.{◌≡◌, [], IfOk, OnOk};
+ghost use Rattle.std.specs.Prelude.{◌≡◌, IfOk, OnOk};
 ghost use Rattle.std.specs.Option.{option_copied};
 ghost use Rattle.reg_pages.specs.Appended.{Shown};
 ghost use Rattle.reg_print.specs.Listing.{row_view};
-ghost use Rattle.reg_pages.specs.Noted.{apply_at, apply_line, note_of_row, note_shown, noted, noted_in, reference_shown, title_shown};
+ghost use Rattle.reg_pages.specs.Noted.{apply_at, apply_lines, note_of_row, note_shown, noted, noted_in, reference_in, title_in, words_in};
 
-use crate::escape::push_text;
 use crate::markup::Piece::{Markup, Text};
-use crate::markup::{push, push_all};
+use crate::markup::{push, push_all, push_framed};
 use crate::note::Note;
-use crate::notes::Notes;
+use crate::notes::{AUTHORITY, DESK, Notes};
 use crate::reference::push_reference;
 use reg_print::listing::rows::ListingRow;
 use std::alloc::{AllocError, Global};
 
 // ---- Looked up
 
-/// The note on the authority, where there are notes.
-pub fn of_authority<'a>(notes: Option<&'a Notes>) -> Option<&'a Note>
-    ensures { option_copied result ≡ noted_in (option_copied notes.entry) [] }
+/// The note on a thing, where there are notes: on `AUTHORITY`, on `DESK`, or on the registry of this name.
+pub fn note_on<'a>(notes: Option<&'a Notes>, thing: &str) -> Option<&'a Note>
+    ensures { option_copied result ≡ noted_in (option_copied notes.entry) thing.now }
 {
     match notes {
-        Some(notes) => notes.of_authority(),
-        None => None,
-    }
-}
-
-/// The note on a registry, where there are notes.
-pub fn of_registry<'a>(notes: Option<&'a Notes>, name: &str) -> Option<&'a Note>
-    ensures { option_copied result ≡ noted_in (option_copied notes.entry) name.now }
-{
-    match notes {
-        Some(notes) => notes.of_registry(name),
+        Some(notes) => notes.at(thing),
         None => None,
     }
 }
@@ -52,6 +41,38 @@ pub fn of_row<'a>(
     }
 }
 
+// ---- What it says
+
+/// The title of a note; empty where there is none.
+pub fn title_in<'a>(note: Option<&'a Note>) -> &'a str
+    ensures { result.now ≡ title_in (option_copied note.entry) }
+{
+    match note {
+        Some(note) => note.title.as_str(),
+        None => "",
+    }
+}
+
+/// The reference of a note; empty where there is none.
+pub fn reference_in<'a>(note: Option<&'a Note>) -> &'a str
+    ensures { result.now ≡ reference_in (option_copied note.entry) }
+{
+    match note {
+        Some(note) => note.reference.as_str(),
+        None => "",
+    }
+}
+
+/// What else a note says; empty where there is none.
+pub fn words_in<'a>(note: Option<&'a Note>) -> &'a str
+    ensures { result.now ≡ words_in (option_copied note.entry) }
+{
+    match note {
+        Some(note) => note.note.as_str(),
+        None => "",
+    }
+}
+
 // ---- Shown
 
 /// Appends what is noted; nothing where there is no note. Only want of memory is an error.
@@ -68,48 +89,26 @@ fn push_note(out: &mut Vec<u8>, note: &Note) -> Result<(), AllocError>
     ensures { OnOk result (Shown out.old.items out.new.items (note_shown note.now)) }
 {
     push(out, "<div class=\"note\">")?;
-    push_title(out, note.title.as_str())?;
-    push_reference_part(out, note.reference.as_str())?;
-    push_text(out, note.note.as_str())?;
-    push(out, "</div>")?;
-    Ok(())
-}
-
-fn push_title(out: &mut Vec<u8>, title: &str) -> Result<(), AllocError>
-    ensures { OnOk result (Shown out.old.items out.new.items (title_shown title.now)) }
-{
-    if title.is_empty() {
-        return Ok(());
-    }
+    push_framed(out, "<strong>", note.title.as_str(), "</strong> ")?;
+    push_reference(out, note.reference.as_str())?;
     push_all(
         out,
-        &[Markup("<strong>"), Text(title), Markup("</strong> ")],
-    )
-}
-
-fn push_reference_part(out: &mut Vec<u8>, reference: &str) -> Result<(), AllocError>
-    ensures { OnOk result (Shown out.old.items out.new.items (reference_shown reference.now)) }
-{
-    if reference.is_empty() {
-        return Ok(());
-    }
-    push_reference(out, reference)?;
-    push(out, " ")?;
+        &[Markup(" "), Text(note.note.as_str()), Markup("</div>")],
+    )?;
     Ok(())
 }
 
 // ---- Where to apply
 
-/// Appends one line that says where to apply; nothing where the notes do not say it. Only want of
-/// memory is an error.
-pub fn push_apply(out: &mut Vec<u8>, authority: Option<&Note>) -> Result<(), AllocError>
+/// Appends a line that says where to apply, and what is noted about the desk; nothing where the notes do
+/// not say it. Only want of memory is an error.
+pub fn push_apply(out: &mut Vec<u8>, notes: Option<&Notes>) -> Result<(), AllocError>
     ensures { OnOk result
-        (Shown out.old.items out.new.items (apply_line (option_copied authority.entry))) }
+        (Shown out.old.items out.new.items (apply_lines (option_copied notes.entry))) }
 {
-    match authority {
-        Some(note) => push_apply_at(out, note.reference.as_str()),
-        None => Ok(()),
-    }
+    push_apply_at(out, reference_in(note_on(notes, AUTHORITY)))?;
+    push_noted(out, note_on(notes, DESK))?;
+    Ok(())
 }
 
 fn push_apply_at(out: &mut Vec<u8>, reference: &str) -> Result<(), AllocError>

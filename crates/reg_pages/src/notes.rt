@@ -1,5 +1,5 @@
 //! Notes, looked up by what they are about.
-ghost use Rattle.std.specs.Prelude.{◌≡◌, ◌+◌, ℕ, List, [], Some, None, IfOk, OnOk, string_bytes, if◌then◌else◌};
+ghost use Rattle.std.specs.Prelude.{◌≡◌, ◌+◌, ℕ, List, Some, None, IfOk, OnOk, string_bytes, if◌then◌else◌};
 ghost use Rattle.std.specs.Option.{option_copied};
 ghost use Rattle.std.specs.Str.{bytes_eq};
 ghost use Rattle.reg_pages.specs.Notes.{entry_thing, note_at, note_count};
@@ -8,6 +8,12 @@ use crate::note::Note;
 use std::alloc::{AllocError, Global};
 use std::collections::BTreeMap;
 use std::collections::btree_map::Keys;
+
+/// The name of the authority among things that there are notes on.
+pub const AUTHORITY: &str = "";
+
+/// The name of the desk of the authority among these things.
+pub const DESK: &str = ",desk";
 
 /// The notes of an authority: at most one on each thing. One is looked up in time that grows with the
 /// logarithm of their number.
@@ -27,20 +33,6 @@ impl Notes {
         }
     }
 
-    /// The note on the authority.
-    pub fn of_authority(&self) -> Option<&Note>
-        ensures { option_copied result ≡ note_at self.now [] }
-    {
-        self.at("")
-    }
-
-    /// The note on a registry.
-    pub fn of_registry(&self, name: &str) -> Option<&Note>
-        ensures { option_copied result ≡ note_at self.now name.now }
-    {
-        self.at(name)
-    }
-
     /// The note on the entry at a value of a registry. Only want of memory is an error.
     pub fn of_entry(
         &self,
@@ -54,15 +46,15 @@ impl Notes {
         Ok(self.at(thing.as_str()))
     }
 
-    /// The note on the thing of this name.
-    pub(crate) fn at(&self, thing: &str) -> Option<&Note>
+    /// The note on the thing of this name: on `AUTHORITY`, on `DESK`, or on the registry of this name.
+    pub fn at(&self, thing: &str) -> Option<&Note>
         ensures { option_copied result ≡ note_at self.now thing.now }
     {
         self.rows.get(thing)
     }
 
-    /// The names of all things that there are notes on, in order: the authority's is empty, a registry's
-    /// its name, and an entry's the name of its registry, a comma and its value.
+    /// The names of all things that there are notes on, in order: `AUTHORITY`, `DESK`, a registry's
+    /// name, and of an entry the name of its registry, a comma and its value.
     pub fn things(&self) -> Keys<'_, String, Note> {
         self.rows.keys()
     }

@@ -4,11 +4,11 @@ ghost use Rattle.csv.specs.Reading.{owned_rows_left};
 ghost use Rattle.csv.specs.Records.{fields_of};
 ghost use Rattle.reg_ranges.specs.RowReading.{HasRead, text_rows};
 ghost use Rattle.reg_pages.specs.Notes.{note_count};
-ghost use Rattle.reg_pages.specs.Reading.{AddsNotes, AreNotes, IsFaultOfNotes, Noted, added, file_notes, is_header, note_of, notes_fault_text, part_word, row_of, rows_of, thing_of, words_of};
+ghost use Rattle.reg_pages.specs.Reading.{AddsNotes, AreNotes, IsFaultOfNotes, Noted, added, file_notes, is_header, note_of, notes_fault_text, own_thing, part_word, row_of, rows_of, thing_of, words_of};
 ghost use Rattle.reg_pages.specs.declared.reading.NotesFault.TheVariants as fault;
 
 use crate::note::Note;
-use crate::notes::{Notes, entry_thing};
+use crate::notes::{AUTHORITY, DESK, Notes, entry_thing};
 use crate::words::Words;
 use csv::{ByteRecord, ByteRecordsIntoIter, ReaderBuilder};
 use reg_core::text::Name;
@@ -27,8 +27,8 @@ pub enum NotesPart {
     Columns,
     /// `registry` is not empty and not the name of a registry.
     Registry,
-    /// `value` is no number of 0 to 4294967295 in decimal without leading zeros, or there is no
-    /// registry.
+    /// `value` is no number of 0 to 4294967295 in decimal without leading zeros; or there is no registry,
+    /// and it is neither empty nor `desk`.
     Value,
     /// A text has more than 1,000 bytes, is not UTF-8, or has a control character.
     Text,
@@ -177,7 +177,7 @@ fn read_thing(alloc: Global, n: usize, registry: &[u8], value: &[u8]) -> Result<
     ensures fault { IfErr result (IsFaultOfNotes (thing_of n registry.now value.now)) }
 {
     if registry.is_empty() {
-        return read_authority(alloc, n, value);
+        return read_own(alloc, n, value);
     }
     let name = Name::read(registry).ok_or(NotesFault::Row(n, NotesPart::Registry))?;
     if value.is_empty() {
@@ -187,13 +187,15 @@ fn read_thing(alloc: Global, n: usize, registry: &[u8], value: &[u8]) -> Result<
     Ok(entry_thing(alloc, name.as_str(), value)?)
 }
 
-// The name of the authority, which has no value.
-fn read_authority(alloc: Global, n: usize, value: &[u8]) -> Result<String, NotesFault>
-    ensures thing { IfOk result (λ t. thing_of n [] value.now ≡ Ok (string_bytes t)) }
-    ensures fault { IfErr result (IsFaultOfNotes (thing_of n [] value.now)) }
+// What row n is about that is of no registry: the authority, or its desk.
+fn read_own(alloc: Global, n: usize, value: &[u8]) -> Result<String, NotesFault>
+    ensures thing { IfOk result (λ t. own_thing n value.now ≡ Ok (string_bytes t)) }
+    ensures fault { IfErr result (IsFaultOfNotes (own_thing n value.now)) }
 {
     if value.is_empty() {
-        Ok(String::new(alloc))
+        Ok(String::from_str(alloc, AUTHORITY)?)
+    } else if value == b"desk".as_slice() {
+        Ok(String::from_str(alloc, DESK)?)
     } else {
         Err(NotesFault::Row(n, NotesPart::Value))
     }

@@ -109,10 +109,13 @@ fn rfc_of(reference: &[u8]) -> Option<u32>
 fn address_of(reference: &[u8]) -> Option<&str>
     ensures { option_map (λ a. a.now) result ≡ address_of reference.now }
 {
-    if !reference.starts_with(b"https://".as_slice()) {
-        return None;
+    if reference.starts_with(b"https://".as_slice())
+        || reference.starts_with(b"http://".as_slice())
+    {
+        as_text(before_space(reference))
+    } else {
+        None
     }
-    as_text(before_space(reference))
 }
 
 fn digits_of(bytes: &[u8]) -> &[u8]

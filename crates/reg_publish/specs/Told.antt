@@ -11,10 +11,12 @@ use Rattle.reg_history.specs.Chain.{chained}
 use Rattle.reg_history.specs.Published.{published_facts}
 use Rattle.reg_changes.specs.declared.change.Fact.{Fact}
 use Rattle.reg_changes.specs.declared.change.HistoryRecord.{HistoryRecord}
+use Rattle.reg_pages.specs.Noted.{apply_lines, noted_in}
+use Rattle.reg_pages.specs.Notes.{authority}
 use Rattle.reg_pages.specs.declared.notes.Notes.{Notes}
 use Rattle.reg_publish.specs.declared.told.AllTold.{AllTold}
 use Rattle.reg_site.specs.IndexTree.{IndexRow}
-use Rattle.reg_site.specs.Site.{blocks_at, blocks_in, index_files, page_in, pages_at, pool_in, prefixes_at, rows_by, shown_files, told_to_all}
+use Rattle.reg_site.specs.Site.{blocks_at, blocks_in, change_files, index_files, page_in, pages_at, pool_in, prefixes_at, rows_by, shown_files, told_to_all}
 use Rattle.reg_site.specs.Sums.{Files}
 
 -- the registries among what is told
@@ -49,6 +51,11 @@ abbrev pub indexes_of : Option Notes → List HistoryRecord → AllTold → ℕ 
 indexes_of notes records all moment =
     indexes_by notes records (rows_by records (pages_of all.pages.items))
     (prefixes_of all.pool) (blocks_of all.blocks) moment
+
+-- the files of the last changes of a history, with notes
+abbrev pub changes_of : Option Notes → List HistoryRecord → Files
+changes_of notes records =
+    change_files (apply_lines notes) (noted_in notes authority) records (chained records).digests
 
 -- the files that show all that is told, with notes, and the last records
 abbrev pub shown_of : Option Notes → List HistoryRecord → AllTold → Files

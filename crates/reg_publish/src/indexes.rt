@@ -2,11 +2,12 @@
 ghost use Rattle.std.specs.Prelude.{◌≡◌, List, map, IfOk, OnOk};
 ghost use Rattle.std.specs.Option.{option_copied};
 ghost use Rattle.reg_publish.specs.Folder.{PlacesSummed};
-ghost use Rattle.reg_publish.specs.Told.{indexes_by, pages_of};
-ghost use Rattle.reg_history.specs.Chain.{chained};
+ghost use Rattle.reg_publish.specs.Told.{changes_of, indexes_by, pages_of};
 ghost use Rattle.reg_history.specs.Overview.{IsOverview, moment_by};
+ghost use Rattle.reg_pages.specs.Noted.{noted_in};
+ghost use Rattle.reg_pages.specs.Notes.{authority};
 ghost use Rattle.reg_site.specs.IndexTree.{row_of};
-ghost use Rattle.reg_site.specs.Site.{change_files, site_title as title_by};
+ghost use Rattle.reg_site.specs.Site.{site_title as title_by};
 ghost use Rattle.reg_site.specs.Summary.{summary};
 
 use crate::placing::put;
@@ -16,9 +17,8 @@ use reg_core::holding::Listed;
 use reg_core::told::Told;
 use reg_history::moment::moment_text;
 use reg_history::overview::Overview;
-use reg_pages::note::Note;
-use reg_pages::noted::of_authority;
-use reg_pages::notes::Notes;
+use reg_pages::noted::note_on;
+use reg_pages::notes::{AUTHORITY, Notes};
 use reg_site::changes::{changes_feed, changes_page};
 use reg_site::files::File;
 use reg_site::index::index_page;
@@ -37,24 +37,19 @@ pub(crate) fn publish_changes<F: Folder>(
     alloc: Global,
     folder: &mut F,
     sums: &mut Sums,
-    authority: Option<&Note>,
+    notes: Option<&Notes>,
     overview: &Overview,
 ) -> Result<(), Unpublished>
     ensures { OnOk result ((records : List HistoryRecord) → IsOverview overview.now records
         → PlacesSummed F.Puts folder.old folder.new sums.old sums.new
-        (change_files (option_copied authority.entry) records (chained records).digests)) }
+        (changes_of (option_copied notes.entry) records)) }
 {
     let changes = last_changes(alloc, overview)?;
-    let html = changes_page(alloc, authority, changes.as_slice())?;
+    let html = changes_page(alloc, notes, changes.as_slice())?;
     put(alloc, folder, sums, File::ChangesPage, &html)?;
     drop(html);
     let id = feed_id(alloc, overview.first_digest())?;
-    let feed = changes_feed(
-        alloc,
-        site_title(authority),
-        id.as_str(),
-        changes.as_slice(),
-    )?;
+    let feed = changes_feed(alloc, site_title(notes), id.as_str(), changes.as_slice())?;
     put(alloc, folder, sums, File::ChangesFeed, &feed)?;
     Ok(())
 }
@@ -83,7 +78,7 @@ pub(crate) fn publish_indexes<F: Folder>(
     let now = moment_text(alloc, moment)?;
     let tree = index_tree(
         alloc,
-        site_title(of_authority(notes)),
+        site_title(notes),
         now.as_str(),
         overview.count,
         text_of(overview.last_digest()),
@@ -94,10 +89,10 @@ pub(crate) fn publish_indexes<F: Folder>(
 }
 
 // The title of the site.
-fn site_title(authority: Option<&Note>) -> &str
-    ensures { result.now ≡ title_by (option_copied authority.entry) }
+fn site_title(notes: Option<&Notes>) -> &str
+    ensures { result.now ≡ title_by (noted_in (option_copied notes.entry) authority) }
 {
-    title_of(authority, "Registries")
+    title_of(note_on(notes, AUTHORITY), "Registries")
 }
 
 /// What is told of each registry beside others.

@@ -1,6 +1,6 @@
 //! Notes that no page shows.
 use reg_core::told::Told;
-use reg_pages::notes::Notes;
+use reg_pages::notes::{AUTHORITY, DESK, Notes};
 use reg_source::told::page_in;
 use reg_source::unpublished::Unpublished;
 use std::alloc::Global;
@@ -40,9 +40,9 @@ pub(crate) fn left_out(
     Ok(left)
 }
 
-// Whether a thing is the authority, a registry that was told, or an entry of one.
+// Whether a thing is the authority, its desk, a registry that was told, or an entry of one.
 fn is_shown(thing: &str, pages: &[Told]) -> Result<bool, Unpublished> {
-    if thing.is_empty() {
+    if thing == AUTHORITY || thing == DESK {
         return Ok(true);
     }
     match thing.split_once(',') {

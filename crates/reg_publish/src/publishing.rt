@@ -24,7 +24,6 @@ use reg_changes::change::HistoryRecord;
 use reg_history::history::History;
 use reg_history::overview::Overview;
 use reg_history::recorder::Recorded;
-use reg_pages::noted::of_authority;
 use reg_pages::notes::Notes;
 use reg_site::files::File;
 use reg_site::sums::Sums;
@@ -133,11 +132,10 @@ fn publish_shown<F: Folder>(
         → PlacesSummed F.Puts folder.old folder.new sums.old sums.new
         (shown_of (option_copied notes.entry) records told.now)) }
 {
-    let authority = of_authority(notes);
     publish_registries(alloc, folder, sums, notes, overview, told.pages.as_slice())?;
-    publish_blocks(alloc, folder, sums, authority, blocks_in(&told.blocks)?)?;
+    publish_blocks(alloc, folder, sums, notes, blocks_in(&told.blocks)?)?;
     publish_pool(alloc, folder, sums, pool_in(&told.pool)?)?;
-    publish_changes(alloc, folder, sums, authority, overview)?;
+    publish_changes(alloc, folder, sums, notes, overview)?;
     Ok(())
 }
 

@@ -7,6 +7,7 @@ ghost use Rattle.reg_history.specs.Overview.{IsOverview};
 ghost use Rattle.reg_publish.specs.Folder.{PlacesSummed};
 ghost use Rattle.reg_publish.specs.Told.{pages_of};
 ghost use Rattle.reg_pages.specs.Blocks.{assignments_text};
+ghost use Rattle.reg_pages.specs.Noted.{apply_lines};
 ghost use Rattle.reg_site.specs.Records.{records_text};
 ghost use Rattle.reg_site.specs.Registry.{registry_page};
 ghost use Rattle.reg_site.specs.Site.{block_files, one_file, page_files, pool_files, told_text};
@@ -22,7 +23,6 @@ use reg_core::reply::Reply;
 use reg_core::told::Told;
 use reg_history::overview::Overview;
 use reg_pages::blocks::{BlocksPage, assignments};
-use reg_pages::note::Note;
 use reg_pages::notes::Notes;
 use reg_print::answer::{Answer, body_of};
 use reg_print::listing::blocks::block_listing;
@@ -182,14 +182,14 @@ pub(crate) fn publish_blocks<F: Folder>(
     alloc: Global,
     folder: &mut F,
     sums: &mut Sums,
-    authority: Option<&Note>,
+    notes: Option<&Notes>,
     blocks: &[Listed],
 ) -> Result<(), Unpublished>
     ensures { OnOk result (PlacesSummed F.Puts folder.old folder.new sums.old sums.new
-        (block_files (option_copied authority.entry) blocks.now)) }
+        (block_files (apply_lines (option_copied notes.entry)) blocks.now)) }
 {
-    let digest = digest_of(alloc, &mut BlocksPage::of(blocks, authority))?;
-    let mut html = BlocksPage::of(blocks, authority);
+    let digest = digest_of(alloc, &mut BlocksPage::of(blocks, notes))?;
+    let mut html = BlocksPage::of(blocks, notes);
     put_portions(alloc, folder, sums, File::BlocksPage, digest, &mut html)?;
     put_block_listing(alloc, folder, sums, blocks)?;
     put_size(alloc, folder, sums, Size::MaL, blocks)?;

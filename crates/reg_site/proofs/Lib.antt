@@ -1,5 +1,5 @@
 pub mod NotesAgree
-pub mod NotEmpty
+pub mod Escaped
 pub mod Numbered
 pub mod Mapped
 pub mod Merging

@@ -9,13 +9,13 @@ use Rattle.reg_history.specs.Chain.{chained, last_digest}
 use Rattle.reg_history.specs.Moment.{moment_text}
 use Rattle.reg_changes.specs.Recorded.{last_changed}
 use Rattle.reg_changes.specs.declared.change.HistoryRecord.{HistoryRecord}
-use Rattle.reg_pages.specs.Notes.{entry_thing}
+use Rattle.reg_pages.specs.Notes.{desk, entry_thing}
 use Rattle.reg_pages.specs.declared.notes.Notes.{Notes}
 use Rattle.reg_print.specs.Listing.{ListedRow, closed_status, entry_row, free_row, free_rows, is_in, page_rows, range_rows, rows_by, rows_from}
 use Rattle.reg_print.specs.declared.listing.rows.RowStatus.{RowStatus}
 use Rattle.reg_ranges.specs.declared.range.Range.{Range}
 use Rattle.reg_site.specs.Laws.{AgreeOnPage, NotesOnNothingAreHidden}
-use Rattle.reg_pages.specs.Noted.{noted_in, note_of_row}
+use Rattle.reg_pages.specs.Noted.{apply_by, noted_in, note_of_row}
 use Rattle.reg_site.specs.Records as records
 use Rattle.reg_site.specs.Registry as registry
 use Rattle.reg_site.specs.Files.{path_of}
@@ -102,11 +102,13 @@ records_same a b name (row ∷ rows) h =
     ap₂ (λ x xs. x ∷ xs) (ap (records.record_with row) h.0) (records_same a b name rows h.1)
 
 pub page_same : (a b : Option Notes) (changed : List ℕ) (page : Page) → noted_in a [] ≡ noted_in b []
-    → AgreeOnPage a b page → registry.registry_page a changed page ≡ registry.registry_page b changed page
+    → noted_in a desk ≡ noted_in b desk → AgreeOnPage a b page
+    → registry.registry_page a changed page ≡ registry.registry_page b changed page
 unfolding registry.page_by
-page_same a b changed page authority h =
+page_same a b changed page authority of_desk h =
     rw (
       authority,
+      of_desk,
       h.registry,
       rows_same a b page.name (page_rows page)
           (ranges_agree a b page.name page.entries page.table.ranges h.entries),
@@ -123,9 +125,9 @@ file_same a b day page h =
     ) refl
 
 files_same : (a b : Option Notes) (records : List HistoryRecord) (page : Page)
-    → noted_in a [] ≡ noted_in b [] → AgreeOnPage a b page
+    → noted_in a [] ≡ noted_in b [] → noted_in a desk ≡ noted_in b desk → AgreeOnPage a b page
     → page_files a records page ≡ page_files b records page
-files_same a b records page authority h =
+files_same a b records page authority of_desk h =
     let changed = last_changed records page.name in
     ap₂
     (λ html xml.
@@ -134,16 +136,17 @@ files_same a b records page authority h =
     ∷ (path_of (file.RegistryTree page.name), told_text (tells.Page page))
     ∷ (path_of (file.RegistryRecords page.name), xml)
     ∷ [])
-    (page_same a b changed page authority h)
+    (page_same a b changed page authority of_desk h)
     (file_same a b (day_part changed) page h)
 
 all_files_same : (a b : Option Notes) (records : List HistoryRecord) (pages : List Page)
-    → noted_in a [] ≡ noted_in b [] → AllByRecursion (AgreeOnPage a b) pages
+    → noted_in a [] ≡ noted_in b [] → noted_in a desk ≡ noted_in b desk
+    → AllByRecursion (AgreeOnPage a b) pages
     → flat_map (page_files a records) pages ≡ flat_map (page_files b records) pages
-all_files_same a b records [] authority h = refl
-all_files_same a b records (page ∷ pages) authority h =
-    ap₂ (λ xs ys. xs ++ ys) (files_same a b records page authority h.0)
-    (all_files_same a b records pages authority h.1)
+all_files_same a b records [] authority of_desk h = refl
+all_files_same a b records (page ∷ pages) authority of_desk h =
+    ap₂ (λ xs ys. xs ++ ys) (files_same a b records page authority of_desk h.0)
+    (all_files_same a b records pages authority of_desk h.1)
 
 -- ---- The indexes
 
@@ -158,20 +161,22 @@ registers_same a b records (page ∷ pages) h =
 
 indexes_same : (a b : Option Notes) (records : List HistoryRecord) (digests : List (List ℕ))
     (pages : List Page) (prefixes : List ℕ) (rows : List Listed) (moment : ℕ)
-    → noted_in a [] ≡ noted_in b [] → AllByRecursion (AgreeOnPage a b) pages
+    → noted_in a [] ≡ noted_in b [] → noted_in a desk ≡ noted_in b desk
+    → AllByRecursion (AgreeOnPage a b) pages
     → index_files a digests (registers_by records pages) prefixes rows moment
     ≡ index_files b digests (registers_by records pages) prefixes rows moment
-indexes_same a b records digests pages prefixes rows moment authority h =
-    ap₂
-    (λ note shown.
-    (path_of file.Index, index_by_rows note shown prefixes rows moment)
+indexes_same a b records digests pages prefixes rows moment authority of_desk h =
+    let shown = registers_same a b records pages h in
+    λ i. (
+      path_of file.Index,
+      index_by_rows (authority i) (apply_by (authority i) (of_desk i)) (shown i) prefixes rows moment,
+    )
     ∷ (
       path_of file.IndexTree,
-      index_tree (site_title note) (moment_text moment) (length digests)
+      index_tree (site_title (authority i)) (moment_text moment) (length digests)
           (text_of (last_digest digests)) (registers_by records pages),
     )
-    ∷ [])
-    authority (registers_same a b records pages h)
+    ∷ []
 
 pub notes_on_nothing_are_hidden : NotesOnNothingAreHidden
 notes_on_nothing_are_hidden a b records p moment h =
@@ -179,11 +184,13 @@ notes_on_nothing_are_hidden a b records p moment h =
     let pages = pages_at p moment in
     let rows = blocks_at p moment in
     let prefixes = prefixes_at p moment in
-    let same = all_files_same a b records pages h.authority h.pages in
-    let indexes = indexes_same a b records digests pages prefixes rows moment h.authority h.pages in
+    let lines = ap₂ apply_by h.authority h.of_desk in
+    let same = all_files_same a b records pages h.authority h.of_desk h.pages in
+    let indexes =
+    indexes_same a b records digests pages prefixes rows moment h.authority h.of_desk h.pages in
     λ i. with_sums_file
     ((one_file file.Changes (chained records).text
     ++ (same i
-    ++ (block_files (h.authority i) rows
-    ++ (pool_files prefixes ++ change_files (h.authority i) records digests))))
+    ++ (block_files (lines i) rows
+    ++ (pool_files prefixes ++ change_files (lines i) (h.authority i) records digests))))
     ++ indexes i)

@@ -8,7 +8,7 @@ use Rattle.reg_changes.specs.declared.change.HistoryRecord.{HistoryRecord}
 use Rattle.reg_history.specs.declared.overview.Overview.{Overview}
 use Rattle.reg_history.specs.declared.overview.Tied.{Tied}
 use Rattle.reg_history.proofs.Histories.{counted}
-use Rattle.reg_site.specs.Recent.{changed, last_changes, numbered}
+use Rattle.reg_site.specs.Recent.{changed, last_records, numbered}
 
 numbered_last : (n i : ℕ) (rs : List HistoryRecord) (ds : List (List ℕ)) (r : HistoryRecord) (d : List ℕ)
     → length rs ≡ i → length ds ≡ i
@@ -35,12 +35,12 @@ numbered_more n i rs ds r d h k is also first second =
     ∙ ap (λ xs. numbered n xs (take i ds ++ d ∷ [])) (sym (one_more rs i r h is))
     ∙ ap (λ ys. numbered n (take (i + 1) rs) ys) (sym (one_more ds i d k also))
 
--- the recent records of a history are its last changes
+-- the recent records of a history are its last records
 pub recent_numbered : (o : Overview) (records : List HistoryRecord) (before : ℕ) → IsOverview o records
     → before ≡ o.count - length o.recent.items
     → reverse (numbered (before + 1) (map (λ t. t.row) o.recent.items)
     (map (λ t. t.digest) o.recent.items))
-    ≡ last_changes records (chained records).digests
+    ≡ last_records records (chained records).digests
 recent_numbered o records before is counts =
     let ds = (chained records).digests in
     let n : ℕ = length records - 200 in

@@ -1,5 +1,5 @@
 -- Portions of a page.
-use Rattle.std.proofs.Common.{◌≡◌, ℕ, ◌+◌, ◌<◌, ◌≤◌, List, [], ◌∷◌, ◌++◌, length, get_or, drop, map, nat_lt, if◌then◌else◌, true, false, refl, sym, ap, ◌∙◌, append-nil, append_assoc, add-one, drop-cons, arith, Option}
+use Rattle.std.proofs.Common.{◌≡◌, ℕ, ◌+◌, ◌<◌, ◌≤◌, List, [], ◌∷◌, ◌++◌, length, get_or, drop, map, nat_lt, true, false, refl, sym, ap, ◌∙◌, append_assoc, arith, Option}
 use Rattle.std.proofs.lemmas.Bool.Decides.{nat_tests}
 use Rattle.std.proofs.lemmas.List.{drop_all}
 use Rattle.reg_core.specs.declared.entry.PageEntry.{PageEntry}

@@ -21,7 +21,8 @@ use Rattle.reg_pages.specs.declared.notes.Notes.{Notes}
 use Rattle.reg_ranges.specs.Tables.{Table}
 use Rattle.reg_site.specs.Laws.{FilesStayInside, ListingsAreOfPages, MomentsStandOnTheIndex, PrivateHoldersAreUnpublished, SameRegistersSameSite, SitesAreOfAnswers, PathStaysInside}
 use Rattle.reg_site.specs.IndexTree.{IndexRow}
-use Rattle.reg_pages.specs.Noted.{noted_in}
+use Rattle.reg_pages.specs.Markup.{Markup}
+use Rattle.reg_pages.specs.Noted.{apply_lines, noted_in}
 use Rattle.reg_site.specs.Site.{block_files, change_files, index_files, one_file, page_files, pool_files, rows_by, site, steady_files, summed_files}
 use Rattle.reg_site.specs.Sums.{sums_text}
 use Rattle.reg_site.specs.declared.files.File.TheVariants as file
@@ -115,9 +116,9 @@ pages_inside notes records (page ∷ pages) h =
       ),
     )
 
-blocks_inside : (authority : Option Note) (rows : List Listed)
-    → AllByRecursion Inside (block_files authority rows)
-blocks_inside authority rows = (
+blocks_inside : (lines : Markup) (rows : List Listed)
+    → AllByRecursion Inside (block_files lines rows)
+blocks_inside lines rows = (
   on_top (codes "blocks") (codes "html") refl refl,
   (
     on_top (codes "blocks") (codes "csv") refl refl,
@@ -137,9 +138,9 @@ pool_inside prefixes = (
   (on_top (codes "style") (codes "css") refl refl, tt),
 )
 
-changes_inside : (authority : Option Note) (records : List HistoryRecord) (digests : List (List ℕ))
-    → AllByRecursion Inside (change_files authority records digests)
-changes_inside authority records digests = (
+changes_inside : (lines : Markup) (authority : Option Note) (records : List HistoryRecord)
+    (digests : List (List ℕ)) → AllByRecursion Inside (change_files lines authority records digests)
+changes_inside lines authority records digests = (
   on_top (codes "changes") (codes "html") refl refl,
   (on_top (codes "changes") (codes "atom") refl refl, tt),
 )
@@ -155,11 +156,12 @@ index_inside notes digests registers prefixes rows moment = (
 pub files_stay_inside : FilesStayInside
 files_stay_inside notes records pages prefixes rows moment h =
     let authority = noted_in notes [] in
+    let lines = apply_lines notes in
     let text = (chained records).text in
     let digests = (chained records).digests in
-    let changed = change_files authority records digests in
+    let changed = change_files lines authority records digests in
     let pooled = pool_files prefixes ++ changed in
-    let given = block_files authority rows ++ pooled in
+    let given = block_files lines rows ++ pooled in
     let told = flat_map (page_files notes records) pages ++ given in
     let indexed = index_files notes digests (rows_by records pages) prefixes rows moment in
     all-append Inside
@@ -169,9 +171,9 @@ files_stay_inside notes records pages prefixes rows moment h =
       on_top (codes "changes") (codes "csv") refl refl,
       all-append Inside (flat_map (page_files notes records) pages) given
           (pages_inside notes records pages h)
-          (all-append Inside (block_files authority rows) pooled (blocks_inside authority rows)
+          (all-append Inside (block_files lines rows) pooled (blocks_inside lines rows)
           (all-append Inside (pool_files prefixes) changed (pool_inside prefixes)
-          (changes_inside authority records digests))),
+          (changes_inside lines authority records digests))),
     )
     (index_inside notes digests (rows_by records pages) prefixes rows moment))
     (inr refl, tt)

@@ -1,12 +1,10 @@
 -- The last changes of the registers, as a page and as a feed (RFC 4287). The last change is the first here.
-use Rattle.std.specs.Prelude.{ℕ, List, [], ◌∷◌, ◌++◌, take, map, codes, Option, Some, if◌then◌else◌}
+use Rattle.std.specs.Prelude.{ℕ, List, [], ◌∷◌, ◌++◌, take, map, codes, if◌then◌else◌}
 use Rattle.std.specs.Fmt.{decimal}
 use Rattle.std.specs.Str.{bytes_eq}
-use Rattle.reg_pages.specs.Document.{attribute, document, link, page_with_feed, plain}
-use Rattle.reg_pages.specs.Markup.{Attribute, Markup, nothing, text, element, beside, all_of, markup_then}
-use Rattle.reg_pages.specs.Table.{cell, head_cell, row_of, table}
-use Rattle.reg_pages.specs.declared.note.Note.{Note}
-use Rattle.reg_pages.specs.Noted.{apply_line}
+use Rattle.reg_pages.specs.Document.{attribute, document, link, page, plain}
+use Rattle.reg_pages.specs.Markup.{Attribute, Markup, nothing, text, element, beside, all_of, markup_then, opening_then}
+use Rattle.reg_pages.specs.Table.{cell, group, head_cell, row_of, table}
 use Rattle.reg_site.specs.declared.changes.ChangeRow.{ChangeRow}
 
 -- ---- A change
@@ -15,6 +13,7 @@ use Rattle.reg_site.specs.declared.changes.ChangeRow.{ChangeRow}
 pub record Changed : Type 0 where
   pub number : ℕ
   pub moment : List ℕ
+  pub month : List ℕ
   pub register : List ℕ
   pub kind : List ℕ
   -- what was done, and the day that these words want
@@ -29,6 +28,7 @@ abbrev pub shown : ChangeRow → Changed
 shown c = record {
   number = c.number;
   moment = c.moment.now;
+  month = c.month.now;
   register = c.register.now;
   kind = c.kind.now;
   words = c.words.now;
@@ -38,37 +38,41 @@ shown c = record {
   digest = c.digest.now;
 }
 
--- what was done, with its day
-abbrev pub said_of : Changed → List ℕ
-said_of c = c.words ++ c.until
-
 -- ---- Where a change is
 
--- where what was changed is shown, from the folder of the site on: an entry or a range on the page of its
--- register, a block on the page of the blocks, and a prefix on the first page
+-- Where what was changed is shown, from the folder of the site on: a new register on its page, an entry
+-- there too, a block on the page of the blocks, and a prefix on the first page.
 abbrev pub place_of : Changed → List ℕ
 place_of c =
-    if bytes_eq c.kind (codes "range")
-    then codes "registries/" ++ (c.register ++ (codes ".html#r" ++ c.value))
+    if bytes_eq c.kind (codes "registry") then codes "registries/" ++ (c.value ++ codes ".html")
     else if bytes_eq c.kind (codes "block") then codes "blocks.html#b" ++ c.value
     else if bytes_eq c.kind (codes "prefix") then codes "index.html"
     else codes "registries/" ++ (c.register ++ (codes ".html#v" ++ c.value))
 
 -- ---- The page
 
--- a change as a row, by what it is found, where it is and its texts
-abbrev pub row_by : List ℕ → List ℕ → List ℕ → List ℕ → List ℕ → List ℕ → List ℕ → List ℕ → Markup
-row_by name number place moment register said value description =
-    row_of (Some name)
-    (beside (head_cell (Some name) number)
-    (beside (all_of (map cell (moment ∷ register ∷ said ∷ [])))
-    (beside (plain (codes "td") (link place value)) (cell description))))
-
 -- a change as a row, found by c and its number
 abbrev pub change_row : Changed → Markup
 change_row c =
-    row_by (codes "c" ++ decimal c.number) (decimal c.number) (place_of c) c.moment c.register
-    (said_of c) c.value c.description
+    row_of (codes "c" ++ decimal c.number)
+    (beside (head_cell (codes "c" ++ decimal c.number) (decimal c.number))
+    (beside (cell c.moment)
+    (beside (cell c.register)
+    (beside (plain (codes "td") (beside (text c.words) (text c.until)))
+    (beside (plain (codes "td") (link (place_of c) c.value)) (cell c.description))))))
+
+-- a month as a row that heads its changes, unless it is the one before
+abbrev pub month_row : List ℕ → List ℕ → Markup
+month_row before month = if bytes_eq before month then nothing else group month (codes "6")
+
+-- a change behind one of this month
+abbrev pub row_behind : List ℕ → Changed → Markup
+row_behind before c = beside (month_row before c.month) (change_row c)
+
+-- the same of changes in turn
+abbrev pub change_rows : List ℕ → List Changed → Markup
+change_rows before [] = nothing
+change_rows before (c ∷ more) = beside (row_behind before c) (change_rows c.month more)
 
 abbrev pub change_columns : List (List ℕ)
 change_columns =
@@ -77,7 +81,7 @@ change_columns =
 
 abbrev pub changes_table : List Changed → Markup
 changes_table changes =
-    table (codes "Latest changes") change_columns (all_of (map change_row changes))
+    table (codes "changes") (codes "Latest changes") change_columns (change_rows [] changes)
 
 -- changes as a table, or that there are none
 abbrev pub changes_shown : List Changed → Markup
@@ -92,14 +96,14 @@ change_links =
     ∷ link (codes "changes.csv") (codes "CSV") ∷ text (codes " ")
     ∷ link (codes "changes.atom") (codes "Atom") ∷ []))
 
--- the page of the last 200 changes, with what is noted about the authority; its head names the feed
-abbrev pub changes_markup : Option Note → List Changed → Markup
-changes_markup authority changes =
-    page_with_feed (codes "style.css") (codes "changes.atom") (codes "Changes")
-    (all_of (change_links ∷ apply_line authority ∷ changes_shown (take 200 changes) ∷ []))
+-- the page of the last 200 changes, with these lines about where to apply
+abbrev pub changes_markup : Markup → List Changed → Markup
+changes_markup lines changes =
+    page (codes "style.css") (codes "changes.atom") (codes "Changes")
+    (all_of (change_links ∷ lines ∷ changes_shown (take 200 changes) ∷ []))
 
-unfoldable pub changes_page : Option Note → List Changed → List ℕ
-changes_page authority changes = document (changes_markup authority changes)
+unfoldable pub changes_page : Markup → List Changed → List ℕ
+changes_page lines changes = document (changes_markup lines changes)
 
 -- ---- The feed
 
@@ -107,31 +111,29 @@ changes_page authority changes = document (changes_markup authority changes)
 abbrev pub urn : List ℕ → List ℕ
 urn digest = codes "urn:sha256:" ++ digest
 
--- an entry of the feed, by its title, its id, where it is, when it was, and its words
-abbrev pub entry_by : List ℕ → List ℕ → List ℕ → List ℕ → List ℕ → Markup
-entry_by title id place moment description =
-    beside
-    (plain (codes "entry")
-    (beside (plain (codes "title") (text title))
-    (beside (plain (codes "id") (text id))
-    (beside (plain (codes "updated") (text moment))
-    (beside (element (codes "link") (attribute (codes "href") place ∷ []) nothing)
-    (plain (codes "summary") (text description)))))))
-    (text (codes "\n"))
-
--- what was changed: a value of a register, or digits
-abbrev pub subject_of : List ℕ → List ℕ → List ℕ
-subject_of [] value = value
-subject_of (b ∷ more) value = (b ∷ more) ++ (codes " " ++ value)
+-- the register in a title, before what was changed of it; nothing where it is empty
+abbrev pub register_part : List ℕ → Markup
+register_part [] = nothing
+register_part (b ∷ more) = beside (text (b ∷ more)) (text (codes " "))
 
 -- the title of a change: what was changed, and what was done
-abbrev pub change_title : Changed → List ℕ
-change_title c = subject_of c.register c.value ++ (codes ": " ++ said_of c)
+abbrev pub change_title : Changed → Markup
+change_title c =
+    plain (codes "title")
+    (beside (register_part c.register)
+    (beside (text c.value) (beside (text (codes ": ")) (beside (text c.words) (text c.until)))))
 
 -- A change as an entry of the feed. Its id is its digest, which no other change has.
 abbrev pub change_entry : Changed → Markup
 change_entry c =
-    entry_by (change_title c) (urn c.digest) (place_of c) c.moment c.description
+    beside
+    (plain (codes "entry")
+    (beside (change_title c)
+    (beside (plain (codes "id") (text (urn c.digest)))
+    (beside (plain (codes "updated") (text c.moment))
+    (beside (element (codes "link") (attribute (codes "href") (place_of c) ∷ []) nothing)
+    (plain (codes "summary") (text c.description)))))))
+    (text (codes "\n"))
 
 -- when the last change was
 abbrev pub last_moment : List Changed → List ℕ
@@ -160,3 +162,9 @@ changes_feed title id changes =
     (beside (feed_head title id (last_moment changes))
     (all_of (map change_entry (take 100 changes)))))
     (codes "\n")
+
+-- the same up to the end of its head, and then the rest
+abbrev pub feed_start : List ℕ → List ℕ → List ℕ → List ℕ → List ℕ
+feed_start title id moment rest =
+    codes "<?xml version=\"1.0\" encoding=\"UTF-8\"?>\n"
+    ++ opening_then (codes "feed") feed_attributes (markup_then (feed_head title id moment) rest)

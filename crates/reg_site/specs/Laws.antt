@@ -20,7 +20,7 @@ use Rattle.reg_core.specs.declared.reply.Reply.TheVariants.{Accepted}
 use Rattle.reg_core.specs.declared.told.Told.TheVariants as tells
 use Rattle.reg_history.specs.Chain.{chained}
 use Rattle.reg_changes.specs.declared.change.HistoryRecord.{HistoryRecord}
-use Rattle.reg_pages.specs.Notes.{entry_thing}
+use Rattle.reg_pages.specs.Notes.{desk, entry_thing}
 use Rattle.reg_pages.specs.declared.notes.Notes.{Notes}
 use Rattle.reg_pages.specs.Blocks.{block_row, row_by}
 use Rattle.reg_pages.specs.Noted.{noted_in}
@@ -91,8 +91,7 @@ abbrev pub PrivateHoldersAreUnpublished : Type 0
 PrivateHoldersAreUnpublished =
     (block : SizedPrefix) (h : Holder) → h.private ≡ true
     → block_row (listed_row block (masked h))
-    ≡ row_by (codes "b" ++ block_text block) (word_of block.size) (block_text block)
-    (codes "Private") []
+    ≡ row_by (word_of block.size) (block_text block) (codes "Private") []
 
 -- ---- Notes
 
@@ -103,13 +102,15 @@ pub record AgreeOnPage (a b : Option Notes) (page : Page) : Type 0 where
       (λ e. noted_in a (entry_thing page.name e.value) ≡ noted_in b (entry_thing page.name e.value))
       page.entries
 
--- they say the same about the authority, and about each registry that is published and its entries
+-- they say the same about the authority and its desk, and about each registry that is published and its
+-- entries
 pub record AgreeOnPublished (a b : Option Notes) (p : Published) (moment : ℕ) : Type 0 where
   pub authority : noted_in a [] ≡ noted_in b []
+  pub of_desk : noted_in a desk ≡ noted_in b desk
   pub pages : AllByRecursion (AgreeOnPage a b) (pages_at p moment)
 
 -- A note on a value without an entry has no effect on any byte of any file: notes that say the same about
--- the authority, the registries and the entries that are published give the same site.
+-- the authority, its desk, the registries and the entries that are published give the same site.
 abbrev pub NotesOnNothingAreHidden : Type 0
 NotesOnNothingAreHidden =
     (a b : Option Notes) (records : List HistoryRecord) (p : Published) (moment : ℕ)

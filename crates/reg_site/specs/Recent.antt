@@ -1,6 +1,7 @@
 -- The last changes that a history has.
-use Rattle.std.specs.Prelude.{ℕ, ◌+◌, ◌-◌, List, [], ◌∷◌, ◌++◌, codes, drop, length, reverse, slice_get, unwrap_or, take}
-use Rattle.std.specs.Str.{is_utf8}
+use Rattle.std.specs.Prelude.{ℕ, ◌+◌, ◌-◌, Bool, ◌&&◌, not, nat_eq, if◌then◌else◌, List, [], ◌∷◌, ◌++◌, codes, drop, filter, length, reverse, slice_get, unwrap_or, take}
+use Rattle.std.specs.List.{starts_with}
+use Rattle.std.specs.Str.{bytes_eq, is_utf8}
 use Rattle.reg_history.specs.Chain.{chained}
 use Rattle.reg_changes.specs.Recorded.{change_word, description_of, registry_of, value_of}
 use Rattle.reg_changes.specs.declared.change.Class.{Class}
@@ -19,7 +20,7 @@ text_of bytes = unwrap_or (read_text is_utf8 bytes) []
 
 -- what is done when a subject of this class is first published
 abbrev pub made_words : Class → List ℕ
-made_words class.Range = codes "range defined"
+made_words class.Range = codes "registry defined"
 made_words class.Entry = codes "assigned"
 made_words class.Prefix = codes "prefix added"
 made_words class.Block = codes "block assigned"
@@ -47,13 +48,40 @@ abbrev pub until_of : PublishedChange → List ℕ
 until_of (Made fact) = []
 until_of (Term registry value standing) = until_day standing.expires standing.held
 
+-- ---- Moments
+
+-- the first bytes of a moment
+abbrev pub front_of : ℕ → List ℕ → List ℕ
+front_of count moment = text_of (take count moment)
+
+-- the day of a moment, as YYYY-MM-DD
+abbrev pub day_part : List ℕ → List ℕ
+day_part moment = front_of 10 moment
+
+-- the month of a moment, as YYYY-MM
+abbrev pub month_part : List ℕ → List ℕ
+month_part moment = front_of 7 moment
+
 -- ---- The records
+
+-- a range of a new registry
+abbrev pub is_range : Changed → Bool
+is_range c = bytes_eq c.kind (codes "range")
+
+-- Each registry has one range that begins at 0, and is published with all its ranges. That one is shown as
+-- the registry, and the others are not.
+abbrev pub with_registry : Changed → Changed
+with_registry c =
+    if is_range c && starts_with nat_eq c.value (codes "0")
+    then record c { register = []; kind = codes "registry"; value = c.register; description = [] }
+    else c
 
 -- a record as texts, by its number and its digest
 abbrev pub changed : ℕ → HistoryRecord → List ℕ → Changed
-changed number r digest = record {
+changed number r digest = with_registry (record {
   number = number;
   moment = r.moment;
+  month = month_part r.moment;
   register = registry_of r.change;
   kind = change_word r.change;
   words = words_of r.change;
@@ -61,7 +89,7 @@ changed number r digest = record {
   value = value_of r.change;
   description = description_of r.change;
   digest = text_of digest;
-}
+})
 
 -- records that have numbers from this one on, with their digests
 abbrev pub numbered : ℕ → List HistoryRecord → List (List ℕ) → List Changed
@@ -71,10 +99,14 @@ numbered number (r ∷ records) (digest ∷ digests) =
     changed number r digest ∷ numbered (number + 1) records digests
 
 -- the last 200 records with these digests, of which the last one comes first
-abbrev pub last_changes : List HistoryRecord → List (List ℕ) → List Changed
-last_changes records digests =
+abbrev pub last_records : List HistoryRecord → List (List ℕ) → List Changed
+last_records records digests =
     let before = length records - 200 in
     reverse (numbered (before + 1) (drop before records) (drop before digests))
+
+-- those of them that are shown: all but ranges
+abbrev pub last_changes : List HistoryRecord → List (List ℕ) → List Changed
+last_changes records digests = filter (λ c. not (is_range c)) (last_records records digests)
 
 -- the same of a history
 abbrev pub recent : List HistoryRecord → List Changed
@@ -86,7 +118,3 @@ feed_id digest = urn (text_of digest ++ codes "#changes")
 
 abbrev pub first_digest : List (List ℕ) → List ℕ
 first_digest digests = unwrap_or (slice_get digests 0) []
-
--- the day of a moment, as YYYY-MM-DD
-abbrev pub day_part : List ℕ → List ℕ
-day_part moment = text_of (take 10 moment)

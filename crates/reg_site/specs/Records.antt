@@ -1,5 +1,5 @@
 -- A registry in the form in which IANA publishes registries (XML 1.0), in portions.
-use Rattle.std.specs.Prelude.{ℕ, List, [], ◌∷◌, ◌++◌, drop, map, codes, Option, Some, None, option_map}
+use Rattle.std.specs.Prelude.{ℕ, List, [], ◌∷◌, ◌++◌, drop, map, codes, Option, option_map}
 use Rattle.reg_core.specs.declared.page.Page.{Page}
 use Rattle.reg_early.specs.declared.term.Status.TheVariants as term
 use Rattle.reg_pages.specs.Document.{attribute, plain}
@@ -10,7 +10,7 @@ use Rattle.reg_print.specs.Listing.{ListedRow, expiry_text, first_text, page_row
 use Rattle.reg_print.specs.declared.listing.rows.RowStatus.{RowStatus}
 use Rattle.reg_print.specs.declared.listing.rows.RowStatus.TheVariants.{Unassigned, Reserved, PrivateUse, ExperimentalUse, HierarchicalAllocation, Entry}
 use Rattle.reg_ranges.specs.declared.range.Range.{Range}
-use Rattle.reg_pages.specs.Noted.{noted_in, note_of_row}
+use Rattle.reg_pages.specs.Noted.{noted_in, note_of_row, reference_in, title_in}
 use Rattle.reg_site.specs.Policy.{treatment_name}
 use Rattle.reg_pages.specs.Reference.{xref_of}
 use Rattle.reg_pages.specs.declared.portions.Next.{Next}
@@ -44,18 +44,13 @@ described PrivateUse note first expires = codes "Private Use"
 described ExperimentalUse note first expires = codes "Experimental Use"
 described HierarchicalAllocation note first expires = codes "Hierarchical Allocation"
 
--- what a note refers to; nothing where there is no note
-abbrev pub noted_xref : Option Note → Markup
-noted_xref None = nothing
-noted_xref (Some n) = xref_of n.reference
-
 -- a record on a line of its own, by its day, its values, what they are for, and what is noted
 abbrev pub record_by : List ℕ → List ℕ → List ℕ → Option Note → Markup
 record_by first values words note =
     beside
     (element (codes "record") (dated first)
     (beside (plain (codes "value") (text values))
-    (beside (plain (codes "description") (text words)) (noted_xref note))))
+    (beside (plain (codes "description") (text words)) (xref_of (reference_in note)))))
     (text (codes "\n"))
 
 -- the record of a row, with what is noted about its entry
@@ -91,10 +86,9 @@ abbrev pub title_or : List ℕ → List ℕ → List ℕ
 title_or [] name = name
 title_or (b ∷ title) name = b ∷ title
 
--- the same of a note; the name where there is none
+-- the same of a note
 abbrev pub title_of : Option Note → List ℕ → List ℕ
-title_of None name = name
-title_of (Some n) name = title_or n.title name
+title_of note name = title_or (title_in note) name
 
 -- the day of the last change; nothing where it is not known
 abbrev pub updated : List ℕ → Markup

@@ -26,7 +26,9 @@ use Rattle.reg_site.specs.Changes.{changes_feed, changes_page}
 use Rattle.reg_site.specs.Files.{path_of}
 use Rattle.reg_site.specs.Index.{index_page}
 use Rattle.reg_site.specs.IndexTree.{IndexRow, index_tree}
-use Rattle.reg_pages.specs.Noted.{noted_in}
+use Rattle.reg_pages.specs.Markup.{Markup}
+use Rattle.reg_pages.specs.Noted.{apply_lines, noted_in}
+use Rattle.reg_pages.specs.Notes.{authority}
 use Rattle.reg_site.specs.Recent.{day_part, feed_id, first_digest, last_changes, text_of}
 use Rattle.reg_site.specs.Records.{records_text, title_of}
 use Rattle.reg_site.specs.Registry.{registry_page}
@@ -105,10 +107,10 @@ page_files notes records page =
     )
     ∷ []
 
--- the files of the blocks
-abbrev pub block_files : Option Note → List Listed → Files
-block_files authority rows =
-    (path_of file.BlocksPage, blocks_page authority rows)
+-- the files of the blocks, with these lines about where to apply
+abbrev pub block_files : Markup → List Listed → Files
+block_files lines rows =
+    (path_of file.BlocksPage, blocks_page lines rows)
     ∷ (path_of file.BlocksListing, told_text (tells.Blocks rows))
     ∷ (path_of (file.Assignments MaL), assignments_text MaL rows)
     ∷ (path_of (file.Assignments MaM), assignments_text MaM rows)
@@ -120,10 +122,10 @@ abbrev pub pool_files : List ℕ → Files
 pool_files prefixes =
     (path_of file.Pool, told_text (tells.Pool prefixes)) ∷ (path_of file.Style, STYLE.now) ∷ []
 
--- the last changes of a history whose records have these digests
-abbrev pub change_files : Option Note → List HistoryRecord → List (List ℕ) → Files
-change_files authority records digests =
-    (path_of file.ChangesPage, changes_page authority (last_changes records digests))
+-- the last changes of a history whose records have these digests, with these lines
+abbrev pub change_files : Markup → Option Note → List HistoryRecord → List (List ℕ) → Files
+change_files lines authority records digests =
+    (path_of file.ChangesPage, changes_page lines (last_changes records digests))
     ∷ (
       path_of file.ChangesFeed,
       changes_feed (site_title authority) (feed_id (first_digest digests)) (last_changes records digests),
@@ -140,7 +142,7 @@ index_files notes digests registers prefixes rows moment =
     (path_of file.Index, index_page notes registers prefixes rows moment)
     ∷ (
       path_of file.IndexTree,
-      index_tree (site_title (noted_in notes [])) (moment_text moment) (length digests)
+      index_tree (site_title (noted_in notes authority)) (moment_text moment) (length digests)
           (text_of (last_digest digests)) registers,
     )
     ∷ []
@@ -152,8 +154,9 @@ abbrev pub shown_files : Option Notes → List HistoryRecord → List (List ℕ)
     → Files
 shown_files notes records digests pages prefixes rows =
     flat_map (page_files notes records) pages
-    ++ (block_files (noted_in notes []) rows
-    ++ (pool_files prefixes ++ change_files (noted_in notes []) records digests))
+    ++ (block_files (apply_lines notes) rows
+    ++ (pool_files prefixes
+    ++ change_files (apply_lines notes) (noted_in notes authority) records digests))
 
 -- the files on which no moment stands but those of the changes: the history first, and then those that
 -- show what is published

@@ -1,17 +1,18 @@
-//! The last changes of the registers, as a page and as a feed (RFC 4287).
-ghost use Rattle.std.specs.Prelude.{◌≡◌, ◌++◌, codes, map, string_bytes, take, IfOk, OnOk};
-ghost use Rattle.std.specs.Option.{option_copied};
+//! The last changes of the registers, as a page and as an Atom feed (RFC 4287).
+ghost use Rattle.std.specs.Prelude.{◌≡◌, ◌++◌, [], map, take, IfOk, OnOk};
 ghost use Rattle.reg_pages.specs.Appended.{Appended, Shown};
 ghost use Rattle.reg_pages.specs.Escape.{escaped};
-ghost use Rattle.reg_pages.specs.Markup.{all_of, opening_then};
-ghost use Rattle.reg_site.specs.Changes.{change_entry, change_links, change_row, change_title, changes_feed, changes_page, changes_shown, changes_table, entry_by, feed_attributes, feed_head, last_moment, place_of, row_by, said_of, shown, subject_of, urn};
+ghost use Rattle.reg_pages.specs.Markup.{all_of};
+ghost use Rattle.reg_pages.specs.Noted.{apply_lines};
+ghost use Rattle.std.specs.Option.{option_copied};
+ghost use Rattle.reg_site.specs.Changes.{change_entry, change_row, change_rows, changes_feed, changes_page, changes_shown, changes_table, feed_start, last_moment, month_row, place_of, shown};
 
-use reg_pages::document::{push_end, push_start_with_feed};
-use reg_pages::markup::Piece::{Link, Markup, Text};
-use reg_pages::markup::{push, push_all};
-use reg_pages::note::Note;
+use reg_pages::document::{push_end, push_start};
+use reg_pages::markup::Piece::{Markup, Number, Text};
+use reg_pages::markup::{push, push_all, push_framed};
 use reg_pages::noted::push_apply;
-use reg_pages::table;
+use reg_pages::notes::Notes;
+use reg_pages::table::push_group;
 use std::alloc::{AllocError, Global};
 
 /// How many changes the page shows.
@@ -20,6 +21,18 @@ const MOST_ON_PAGE: usize = 200;
 /// How many changes the feed has.
 const MOST_IN_FEED: usize = 100;
 
+// Links to the first page, and to the changes in other forms.
+const LINKS: &str = "\
+    <p><a href=\"index.html\">All registries</a> <a href=\"changes.csv\">CSV</a> \
+    <a href=\"changes.atom\">Atom</a></p>";
+
+// The table up to its rows.
+const COLUMNS: &str = "\
+    <table class=\"changes\"><caption>Latest changes</caption><thead><tr>\
+    <th scope=\"col\">Number</th><th scope=\"col\">Date (UTC)</th><th scope=\"col\">Registry</th>\
+    <th scope=\"col\">Change</th><th scope=\"col\">Value</th><th scope=\"col\">Description</th>\
+    </tr></thead><tbody>";
+
 /// A change of the registers, as texts.
 #[derive(Clone, Copy)]
 pub struct ChangeRow<'a> {
@@ -27,15 +40,17 @@ pub struct ChangeRow<'a> {
     pub number: u64,
     /// When it was published, as `2026-11-28T08:00:00Z`.
     pub moment: &'a str,
-    /// The name of the register; empty of a prefix and a block.
+    /// The month of that, as `2026-11`.
+    pub month: &'a str,
+    /// The name of the register; empty of a prefix, a block and a new register.
     pub register: &'a str,
-    /// `range`, `entry`, `term`, `prefix` or `block`.
+    /// `entry`, `term`, `prefix`, `block`, `range`, or `registry` of a new register.
     pub kind: &'a str,
     /// What was done, in words, as `assigned`, or `now until ` before a day.
     pub words: &'a str,
     /// The day that these words want; empty where they want none.
     pub until: &'a str,
-    /// The value or the values, or the digits.
+    /// The value or the values, the digits, or the name of a new register.
     pub value: &'a str,
     pub description: &'a str,
     /// The digest of the record of this change, in lower-case hexadecimal.
@@ -44,19 +59,20 @@ pub struct ChangeRow<'a> {
 
 // ---- The page
 
-/// The page of the last 200 changes, of which the last one comes first, with a line that says where to
-/// apply, if this note says so. Only want of memory is an error.
+/// The page of the last 200 changes by month, of which the last one comes first, with where to apply, if
+/// these notes say so. Only want of memory is an error.
 pub fn changes_page(
     alloc: Global,
-    authority: Option<&Note>,
+    notes: Option<&Notes>,
     changes: &[ChangeRow<'_>],
 ) -> Result<Vec<u8>, AllocError>
-    ensures { IfOk result (λ v. v.items ≡ changes_page (option_copied authority.entry) (map shown changes.now)) }
+    ensures { IfOk result
+        (λ v. v.items ≡ changes_page (apply_lines (option_copied notes.entry)) (map shown changes.now)) }
 {
     let mut out = Vec::new(alloc);
-    push_start_with_feed(&mut out, "style.css", "changes.atom", "Changes")?;
-    push_links(&mut out)?;
-    push_apply(&mut out, authority)?;
+    push_start(&mut out, "style.css", "changes.atom", "Changes")?;
+    push(&mut out, LINKS)?;
+    push_apply(&mut out, notes)?;
     push_changes(&mut out, first_of(changes, MOST_ON_PAGE))?;
     push_end(&mut out)?;
     Ok(out)
@@ -73,23 +89,6 @@ fn first_of<'a, 'b>(changes: &'a [ChangeRow<'b>], most: usize) -> &'a [ChangeRow
     }
 }
 
-fn push_links(out: &mut Vec<u8>) -> Result<(), AllocError>
-    ensures { OnOk result (Shown out.old.items out.new.items change_links) }
-{
-    push_all(
-        out,
-        &[
-            Markup("<p>"),
-            Link("index.html", "All registries"),
-            Markup(" "),
-            Link("changes.csv", "CSV"),
-            Markup(" "),
-            Link("changes.atom", "Atom"),
-            Markup("</p>"),
-        ],
-    )
-}
-
 fn push_changes(out: &mut Vec<u8>, changes: &[ChangeRow<'_>]) -> Result<(), AllocError>
     ensures { OnOk result (Shown out.old.items out.new.items (changes_shown (map shown changes.now))) }
 {
@@ -103,97 +102,90 @@ fn push_table(out: &mut Vec<u8>, changes: &[ChangeRow<'_>]) -> Result<(), AllocE
     ensures { OnOk result
         (Shown out.old.items out.new.items (changes_table (map shown changes.now))) }
 {
-    let columns = [
-        "Number",
-        "Date (UTC)",
-        "Registry",
-        "Change",
-        "Value",
-        "Description",
-    ];
-    table::push_start(out, "Latest changes", &columns)?;
+    push(out, COLUMNS)?;
     push_rows(out, changes)?;
-    table::push_end(out)?;
+    push(out, "</tbody></table>")?;
     Ok(())
 }
 
+// A row for each change, and one for each month above its changes.
 fn push_rows(out: &mut Vec<u8>, changes: &[ChangeRow<'_>]) -> Result<(), AllocError>
     ensures { OnOk result
-        (Shown out.old.items out.new.items (all_of (map change_row (map shown changes.now)))) }
+        (Shown out.old.items out.new.items (change_rows [] (map shown changes.now))) }
 {
+    let mut before = "";
     for change in changes {
+        push_month(out, before, change.month)?;
         push_row(out, change)?;
+        before = change.month;
     }
     Ok(())
+}
+
+// A month as a row, unless it is the one before.
+fn push_month(out: &mut Vec<u8>, before: &str, month: &str) -> Result<(), AllocError>
+    ensures { OnOk result (Shown out.old.items out.new.items (month_row before.now month.now)) }
+{
+    if before == month {
+        return Ok(());
+    }
+    push_group(out, month, "6")
 }
 
 fn push_row(out: &mut Vec<u8>, change: &ChangeRow<'_>) -> Result<(), AllocError>
     ensures { OnOk result (Shown out.old.items out.new.items (change_row (shown change.now))) }
 {
-    let alloc = *out.allocator();
-    let number = format!(in alloc; "{}", change.number)?;
-    let name = format!(in alloc; "c{}", change.number)?;
-    let place = place_of(alloc, change)?;
-    let said = said_of(alloc, change)?;
-    push_row_texts(
+    push_all(
         out,
-        name.as_str(),
-        number.as_str(),
-        place.as_str(),
-        change.moment,
-        change.register,
-        said.as_str(),
-        change.value,
-        change.description,
-    )
-}
-
-// What was done, with its day.
-fn said_of(alloc: Global, change: &ChangeRow<'_>) -> Result<String, AllocError>
-    ensures { IfOk result (λ said. string_bytes said ≡ said_of (shown change.now)) }
-{
-    format!(in alloc; "{}{}", change.words, change.until)
-}
-
-fn push_row_texts<'a>(
-    out: &mut Vec<u8>,
-    name: &'a str,
-    number: &'a str,
-    place: &'a str,
-    moment: &'a str,
-    register: &'a str,
-    said: &'a str,
-    value: &'a str,
-    description: &'a str,
-) -> Result<(), AllocError>
-    ensures { OnOk result
-        (Shown out.old.items out.new.items
-        (row_by name.now number.now place.now moment.now register.now said.now value.now
-        description.now)) }
-{
-    table::push_row_start(out, Some(name))?;
-    table::push_head(out, Some(name), number)?;
-    table::push_cells(out, &[moment, register, said])?;
-    push_all(out, &[Markup("<td>"), Link(place, value), Markup("</td>")])?;
-    table::push_cell(out, description)?;
-    table::push_row_end(out)?;
+        &[
+            Markup("<tr id=\"c"),
+            Number(change.number),
+            Markup("\"><th scope=\"row\"><a href=\"#c"),
+            Number(change.number),
+            Markup("\">"),
+            Number(change.number),
+            Markup("</a></th><td>"),
+            Text(change.moment),
+            Markup("</td><td>"),
+            Text(change.register),
+            Markup("</td><td>"),
+            Text(change.words),
+            Text(change.until),
+            Markup("</td><td><a href=\""),
+        ],
+    )?;
+    push_place(out, change)?;
+    push_all(
+        out,
+        &[
+            Markup("\">"),
+            Text(change.value),
+            Markup("</a></td><td>"),
+            Text(change.description),
+            Markup("</td></tr>\n"),
+        ],
+    )?;
     Ok(())
 }
 
-// Where what was changed is shown.
-fn place_of(alloc: Global, change: &ChangeRow<'_>) -> Result<String, AllocError>
-    ensures { IfOk result (λ place. string_bytes place ≡ place_of (shown change.now)) }
+// Where what was changed is shown, as the value of an attribute.
+fn push_place(out: &mut Vec<u8>, change: &ChangeRow<'_>) -> Result<(), AllocError>
+    ensures { OnOk result (Appended out.old.items out.new.items
+        (λ rest. escaped (place_of (shown change.now)) ++ rest)) }
 {
-    let register = change.register;
-    let value = change.value;
-    if change.kind == "range" {
-        format!(in alloc; "registries/{register}.html#r{value}")
+    let value = Text(change.value);
+    if change.kind == "registry" {
+        push_all(out, &[Markup("registries/"), value, Markup(".html")])
     } else if change.kind == "block" {
-        format!(in alloc; "blocks.html#b{value}")
+        push_all(out, &[Markup("blocks.html#b"), value])
     } else if change.kind == "prefix" {
-        String::from_str(alloc, "index.html")
+        push(out, "index.html")
     } else {
-        format!(in alloc; "registries/{register}.html#v{value}")
+        let register = Text(change.register);
+        push_all(
+            out,
+            &[Markup("registries/"), register, Markup(".html#v"), value],
+        )
     }
 }
 
@@ -211,24 +203,10 @@ pub fn changes_feed(
     ensures { IfOk result (λ v. v.items ≡ changes_feed title.now id.now (map shown changes.now)) }
 {
     let mut out = Vec::new(alloc);
-    push_feed_start(&mut out)?;
-    push_feed_head(&mut out, title, id, last_moment(changes))?;
+    push_feed_start(&mut out, title, id, last_moment(changes))?;
     push_entries(&mut out, first_of(changes, MOST_IN_FEED))?;
     push(&mut out, "</feed>\n")?;
     Ok(out)
-}
-
-fn push_feed_start(out: &mut Vec<u8>) -> Result<(), AllocError>
-    ensures { OnOk result (Appended out.old.items out.new.items
-        (λ rest. codes "<?xml version=\"1.0\" encoding=\"UTF-8\"?>\n" ++ opening_then (codes "feed") feed_attributes rest)) }
-{
-    push_all(
-        out,
-        &[
-            Markup("<?xml version=\"1.0\" encoding=\"UTF-8\"?>\n"),
-            Markup("<feed xmlns=\"http://www.w3.org/2005/Atom\">"),
-        ],
-    )
 }
 
 // When the last change was.
@@ -241,28 +219,30 @@ fn last_moment<'a>(changes: &[ChangeRow<'a>]) -> &'a str
     }
 }
 
-fn push_feed_head(out: &mut Vec<u8>, title: &str, id: &str, moment: &str) -> Result<(), AllocError>
-    ensures { OnOk result
-        (Shown out.old.items out.new.items (feed_head title.now id.now moment.now)) }
-{
-    push_said(out, "<title>", title, "</title>")?;
-    push_said(out, "<id>", id, "</id>")?;
-    push_said(out, "<updated>", moment, "</updated>")?;
-    push_said(out, "<author><name>", title, "</name></author>")?;
-    push(out, "<link href=\"changes.html\"></link>\n")?;
-    Ok(())
-}
-
-fn push_said<'a>(
+fn push_feed_start<'a>(
     out: &mut Vec<u8>,
-    before: &'a str,
-    words: &'a str,
-    behind: &'a str,
+    title: &'a str,
+    id: &'a str,
+    moment: &'a str,
 ) -> Result<(), AllocError>
-    ensures { OnOk result (Appended out.old.items out.new.items
-        (λ rest. before.now ++ (escaped words.now ++ (behind.now ++ rest)))) }
+    ensures { OnOk result
+        (Appended out.old.items out.new.items (feed_start title.now id.now moment.now)) }
 {
-    push_all(out, &[Markup(before), Text(words), Markup(behind)])
+    push_all(
+        out,
+        &[
+            Markup("<?xml version=\"1.0\" encoding=\"UTF-8\"?>\n"),
+            Markup("<feed xmlns=\"http://www.w3.org/2005/Atom\"><title>"),
+            Text(title),
+            Markup("</title><id>"),
+            Text(id),
+            Markup("</id><updated>"),
+            Text(moment),
+            Markup("</updated><author><name>"),
+            Text(title),
+            Markup("</name></author><link href=\"changes.html\"></link>\n"),
+        ],
+    )
 }
 
 fn push_entries(out: &mut Vec<u8>, changes: &[ChangeRow<'_>]) -> Result<(), AllocError>
@@ -278,71 +258,30 @@ fn push_entries(out: &mut Vec<u8>, changes: &[ChangeRow<'_>]) -> Result<(), Allo
 fn push_entry(out: &mut Vec<u8>, change: &ChangeRow<'_>) -> Result<(), AllocError>
     ensures { OnOk result (Shown out.old.items out.new.items (change_entry (shown change.now))) }
 {
-    let alloc = *out.allocator();
-    let title = change_title(alloc, change)?;
-    let id = urn(alloc, change.digest)?;
-    let place = place_of(alloc, change)?;
-    push_entry_texts(
-        out,
-        title.as_str(),
-        id.as_str(),
-        place.as_str(),
-        change.moment,
-        change.description,
-    )
-}
-
-fn change_title(alloc: Global, change: &ChangeRow<'_>) -> Result<String, AllocError>
-    ensures { IfOk result (λ title. string_bytes title ≡ change_title (shown change.now)) }
-{
-    let subject = subject_of(alloc, change.register, change.value)?;
-    let subject = subject.as_str();
-    format!(in alloc; "{subject}: {}{}", change.words, change.until)
-}
-
-// What was changed.
-fn subject_of(alloc: Global, register: &str, value: &str) -> Result<String, AllocError>
-    ensures { IfOk result (λ subject. string_bytes subject ≡ subject_of register.now value.now) }
-{
-    if register.is_empty() {
-        String::from_str(alloc, value)
-    } else {
-        format!(in alloc; "{register} {value}")
-    }
-}
-
-fn urn(alloc: Global, digest: &str) -> Result<String, AllocError>
-    ensures { IfOk result (λ id. string_bytes id ≡ urn digest.now) }
-{
-    format!(in alloc; "urn:sha256:{digest}")
-}
-
-fn push_entry_texts<'a>(
-    out: &mut Vec<u8>,
-    title: &'a str,
-    id: &'a str,
-    place: &'a str,
-    moment: &'a str,
-    description: &'a str,
-) -> Result<(), AllocError>
-    ensures { OnOk result
-        (Shown out.old.items out.new.items
-        (entry_by title.now id.now place.now moment.now description.now)) }
-{
+    push(out, "<entry><title>")?;
+    push_framed(out, "", change.register, " ")?;
     push_all(
         out,
         &[
-            Markup("<entry><title>"),
-            Text(title),
-            Markup("</title><id>"),
-            Text(id),
+            Text(change.value),
+            Markup(": "),
+            Text(change.words),
+            Text(change.until),
+            Markup("</title><id>urn:sha256:"),
+            Text(change.digest),
             Markup("</id><updated>"),
-            Text(moment),
+            Text(change.moment),
             Markup("</updated><link href=\""),
-            Text(place),
+        ],
+    )?;
+    push_place(out, change)?;
+    push_all(
+        out,
+        &[
             Markup("\"></link><summary>"),
-            Text(description),
+            Text(change.description),
             Markup("</summary></entry>\n"),
         ],
-    )
+    )?;
+    Ok(())
 }

@@ -3,7 +3,7 @@ ghost use Rattle.std.specs.Prelude.{◌≡◌, ◌+◌, List, map, string_bytes,
 ghost use Rattle.reg_history.specs.Chain.{chained};
 ghost use Rattle.reg_history.specs.Overview.{IsOverview};
 ghost use Rattle.reg_site.specs.Changes.{shown};
-ghost use Rattle.reg_site.specs.Recent.{changed, day_part, early_words, feed_id, last_changes, made_words, numbered, term_words, text_of, until_day, until_of, words_of};
+ghost use Rattle.reg_site.specs.Recent.{changed, day_part, early_words, feed_id, front_of, last_changes, made_words, month_part, numbered, term_words, text_of, until_day, until_of, with_registry, words_of};
 
 use crate::changes::ChangeRow;
 use reg_changes::change::{Class, HistoryRecord, PublishedChange};
@@ -15,8 +15,11 @@ use std::collections::VecDeque;
 /// How many bytes the day of a moment has.
 const DAY_BYTES: usize = 10;
 
-/// The last 200 records of a history with their digests, of which the last one comes first. Only want of
-/// memory is an error.
+/// How many bytes the month of a moment has.
+const MONTH_BYTES: usize = 7;
+
+/// The last 200 records of a history with their digests, of which the last one comes first. Of the ranges
+/// of a new registry only the first is there, as the registry. Only want of memory is an error.
 pub fn last_changes<'a>(
     alloc: Global,
     overview: &'a Overview,
@@ -27,6 +30,7 @@ pub fn last_changes<'a>(
     let before = overview.count.saturating_sub(overview.recent.len() as u64);
     let mut changes = numbered(alloc, before, &overview.recent)?;
     changes.reverse();
+    changes.retain(|change| change.kind != "range");
     Ok(changes)
 }
 
@@ -59,9 +63,11 @@ fn next_number(number: u64) -> Result<u64, AllocError>
 fn changed<'a>(number: u64, row: &'a HistoryRecord, digest: &'a [u8]) -> ChangeRow<'a>
     ensures { shown result ≡ changed number row.now digest.now }
 {
-    ChangeRow {
+    let moment = row.moment.as_str();
+    with_registry(ChangeRow {
         number,
-        moment: row.moment.as_str(),
+        moment,
+        month: month_part(moment),
         register: row.change.registry().as_str(),
         kind: row.change.word(),
         words: words_of(&row.change),
@@ -69,6 +75,23 @@ fn changed<'a>(number: u64, row: &'a HistoryRecord, digest: &'a [u8]) -> ChangeR
         value: row.change.value(),
         description: row.change.description(),
         digest: text_of(digest),
+    })
+}
+
+// The first range of a registry is shown as the registry.
+fn with_registry(change: ChangeRow<'_>) -> ChangeRow<'_>
+    ensures { shown result ≡ with_registry (shown change.entry) }
+{
+    if change.kind == "range" && change.value.as_bytes().starts_with(b"0".as_slice()) {
+        ChangeRow {
+            register: "",
+            kind: "registry",
+            value: change.register,
+            description: "",
+            ..change
+        }
+    } else {
+        change
     }
 }
 
@@ -89,7 +112,7 @@ fn made_words(class: Class) -> &'static str
     ensures { result.now ≡ made_words class }
 {
     match class {
-        Class::Range => "range defined",
+        Class::Range => "registry defined",
         Class::Entry => "assigned",
         Class::Prefix => "prefix added",
         Class::Block => "block assigned",
@@ -147,8 +170,22 @@ pub fn feed_id(alloc: Global, digest: &[u8]) -> Result<String, AllocError>
 pub fn day_part(moment: &str) -> &str
     ensures { result.now ≡ day_part moment.now }
 {
+    front_of(moment, DAY_BYTES)
+}
+
+// The month of a moment, as `YYYY-MM`.
+fn month_part(moment: &str) -> &str
+    ensures { result.now ≡ month_part moment.now }
+{
+    front_of(moment, MONTH_BYTES)
+}
+
+// The first bytes of a moment.
+fn front_of(moment: &str, count: usize) -> &str
+    ensures { result.now ≡ front_of count moment.now }
+{
     let bytes = moment.as_bytes();
-    text_of(bytes.get(..DAY_BYTES).unwrap_or(bytes))
+    text_of(bytes.get(..count).unwrap_or(bytes))
 }
 
 /// Bytes as a text; none where they are not UTF-8, as the digits of a digest always are.

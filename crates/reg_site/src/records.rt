@@ -5,15 +5,15 @@ ghost use Rattle.reg_pages.specs.Appended.{Appended, Shown};
 ghost use Rattle.reg_pages.specs.Markup.{all_of, opening_then};
 ghost use Rattle.reg_print.specs.Listing.{row_view};
 ghost use Rattle.reg_pages.specs.Noted.{noted_in};
-ghost use Rattle.reg_site.specs.Records.{above_records, dated, described, early_text, noted_xref, range_by, range_of, record_by, record_of, records_left, records_text, title_of, title_or, title_start, updated};
+ghost use Rattle.reg_site.specs.Records.{above_records, dated, described, early_text, range_by, range_of, record_by, record_of, records_left, records_text, title_of, title_start};
 
 use crate::policy::treatment_name;
 use reg_core::page::Page;
 use reg_early::term;
 use reg_pages::markup::Piece::{Markup, Text};
-use reg_pages::markup::{push, push_all};
+use reg_pages::markup::{push, push_all, push_framed};
 use reg_pages::note::Note;
-use reg_pages::noted::{of_registry, of_row};
+use reg_pages::noted::{note_on, of_row, reference_in, title_in};
 use reg_pages::notes::Notes;
 use reg_pages::portions::{Next, Portions};
 use reg_pages::reference::push_xref;
@@ -87,7 +87,7 @@ fn push_above(
         page.now.table.ranges)) }
 {
     let name = page.name.as_str();
-    let title = title_of(of_registry(notes, name), name);
+    let title = title_of(note_on(notes, name), name);
     push_above_of(out, alloc, name, title, day, page.table.ranges())
 }
 
@@ -103,7 +103,7 @@ fn push_above_of(
         (above_records name.now title.now day.now ranges.now)) }
 {
     push_title(out, name, title)?;
-    push_updated(out, day)?;
+    push_framed(out, "<updated>", day, "</updated>\n")?;
     push_ranges(out, alloc, ranges)?;
     Ok(())
 }
@@ -112,15 +112,7 @@ fn push_above_of(
 pub fn title_of<'a>(note: Option<&'a Note>, name: &'a str) -> &'a str
     ensures { result.now ≡ title_of (option_copied note.entry) name.now }
 {
-    match note {
-        Some(note) => title_or(note.title.as_str(), name),
-        None => name,
-    }
-}
-
-fn title_or<'a>(title: &'a str, name: &'a str) -> &'a str
-    ensures { result.now ≡ title_or title.now name.now }
-{
+    let title = title_in(note);
     if title.is_empty() { name } else { title }
 }
 
@@ -137,18 +129,6 @@ fn push_title<'a>(out: &mut Vec<u8>, name: &'a str, title: &'a str) -> Result<()
             Text(title),
             Markup("</title>\n"),
         ],
-    )
-}
-
-fn push_updated(out: &mut Vec<u8>, day: &str) -> Result<(), AllocError>
-    ensures { OnOk result (Shown out.old.items out.new.items (updated day.now)) }
-{
-    if day.is_empty() {
-        return Ok(());
-    }
-    push_all(
-        out,
-        &[Markup("<updated>"), Text(day), Markup("</updated>\n")],
     )
 }
 
@@ -277,7 +257,7 @@ fn push_record_texts<'a>(
             Markup("</description>"),
         ],
     )?;
-    push_noted_xref(out, note)?;
+    push_xref(out, reference_in(note))?;
     push(out, "</record>\n")?;
     Ok(())
 }
@@ -293,13 +273,4 @@ fn push_record_start(out: &mut Vec<u8>, first: &str) -> Result<(), AllocError>
         out,
         &[Markup("<record date=\""), Text(first), Markup("\">")],
     )
-}
-
-fn push_noted_xref(out: &mut Vec<u8>, note: Option<&Note>) -> Result<(), AllocError>
-    ensures { OnOk result (Shown out.old.items out.new.items (noted_xref (option_copied note.entry))) }
-{
-    match note {
-        Some(note) => push_xref(out, note.reference.as_str()),
-        None => Ok(()),
-    }
 }

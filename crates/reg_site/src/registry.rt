@@ -1,11 +1,10 @@
 //! The page of a registry.
-ghost use Rattle.std.specs.Prelude.{◌≡◌, ◌∷◌, [], codes, map, option_map, string_bytes, Some, IfOk, OnOk};
+ghost use Rattle.std.specs.Prelude.{◌≡◌, ◌∷◌, [], map, IfOk, OnOk};
 ghost use Rattle.std.specs.Option.{option_copied};
 ghost use Rattle.reg_print.specs.Listing.{row_view};
 ghost use Rattle.reg_pages.specs.Appended.{Appended, Shown};
 ghost use Rattle.reg_pages.specs.Markup.{all_of};
-ghost use Rattle.reg_pages.specs.Table.{row, table_start};
-ghost use Rattle.reg_site.specs.Registry.{above_rows, described_row, description_cell, entry_columns, forms, intro, last_changed, links, name_of, registry_page, noted_row, page_left, range_row, ranges_table};
+ghost use Rattle.reg_site.specs.Registry.{above_rows, described_row, described_start, intro, links, noted_row, page_left, range_by, range_row, registry_page};
 ghost use Rattle.reg_site.specs.Summary.{summary};
 
 use crate::bar::push_bar;
@@ -15,23 +14,38 @@ use crate::summary::Summary;
 use reg_core::entry::PageEntry;
 use reg_core::page::Page;
 use reg_pages::document::push_start;
-use reg_pages::markup::Piece::{Link, Markup, Text};
-use reg_pages::markup::{push, push_all};
+use reg_pages::markup::Piece::{Markup, Number, Text};
+use reg_pages::markup::{push, push_all, push_framed};
 use reg_pages::note::Note;
-use reg_pages::noted::{of_authority, of_registry, of_row, push_apply, push_noted};
+use reg_pages::noted::{note_on, of_row, push_apply, push_noted, reference_in, title_in, words_in};
 use reg_pages::notes::Notes;
 use reg_pages::portions::{Next, Portions};
-use reg_pages::table;
-use reg_pages::table::push_row;
+use reg_pages::reference::push_reference;
+use reg_pages::table::push_below;
 use reg_print::listing::registry::{assignee_text, expiry_text, first_text};
 use reg_print::listing::rows::{ListingRow, Run, rows};
 use reg_print::note::note_text;
 use reg_ranges::range::Range;
 use std::alloc::{AllocError, Global};
 
+// The table of the ranges up to its rows.
+const RANGES: &str = "\
+    <table class=\"ranges\"><caption>Ranges and their policies</caption><thead><tr>\
+    <th scope=\"col\">Values</th><th scope=\"col\">Policy</th><th scope=\"col\">Note</th>\
+    </tr></thead><tbody>";
+
+// The end of that table, how the row of a value is found, and the table of the rows up to these.
+const VALUES: &str = "</tbody></table>\
+    <p>To find a value, follow the link of its range above. The rows below are in the order of their \
+    values; a row such as 65-191 is about each value from 65 to 191.</p>\
+    <table class=\"values\"><caption>Values</caption><thead><tr>\
+    <th scope=\"col\">Value</th><th scope=\"col\">Description</th><th scope=\"col\">Reference</th>\
+    <th scope=\"col\">Status</th><th scope=\"col\">Policy</th><th scope=\"col\">Since</th>\
+    <th scope=\"col\">Expires</th><th scope=\"col\">Assignee</th></tr></thead><tbody>";
+
 /// The page of a registry in portions: its ranges with their policies and notes, a picture of its
-/// values, and the rows of its listing, of which each entry is found by `v` and its value. The first
-/// portion has what stands above these rows, each other one a row, and the last what stands below.
+/// values, and the rows of its listing, each found by `v` and its first value. The first portion has
+/// what stands above these rows, each other one a row, and the last what stands below.
 #[derive(Drop)]
 pub struct RegistryPage<'a> {
     page: &'a Page,
@@ -72,7 +86,7 @@ impl Portions for RegistryPage<'_> {
             Next::Above => push_above(out, alloc, self.page, self.notes, self.changed)?,
             Next::Row(place) => match self.rows.get(place) {
                 Some(row) => push_entry(out, alloc, self.notes, self.page.name.as_str(), row)?,
-                None => table::push_below(out)?,
+                None => push_below(out)?,
             },
             Next::Nothing => return Ok(false),
         }
@@ -119,17 +133,18 @@ fn push_above_of(
     ensures { OnOk result (Appended out.old.items out.new.items
         (above_rows (option_copied notes.entry) changed.now name.now summary.now entries.now ranges.now)) }
 {
-    push_start(out, "../style.css", name)?;
-    push_intro(out, alloc, notes, changed, name)?;
+    push_start(out, "../style.css", "../changes.atom", name)?;
+    push_intro(out, notes, changed, name)?;
     push_bar(out, summary, entries)?;
-    push_ranges(out, alloc, ranges)?;
-    push_columns(out)
+    push(out, RANGES)?;
+    push_range_rows(out, alloc, ranges)?;
+    push(out, VALUES)?;
+    Ok(())
 }
 
 // What is noted about a registry, its other files, where to apply, and when it was last changed.
 fn push_intro(
     out: &mut Vec<u8>,
-    alloc: Global,
     notes: Option<&Notes>,
     changed: &str,
     name: &str,
@@ -137,75 +152,29 @@ fn push_intro(
     ensures { OnOk result
         (Shown out.old.items out.new.items (intro (option_copied notes.entry) changed.now name.now)) }
 {
-    push_noted(out, of_registry(notes, name))?;
-    push_links(out, alloc, name)?;
-    push_apply(out, of_authority(notes))?;
-    push_last_changed(out, changed)?;
+    push_noted(out, note_on(notes, name))?;
+    push_links(out, name)?;
+    push_apply(out, notes)?;
+    push_framed(out, "<p>Last changed <time>", changed, "</time></p>")?;
     Ok(())
 }
 
-fn push_last_changed(out: &mut Vec<u8>, changed: &str) -> Result<(), AllocError>
-    ensures { OnOk result (Shown out.old.items out.new.items (last_changed changed.now)) }
-{
-    if changed.is_empty() {
-        return Ok(());
-    }
-    push_all(
-        out,
-        &[
-            Markup("<p>Last changed <time>"),
-            Text(changed),
-            Markup("</time></p>"),
-        ],
-    )
-}
-
 // Links to the first page, and to the same registry in other forms.
-fn push_links(out: &mut Vec<u8>, alloc: Global, name: &str) -> Result<(), AllocError>
+fn push_links(out: &mut Vec<u8>, name: &str) -> Result<(), AllocError>
     ensures { OnOk result (Shown out.old.items out.new.items (links name.now)) }
 {
-    let listing = format!(in alloc; "{name}.csv")?;
-    let tree = format!(in alloc; "{name}.json")?;
-    let records = format!(in alloc; "{name}.xml")?;
-    push_forms(out, listing.as_str(), tree.as_str(), records.as_str())
-}
-
-fn push_forms<'a>(
-    out: &mut Vec<u8>,
-    listing: &'a str,
-    tree: &'a str,
-    records: &'a str,
-) -> Result<(), AllocError>
-    ensures { OnOk result
-        (Shown out.old.items out.new.items (forms listing.now tree.now records.now)) }
-{
     push_all(
         out,
         &[
-            Markup("<p>"),
-            Link("../index.html", "All registries"),
-            Markup(" "),
-            Link(listing, "CSV"),
-            Markup(" "),
-            Link(tree, "JSON"),
-            Markup(" "),
-            Link(records, "XML"),
-            Markup("</p>"),
+            Markup("<p><a href=\"../index.html\">All registries</a> <a href=\""),
+            Text(name),
+            Markup(".csv\">CSV</a> <a href=\""),
+            Text(name),
+            Markup(".json\">JSON</a> <a href=\""),
+            Text(name),
+            Markup(".xml\">XML</a></p>"),
         ],
-    )
-}
-
-fn push_ranges(out: &mut Vec<u8>, alloc: Global, ranges: &[Range]) -> Result<(), AllocError>
-    ensures { OnOk result
-        (Shown out.old.items out.new.items (ranges_table ranges.now)) }
-{
-    table::push_start(
-        out,
-        "Ranges and their policies",
-        &["Values", "Policy", "Note"],
     )?;
-    push_range_rows(out, alloc, ranges)?;
-    table::push_end(out)?;
     Ok(())
 }
 
@@ -228,10 +197,9 @@ fn push_range(out: &mut Vec<u8>, alloc: Global, range: &Range) -> Result<(), All
         hi: range.hi,
     };
     let values = format!(in alloc; "{run}")?;
-    let name = format!(in alloc; "r{run}")?;
     push_range_texts(
         out,
-        name.as_str(),
+        u64::from(range.lo),
         values.as_str(),
         treatment_name(range.treatment),
         note_text(&range.note),
@@ -240,32 +208,30 @@ fn push_range(out: &mut Vec<u8>, alloc: Global, range: &Range) -> Result<(), All
 
 fn push_range_texts<'a>(
     out: &mut Vec<u8>,
-    name: &'a str,
+    first: u64,
     values: &'a str,
     policy: &'a str,
     note: &'a str,
 ) -> Result<(), AllocError>
     ensures { OnOk result
-        (Shown out.old.items out.new.items (row (Some name.now) values.now (policy.now ∷ note.now ∷ []))) }
+        (Shown out.old.items out.new.items (range_by first values.now policy.now note.now)) }
 {
-    push_row(out, Some(name), values, &[policy, note])
-}
-
-// The rows of the listing begin, by the heads of their columns.
-fn push_columns(out: &mut Vec<u8>) -> Result<(), AllocError>
-    ensures { OnOk result (Appended out.old.items out.new.items
-        (table_start (codes "Values") entry_columns)) }
-{
-    let columns = [
-        "Value",
-        "Description",
-        "Status",
-        "Policy",
-        "Since",
-        "Expires",
-        "Assignee",
-    ];
-    table::push_start(out, "Values", &columns)
+    push_all(
+        out,
+        &[
+            Markup("<tr id=\"r"),
+            Text(values),
+            Markup("\"><th scope=\"row\"><a href=\"#v"),
+            Number(first),
+            Markup("\">"),
+            Text(values),
+            Markup("</a></th><td>"),
+            Text(policy),
+            Markup("</td><td>"),
+            Text(note),
+            Markup("</td></tr>\n"),
+        ],
+    )
 }
 
 // A row of the listing, with what is noted about its entry.
@@ -281,13 +247,12 @@ fn push_entry(
         (noted_row (option_copied notes.entry) registry.now (row_view row.now))) }
 {
     let values = format!(in alloc; "{}", row.values)?;
-    let name = name_of(alloc, row)?;
     let first = first_text(alloc, row)?;
     let expiry = expiry_text(alloc, row)?;
     let note = of_row(alloc, notes, registry, row)?;
     push_entry_texts(
         out,
-        name.as_ref().map(|name| name.as_str()),
+        u64::from(row.values.lo),
         values.as_str(),
         row.description,
         note,
@@ -299,19 +264,9 @@ fn push_entry(
     )
 }
 
-// By what a value with an entry is found.
-fn name_of(alloc: Global, row: &ListingRow<'_>) -> Result<Option<String>, AllocError>
-    ensures { IfOk result (λ name. option_map string_bytes name ≡ name_of (row_view row.now)) }
-{
-    match row.entry {
-        Some(_) => Ok(Some(format!(in alloc; "v{}", row.values)?)),
-        None => Ok(None),
-    }
-}
-
 fn push_entry_texts<'a>(
     out: &mut Vec<u8>,
-    name: Option<&'a str>,
+    number: u64,
     values: &'a str,
     description: &'a str,
     note: Option<&'a Note>,
@@ -323,25 +278,64 @@ fn push_entry_texts<'a>(
 ) -> Result<(), AllocError>
     ensures { OnOk result
         (Shown out.old.items out.new.items
-        (described_row (option_map (λ n. n.now) name.entry) values.now description.now
-        (option_copied note.entry)
+        (described_row number values.now description.now (option_copied note.entry)
         (status.now ∷ policy.now ∷ first.now ∷ expiry.now ∷ assignee.now ∷ []))) }
 {
-    table::push_row_start(out, name)?;
-    table::push_head(out, name, values)?;
-    push_description(out, description, note)?;
-    table::push_cells(out, &[status, policy, first, expiry, assignee])?;
-    table::push_row_end(out)?;
+    push_described(out, number, values, description, note)?;
+    push(out, "<td>")?;
+    push_reference(out, reference_in(note))?;
+    push_all(
+        out,
+        &[
+            Markup("</td><td>"),
+            Text(status),
+            Markup("</td><td>"),
+            Text(policy),
+            Markup("</td><td>"),
+            Text(first),
+            Markup("</td><td>"),
+            Text(expiry),
+            Markup("</td><td>"),
+            Text(assignee),
+            Markup("</td></tr>\n"),
+        ],
+    )?;
     Ok(())
 }
 
-// What a value is for, and what is noted about it.
-fn push_description(out: &mut Vec<u8>, words: &str, note: Option<&Note>) -> Result<(), AllocError>
+// A row up to its description, with what is noted below that.
+fn push_described<'a>(
+    out: &mut Vec<u8>,
+    number: u64,
+    values: &'a str,
+    description: &'a str,
+    note: Option<&'a Note>,
+) -> Result<(), AllocError>
     ensures { OnOk result
-        (Shown out.old.items out.new.items (description_cell words.now (option_copied note.entry))) }
+        (Appended out.old.items out.new.items
+        (described_start number values.now description.now (option_copied note.entry))) }
 {
-    push_all(out, &[Markup("<td>"), Text(words)])?;
-    push_noted(out, note)?;
+    push_all(
+        out,
+        &[
+            Markup("<tr id=\"v"),
+            Number(number),
+            Markup("\"><th scope=\"row\"><a href=\"#v"),
+            Number(number),
+            Markup("\">"),
+            Text(values),
+            Markup("</a></th><td>"),
+            Text(description),
+        ],
+    )?;
+    let title = title_in(note);
+    push_framed(
+        out,
+        "<div class=\"note\"><strong>",
+        title,
+        "</strong></div>",
+    )?;
+    push_framed(out, "<div class=\"note\">", words_in(note), "</div>")?;
     push(out, "</td>")?;
     Ok(())
 }

@@ -1,16 +1,18 @@
 //! How the pages look.
 ghost use Rattle.std.specs.Prelude.{◌≡◌};
 
-/// The style sheet of all pages (CSS): light and dark as the reader prefers, and for print. The kinds of
-/// a picture differ in place and height as well as in colour. On a narrow screen a row of a table becomes
-/// a few lines, where each day and count says what it is. A long text is broken anywhere, a number nowhere.
+/// The style sheet of all pages (CSS): light and dark as the reader prefers, and for print, where a table has
+/// its heads on each page. The kinds of a picture differ in place and height as well as in colour. On a
+/// narrow screen a row of a table becomes a few lines, where each day and count says what it is. A long
+/// text is broken anywhere, a number nowhere. Rules know a table by its class and a cell by its place, which
+/// is quick in a table of thousands of rows.
 pub const STYLE: &str = "\
 :root{color-scheme:light dark;--ink:#1b1f24;--paper:#fff;--line:#c9d1d9;--soft:#fff4c2;--link:#0550ae;\
 --used:#0b6b3a;--free:#a6d8ba;--aside:#b98a14;--reserved:#6b7580}
-@media(prefers-color-scheme:dark){:root{--ink:#e6e8eb;--paper:#14171a;--line:#3a4148;--soft:#3d3620;\
---link:#7cb7ff;--used:#7be0ae;--free:#235a3d;--aside:#c39a2e;--reserved:#8a949e}}
+@media screen and (prefers-color-scheme:dark){:root{--ink:#e6e8eb;--paper:#14171a;--line:#3a4148;\
+--soft:#3d3620;--link:#7cb7ff;--used:#7be0ae;--free:#235a3d;--aside:#c39a2e;--reserved:#8a949e}}
 body{margin:0;background:var(--paper);color:var(--ink);font:1rem/1.5 system-ui,sans-serif}
-main{max-width:64rem;margin:0 auto;padding:1rem}
+main{max-width:72rem;margin:0 auto;padding:1rem}
 a{color:var(--link)}
 table{width:100%;border-collapse:collapse;margin:1.5rem 0}
 caption{text-align:left;font-weight:600;padding:.4rem 0}
@@ -18,13 +20,14 @@ th,td{text-align:left;vertical-align:top;padding:.3rem .8rem .3rem 0;border-bott
 th{white-space:nowrap}
 th div{white-space:normal}
 td{overflow-wrap:anywhere}
-td:nth-child(3):nth-last-child(5),td:nth-child(5):nth-last-child(3),td:nth-child(6):nth-last-child(2){\
-white-space:nowrap}
-td:nth-child(4):nth-last-child(4){min-width:8rem}
-td:nth-child(2):nth-last-child(6){width:40%}
-th:has([href^=registries])~td+td{white-space:nowrap}
-th:has([href^=\"#c\"])~td{white-space:nowrap}
-th:has([href^=\"#c\"])~td:last-child{white-space:normal;width:100%}
+[colspan]{padding-top:1rem}
+.values td:nth-child(2){width:36%}
+.values td:nth-child(3){min-width:7rem}
+.values td:nth-child(5){min-width:8rem}
+.values td:nth-child(6),.values td:nth-child(7){white-space:nowrap}
+.registries td+td{white-space:nowrap}
+.changes td{white-space:nowrap}
+.changes td:last-child{white-space:normal;width:100%}
 tr:target{background:var(--soft)}
 td ul{list-style:none;margin:0;padding:0;overflow-wrap:normal}
 .note{font-size:.9em;font-weight:400;white-space:normal}
@@ -36,23 +39,26 @@ rect.aside{fill:var(--aside)}
 rect.reserved{fill:var(--reserved)}
 figcaption ul{display:flex;flex-wrap:wrap;gap:.2rem 1.2rem;list-style:none;margin:.5rem 0;padding:0}
 figcaption li::before{content:'';display:inline-block;box-sizing:border-box;width:1.2rem;height:1.2rem;\
-margin-right:.5rem;vertical-align:-.2rem;print-color-adjust:exact}
+margin-right:.5rem;vertical-align:-.2rem;print-color-adjust:exact;forced-color-adjust:none}
 li.assigned::before{background:var(--used)}
 li.temporary::before{background:linear-gradient(var(--used) 50%,var(--free) 50%)}
 li.expired::before{background:linear-gradient(var(--free) 75%,var(--used) 75%)}
 li.free::before{background:var(--free)}
 li.aside::before{background:linear-gradient(transparent 33%,var(--aside) 33% 67%,transparent 67%)}
 li.reserved::before{background:linear-gradient(transparent 45%,var(--reserved) 45% 55%,transparent 55%)}
-@media(max-width:40rem){main{padding:.6rem}thead{position:absolute;clip-path:inset(50%)}
+@media screen and (max-width:40rem){main{padding:.6rem}thead{position:absolute;clip-path:inset(50%)}
 tr{display:flex;flex-wrap:wrap;gap:0 .8rem;padding:.3rem 0;border-bottom:1px solid var(--line)}
-th,td{padding:0;border:0}td:empty{display:none}td:nth-child(2):nth-last-child(6){flex-basis:100%}
-td:nth-child(5):nth-last-child(3)::before{content:'Since '}
-td:nth-child(6):nth-last-child(2)::before{content:'Expires '}
-th:has([href^=registries])~td:nth-child(3)::before{content:'Assigned '}
-th:has([href^=registries])~td:nth-child(4)::before{content:'Temporary '}
-th:has([href^=registries])~td:nth-child(5)::before{content:'Expired '}
-th:has([href^=registries])~td:nth-child(6)::before{content:'Free '}}
-@media print{body{font-size:10pt}a{color:inherit;text-decoration:none}tr{break-inside:avoid}}
+th,td{padding:0;border:0}td:empty{display:none}
+.values td:nth-child(2),.values td:nth-child(3){flex-basis:100%}
+.values td:nth-child(6)::before{content:'Since '}
+.values td:nth-child(7)::before{content:'Expires '}
+.registries td:nth-child(3)::before{content:'Assigned '}
+.registries td:nth-child(4)::before{content:'Temporary '}
+.registries td:nth-child(5)::before{content:'Expired '}
+.registries td:nth-child(6)::before{content:'Free '}}
+@page{margin:14mm 12mm;@bottom-right{content:counter(page) ' / ' counter(pages);font-size:8pt}}
+@media print{body{font-size:9pt}main{max-width:none;padding:0}a{color:inherit;text-decoration:none}
+tr,figure{break-inside:avoid}h2,caption,[colspan]{break-after:avoid}}
 ";
 
 /// The style sheet.

@@ -95,7 +95,7 @@ const BEFORE: [(&str, &str); 2] = [
     ),
     (
         "registries/bits.html",
-        "<td>Two</td><td>Temporary</td><td>Standards Action</td>",
+        "<td>Two</td><td></td><td>Temporary</td><td>Standards Action</td>",
     ),
 ];
 
@@ -106,7 +106,7 @@ const AFTER: [(&str, &str); 2] = [
     ),
     (
         "registries/bits.html",
-        "<td>Two</td><td>Expired</td><td>Standards Action</td>",
+        "<td>Two</td><td></td><td>Expired</td><td>Standards Action</td>",
     ),
 ];
 

@@ -1,6 +1,7 @@
 use Rattle.std.proofs.Common.{ℕ, List, [], ◌++◌, map, ap, ◌∙◌}
 use Rattle.std.specs.Prelude.{Option, unwrap_or}
 use Rattle.std.specs.Option.{option_copied}
+use Rattle.reg_pages.specs.Noted.{apply_lines}
 use Rattle.reg_site.specs.Changes.{changes_feed, changes_page, shown}
 use Rattle.reg_site.specs.Recent.{feed_id}
 use Rattle.reg_site.specs.Site.{one_file}
@@ -11,7 +12,7 @@ use Rattle.reg_publish.proofs.indexes.publish_changes.Goals as goal
 pub returns : goal.returns
 returns g c = λ records is.
     let Puts = g.F.Folder.Puts in
-    let authority = option_copied c.args.authority in
+    let lines = apply_lines (option_copied c.args.notes) in
     let f = c.args.folder.now in
     let f1 = c.put.new.folder in
     let f2 = c.put-2.new.folder in
@@ -20,7 +21,7 @@ returns g c = λ records is.
     let s2 = c.put-2.new.sums in
     let changes = c.in_ok-changes.ensures records is in
     let page = c.deref.ensures.value ∙ c.in_ok-html.ensures
-    ∙ ap (changes_page authority) (ap (map shown) c.as_slice.ensures.value ∙ changes) in
+    ∙ ap (changes_page lines) (ap (map shown) c.as_slice.ensures.value ∙ changes) in
     let id = c.as_str.ensures.value ∙ c.in_ok-id.ensures
     ∙ ap feed_id (c.first_digest.ensures
     ∙ ap (λ (o : Option (List ℕ)). unwrap_or o []) is.first) in

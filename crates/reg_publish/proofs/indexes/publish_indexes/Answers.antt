@@ -2,7 +2,7 @@ use Rattle.std.proofs.Common.{ℕ, List, [], ◌++◌, map, ap, ◌∙◌}
 use Rattle.std.specs.Prelude.{Option, unwrap_or}
 use Rattle.reg_site.specs.IndexTree.{index_tree, row_of}
 use Rattle.reg_site.specs.Recent.{text_of}
-use Rattle.reg_site.specs.Site.{one_file, site_title}
+use Rattle.reg_site.specs.Site.{one_file}
 use Rattle.reg_site.specs.declared.files.File.TheVariants.{Index, IndexTree}
 use Rattle.reg_publish.proofs.Placed.{summed_as, summed_both}
 use Rattle.reg_publish.proofs.indexes.publish_indexes.Goals as goal
@@ -20,7 +20,7 @@ returns g c = λ records is.
     let now = c.as_str.ensures.value ∙ c.in_ok-now.ensures in
     let last = c.text_of.ensures
     ∙ ap text_of (c.last_digest.ensures ∙ ap (λ (o : Option (List ℕ)). unwrap_or o []) is.last) in
-    let title = c.site_title.ensures ∙ ap site_title c.of_authority.ensures in
+    let title = c.site_title.ensures in
     let tree = c.deref-2.ensures.value ∙ c.in_ok-tree.ensures
     ∙ (λ i. index_tree (title i) (now i) (is.counted i) (last i)
     (map row_of c.args.registers.now)) in

@@ -1,4 +1,4 @@
-use Rattle.std.proofs.Common.{[], ◌++◌, ap, ◌∙◌}
+use Rattle.std.proofs.Common.{◌++◌, ap, ◌∙◌}
 use Rattle.std.specs.Option.{option_copied}
 use Rattle.reg_history.specs.Chain.{chained}
 use Rattle.reg_site.specs.Site.{index_files, one_file, rows_by, shown_files}

@@ -8,6 +8,6 @@ pub returns : goal.returns
 unfolding changes_feed
 returns c =
     whole c.new-out.result.items c.new-out.ensures.items
-    (joined c.in_ok-push_feed_start.ensures
-    (joined (rw c.last_moment.ensures at c.in_ok-push_feed_head.ensures).bytes
-    (joined (rw (c.first_of.ensures, sym (take-map shown 100 c.args.changes.now)) at c.in_ok-push_entries.ensures).bytes c.in_ok-push.ensures)))
+    (joined (rw c.last_moment.ensures at c.in_ok-push_feed_start.ensures)
+    (joined (rw (c.first_of.ensures, sym (take-map shown 100 c.args.changes.now)) at c.in_ok-push_entries.ensures).bytes
+    c.in_ok-push.ensures))

@@ -8,7 +8,8 @@ pub returns : goal.returns
 unfolding changes_page
 returns c =
     whole c.new-out.result.items c.new-out.ensures.items
-    (joined c.in_ok-push_start_with_feed.ensures
-    (joined c.in_ok-push_links.ensures.bytes
+    (joined c.in_ok-push_start.ensures
+    (joined c.in_ok-push.ensures
     (joined c.in_ok-push_apply.ensures.bytes
-    (joined (rw (c.first_of.ensures, sym (take-map shown 200 c.args.changes.now)) at c.in_ok-push_changes.ensures).bytes c.in_ok-push_end.ensures))))
+    (joined (rw (c.first_of.ensures, sym (take-map shown 200 c.args.changes.now)) at c.in_ok-push_changes.ensures).bytes
+    c.in_ok-push_end.ensures))))

@@ -4,6 +4,5 @@ use Rattle.reg_site.proofs.changes.push_table.Goals as goal
 pub returns : goal.returns
 returns c =
     shown
-    (joined c.in_ok-push_start.ensures
-    (joined c.in_ok-push_rows.ensures.bytes
-    (c.in_ok-push_end.ensures)))
+    (joined c.in_ok-push.ensures
+    (joined c.in_ok-push_rows.ensures.bytes c.in_ok-push-2.ensures))

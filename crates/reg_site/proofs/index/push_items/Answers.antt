@@ -5,5 +5,4 @@ pub returns : goal.returns
 returns c =
     shown
     (joined c.in_ok-push.ensures
-    (joined c.in_ok-push_prefixes.ensures.bytes
-    (c.in_ok-push-2.ensures)))
+    (joined c.in_ok-push_prefixes.ensures.bytes c.in_ok-push-2.ensures))

@@ -16,7 +16,7 @@ loop-register-preserved c =
     goes_on (λ rs. all_of (map (register_row (option_copied c.args.notes)) (map row_of rs))) (λ r. register_row (option_copied c.args.notes) (row_of r)) (λ x xs. refl) c.args.registers.now
     c.loop-register.register-index c.register-item.result c.loop-register-test.true c.register-item.is
     c.loop-register.invariant
-    (rw (c.of_registry-note.ensures, c.as_str.ensures.text) at c.in_ok-push_registry.ensures)
+    (rw (c.note_on-note.ensures, c.as_str.ensures.text) at c.in_ok-push_registry.ensures)
 
 pub returns : goal.returns
 returns c =

@@ -6,5 +6,4 @@ returns c =
     shown
     (joined c.in_ok-push_record_start.ensures
     (joined c.in_ok-push_all.ensures
-    (joined c.in_ok-push_noted_xref.ensures.bytes
-    (c.in_ok-push.ensures))))
+    (joined (rw c.reference_in.ensures at c.in_ok-push_xref.ensures).bytes c.in_ok-push.ensures)))

@@ -4,8 +4,7 @@ use Rattle.reg_site.proofs.registry.push_entry_texts.Goals as goal
 pub returns : goal.returns
 returns c =
     shown
-    (joined c.in_ok-push_row_start.ensures
-    (joined c.in_ok-push_head.ensures.bytes
-    (joined c.in_ok-push_description.ensures.bytes
-    (joined c.in_ok-push_cells.ensures.bytes
-    (c.in_ok-push_row_end.ensures)))))
+    (joined c.in_ok-push_described.ensures
+    (joined c.in_ok-push.ensures
+    (joined (rw c.reference_in.ensures at c.in_ok-push_reference.ensures).bytes
+    c.in_ok-push_all.ensures)))

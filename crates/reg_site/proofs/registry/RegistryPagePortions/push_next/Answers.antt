@@ -1,4 +1,4 @@
-use Rattle.std.proofs.Common.{◌≡◌, ◌+◌, ◌<◌, ◌≤◌, ◌++◌, ◌∙◌, length, get_or, map, ap, sym, append-nil, rules}
+use Rattle.std.proofs.Common.{◌≡◌, ◌+◌, ◌<◌, ◌≤◌, ◌++◌, ◌∙◌, length, get_or, drop, map, ap, sym, append-nil, rules}
 use Rattle.std.proofs.lemmas.List.{drop_all}
 use Rattle.reg_print.specs.Listing.{row_view}
 use Rattle.reg_pages.specs.Markup.{markup_then}
@@ -40,10 +40,14 @@ returns c =
           let then : c.after-self.result ≡ next.Row (place + 1) =
           after_now ∙ ap (λ n. after n (length rows)) w.in-Row.is
           ∙ after_row place (length rows) inside in
-          gives (rw (sym w.out-is, w.as_str.ensures.text) at w.in_ok-push_entry-in-Some.ensures.bytes) (row_some (note_of_row notes page.name (row_view row)) (row_view row))
+          let named = w.as_str.result.now in
+          let left = rows_left notes page.name (map row_view (drop (place + 1) rows)) in
+          gives (rw (sym w.out-is) at w.in_ok-push_entry-in-Some.ensures.bytes)
+          (row_some (note_of_row notes named (row_view row)) (row_view row))
           (ap (left_from html) w.in-Row.is
           ∙ ap (λ left. rows_left notes page.name (map row_view left)) (at_place rows place row inside is)
-          ∙ ap (λ n. markup_then (noted_row notes page.name (row_view row)) (left_from html n)) (sym then))
+          ∙ ap (λ name. markup_then (noted_row notes name (row_view row)) left) (sym w.as_str.ensures.text)
+          ∙ ap (λ n. markup_then (noted_row notes named (row_view row)) (left_from html n)) (sym then))
       | in-Row+in-None+in_ok-push_below-in-None w ↦
           let place = w.in-Row.place in
           let gone : length rows ≤ place = search rules in
