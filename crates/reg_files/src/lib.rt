@@ -27,8 +27,7 @@ use reg_program::publishing::Directories;
 use reg_program::tasks::{Offices, Task};
 use reg_sql::keeper::SqlKeeper;
 use reg_sql::look::{Look, look_at};
-use reg_sql::open::{OpenFault, Opened as Left, open_by};
-use reg_sql::opener::SystemFiles;
+use reg_sql::open::OpenFault;
 use reg_sql::trouble::Trouble;
 use sqlite::{Alter, FileFrom, FileStore, Start, Unknown};
 use std::alloc::{AllocError, Global};
@@ -119,16 +118,10 @@ fn opened<T: Start>(
     path: &str,
     begins: bool,
 ) -> Result<SqlKeeper<FileStore<FileFrom<T>>>, Undone> {
-    match open_by(rt, SystemFiles { start }, path, begins) {
+    match SqlKeeper::open_at(rt, path, begins, start) {
         Ok(keeper) => Ok(keeper),
-        Err((fault, left)) => Err(refused(fault, left)),
+        Err(fault) => Err(Undone::Fault(failure(fault))),
     }
-}
-
-// What a job is told that finds no office. What was opened is dropped, over any store too.
-fn refused<S: Alter + Drop, L: Drop>(fault: OpenFault, left: Left<S, L>) -> Undone {
-    drop(left);
-    Undone::Fault(failure(fault))
 }
 
 // Why a job finds no office, with the reason for people.

@@ -20,6 +20,13 @@ refusal_at_path (refusals.Fault fault) = refusals.Fault fault
 
 -- A call that gives a keeper over files that held this, or the refusal alone: a store was opened, or
 -- none, and it was refused as by `open_by`.
+abbrev pub RefusesFiles : {K D : Type 0} {g : disk.Ghosts D} → (K → Held (FileStore D g)) → Image → Bool
+    → Result K OpenFault → Type 0
+RefusesFiles {D = D} {g = g} tables image fresh result = IfErr result (λ refusal.
+    (opened : Result (Held (FileStore D g)) (Error × Option (Leftover D g)))
+    × RefusesOpening file_state (OpensFiles image) fresh refusal opened)
+
+-- the same, but a file that another has open is none of an office's
 abbrev pub RefusesPath : {K D : Type 0} {g : disk.Ghosts D} → (K → Held (FileStore D g)) → Image → Bool
     → Result K OpenFault → Type 0
 RefusesPath {D = D} {g = g} tables image fresh result = IfErr result (λ refusal.

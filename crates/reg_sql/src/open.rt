@@ -22,7 +22,7 @@ ghost use Rattle.reg_sql.specs.Keeping.{IsHonest, KeepsBeside};
 ghost use Rattle.reg_sql.specs.Opening.{Brings, HasNoTables, IsAsItWas, IsOpened, IsOpenedBy, IsRefused};
 ghost use Rattle.reg_sql.specs.Opening.{RefusesOpening, IsTakenOver, StandsAlone, TakesOver};
 ghost use Rattle.reg_sql.specs.Opening.{OpensFiles, refusal_of};
-ghost use Rattle.reg_sql.specs.Paths.{RefusesPath, refusal_at_path};
+ghost use Rattle.reg_sql.specs.Paths.{RefusesFiles, RefusesPath, refusal_at_path};
 ghost use Rattle.reg_sql.specs.declared.open.OpenFault.TheVariants as refusals;
 
 use crate::keeper::SqlKeeper;
@@ -263,7 +263,27 @@ pub fn open_by<O: Opener>(
 
 impl<T: Start> SqlKeeper<FileStore<FileFrom<T>>> {
     /// The office in the files at a path, as by `open_by`, where `start` says what they hold. What was
-    /// opened where there is none is dropped. A file that another has open is `NotOurs` too.
+    /// opened where there is none is dropped.
+    pub fn open_at(
+        rt: &HostRuntime,
+        path: &str,
+        fresh: bool,
+        start: T,
+    ) -> Result<SqlKeeper<FileStore<FileFrom<T>>>, OpenFault>
+        ensures office { IfOk result (λ keeper.
+            IsOpenedBy file_state (OpensFiles (image_at T.Start)) fresh keeper.tables) }
+        ensures refused { RefusesFiles (λ keeper. keeper.tables) (image_at T.Start) fresh result }
+    {
+        match open_by(rt, SystemFiles { start }, path, fresh) {
+            Ok(keeper) => Ok(keeper),
+            Err((fault, left)) => {
+                drop(left);
+                Err(fault)
+            }
+        }
+    }
+
+    /// The office in the files at a path, as by `open_at`, but a file that another has open is `NotOurs` too.
     pub fn from_path(
         rt: &HostRuntime,
         path: &str,
@@ -274,17 +294,14 @@ impl<T: Start> SqlKeeper<FileStore<FileFrom<T>>> {
             IsOpenedBy file_state (OpensFiles (image_at T.Start)) fresh keeper.tables) }
         ensures refused { RefusesPath (λ keeper. keeper.tables) (image_at T.Start) fresh result }
     {
-        match open_by(rt, SystemFiles { start }, path, fresh) {
+        match SqlKeeper::open_at(rt, path, fresh, start) {
             Ok(keeper) => Ok(keeper),
-            Err((fault, left)) => {
-                drop(left);
-                Err(refusal_at(fault))
-            }
+            Err(fault) => Err(refusal_at(fault)),
         }
     }
 }
 
-/// What a refusal of `open_by` is to who opens by a path.
+/// What a refusal of `open_at` is to who opens by `from_path`.
 fn refusal_at(refusal: OpenFault) -> OpenFault
     ensures { result ≡ refusal_at_path refusal }
 {
