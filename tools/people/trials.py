@@ -2,6 +2,7 @@
 import contextlib
 import hashlib
 import json
+import os
 import re
 import subprocess
 import time
@@ -243,7 +244,9 @@ def many(office, clerk):
     clerk.go('Waiting')
     clerk.sees(f'1 to 100 of {len(office.ask("GET", "/desk/pending", CLERK))}')
     longest = clerk.script('return window.longest')
-    judge(longest < 500, f'the page froze for {longest} milliseconds')
+    # (what else the machine does makes each task longer)
+    most = 500 * max(1, os.getloadavg()[0] / os.cpu_count())
+    judge(longest < most, f'the page froze for {longest} milliseconds, more than {most:.0f}')
     print(f'with {total} requests the page was busy for at most {longest:.0f} milliseconds at a time')
     office.grant('many', 'applicant', 'many-token-00000000001')
     clerk.sign_out()
