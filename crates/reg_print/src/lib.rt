@@ -4,7 +4,6 @@
 pub mod answer;
 pub mod asks;
 mod bodies;
-pub mod comparing;
 pub mod detail;
 pub mod laws;
 pub mod listing;

@@ -1,3 +1,4 @@
 pub mod Asked
 pub mod Copying
+mod Portioned
 pub mod Steps

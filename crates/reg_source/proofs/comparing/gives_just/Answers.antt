@@ -1,6 +1,6 @@
 use Rattle.std.proofs.Common.{◌++◌, true≢false, sym, ap, ◌∙◌}
-use Rattle.reg_verify.proofs.Portioned.{gives_next, same_front-more, same_front-other}
-use Rattle.reg_verify.proofs.listing.gives_just.Goals as goal
+use Rattle.reg_source.proofs.Portioned.{gives_next, same_front-more, same_front-other}
+use Rattle.reg_source.proofs.comparing.gives_just.Goals as goal
 
 pub loop-portion-preserved : goal.loop-portion-preserved
 loop-portion-preserved g c =

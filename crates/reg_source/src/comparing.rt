@@ -8,7 +8,7 @@ use std::alloc::{AllocError, Global};
 
 /// Whether a printer gives just these bytes, which are compared a portion at a time. Only want of memory
 /// is an error.
-pub(crate) fn gives_just<P: Portions>(
+pub fn gives_just<P: Portions>(
     alloc: Global,
     printer: &mut P,
     bytes: &[u8],

@@ -1,6 +1,6 @@
 use Rattle.std.proofs.lemmas.Bool.Decides.{Decides-eqb}
 use Rattle.std.proofs.lemmas.Slice.Eq.{strip_prefix_is}
-use Rattle.reg_verify.proofs.listing.behind.Goals as goal
+use Rattle.reg_source.proofs.comparing.behind.Goals as goal
 
 pub returns : goal.returns
 returns c =
