@@ -4,6 +4,7 @@
 pub mod answer;
 pub mod asks;
 mod bodies;
+pub mod comparing;
 pub mod detail;
 pub mod laws;
 pub mod listing;
