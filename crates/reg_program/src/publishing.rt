@@ -88,7 +88,7 @@ impl Folder for LockedDirectory<'_> {
         self.directory.read(alloc, file)
     }
 
-    fn publish<P: Portions>(&mut self, file: File, bytes: &mut P) -> Result<(), Unpublished> {
+    fn publish<P: Portions>(&mut self, file: File, bytes: &mut P) -> Result<[u8; 32], Unpublished> {
         self.directory.publish(file, bytes)
     }
 }
