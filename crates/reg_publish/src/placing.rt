@@ -1,18 +1,16 @@
 //! Files that are put into a folder, with their sums.
-ghost use Rattle.std.specs.Prelude.{◌≡◌, IfOk, OnOk};
-ghost use Rattle.hex.specs.Hex.{encode_lower};
+ghost use Rattle.std.specs.Prelude.{◌≡◌, OnOk};
 ghost use Rattle.reg_publish.specs.Folder.{Places, PlacesSummed};
 ghost use Rattle.reg_site.specs.Site.{one_file};
 ghost use Rattle.reg_site.specs.Sums.{entries_of, lines_of};
 ghost use Rattle.reg_site.specs.declared.files.File.TheVariants as file;
 
-use reg_changes::field::Field;
 use reg_pages::portions::{Portions, Whole};
 use reg_site::files::File;
 use reg_site::sums::Sums;
 use reg_source::folder::Folder;
 use reg_source::unpublished::Unpublished;
-use std::alloc::{AllocError, Global};
+use std::alloc::Global;
 
 /// Puts a file with these bytes into a folder, and adds its sum.
 pub(crate) fn put_bytes<F: Folder>(
@@ -41,17 +39,8 @@ pub(crate) fn put<F: Folder, P: Portions>(
 {
     let hash = folder.publish(file, bytes)?;
     let path = file.path(alloc)?;
-    let digest = digits_of(alloc, &hash)?;
-    sums.add(alloc, path.as_str(), digest)?;
+    sums.add(alloc, path.as_str(), &hash)?;
     Ok(())
-}
-
-// A hash in lower-case hexadecimal.
-fn digits_of(alloc: Global, hash: &[u8; 32]) -> Result<Field, AllocError>
-    ensures { IfOk result (λ digits. digits ≡ encode_lower hash.now) }
-{
-    let digits = hex::encode(alloc, hash.as_slice())?;
-    Field::new(alloc, digits.as_str())
 }
 
 /// Puts the sums of all files into a folder.

@@ -1,5 +1,4 @@
 use Rattle.std.proofs.Common.{ap, ◌∙◌}
-use Rattle.hex.specs.Hex.{encode_lower}
 use Rattle.reg_site.specs.Files.{path_of}
 use Rattle.reg_site.specs.Sums.{entries_of, with_sum}
 use Rattle.reg_publish.specs.Folder.{PutsSummed}
@@ -14,8 +13,7 @@ returns g c =
           places_one (PutsSummed g.F.Folder.Puts) (c.args.folder.now, entries_of c.args.sums.now)
           (c.publish.new.self, entries_of c.add.new.self) (path_of c.args.file) bytes (
             c.in_ok-hash.ensures.done,
-            c.in_ok-add.ensures bytes
-                (c.in_ok-digest.ensures ∙ ap encode_lower c.in_ok-hash.ensures.hash)
+            c.in_ok-add.ensures bytes c.in_ok-hash.ensures.hash
                 ∙ ap (λ path. with_sum (entries_of c.args.sums.now) path bytes)
                 (c.as_str.ensures.value ∙ c.in_ok-path.ensures),
           );
