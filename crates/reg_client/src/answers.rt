@@ -3,12 +3,12 @@
 ghost use Rattle.std.specs.Prelude.{◌≡◌, ◌+◌, ◌<◌, ◌≤◌, ◌++◌, true, IfOk, IfSome, codes, length};
 ghost use Rattle.std.specs.Fmt.{decimal};
 ghost use Rattle.reg_wire.specs.Response.{field_line, media_type, reason, status_line};
-ghost use Rattle.reg_print.specs.Comparing.{Leaves};
 ghost use Rattle.reg_source.specs.Bounded.{AreAll, AreMore};
 ghost use Rattle.reg_client.specs.Answers.{answer_text, end_of_head};
 
 use http::StatusCode;
 use reg_print::answer::Format;
+use reg_print::comparing::{behind, until};
 use reg_ranges::number::read_number;
 use reg_source::bounded::read_up_to;
 use reg_source::unpublished::Unpublished;
@@ -162,19 +162,4 @@ fn says(digits: &[u8], number: usize) -> bool
         Some(said) => said as usize == number,
         None => false,
     }
-}
-
-// What is left of a text behind this front, where it begins with it.
-fn behind<'a>(front: &[u8], text: &'a [u8]) -> Option<&'a [u8]>
-    ensures { Leaves front.now text.now result }
-{
-    text.strip_prefix(front)
-}
-
-// A text before the first such byte, and from it on.
-fn until(byte: u8, text: &[u8]) -> Option<(&[u8], &[u8])>
-    ensures { IfSome result (λ parts. text.now ≡ parts.0.now ++ parts.1.now) }
-{
-    let end = text.iter().position(|other| *other == byte)?;
-    Some(text.split_at(end))
 }
