@@ -1,9 +1,9 @@
-"""Shared libraries that stand between a program and the system, and refuse it memory."""
+"""Shared libraries that stand between a program and the system: they refuse it memory, or a sync, or say another time."""
 import os
 import shutil
 import subprocess
 
-# What both shims call, without the system's headers, which the kit's compiler has not.
+# What the shims call, without the system's headers, which the kit's compiler has not.
 CALLED = r'''
 typedef unsigned long size_t;
 struct timespec { long tv_sec, tv_nsec; };
@@ -14,11 +14,11 @@ extern void *dlsym(void *, const char *), *signal(int, void (*)(int));
 extern void _exit(int);
 enum { SIGUSR1 = 10, CLOCK_REALTIME = 0 };
 static int told(const char *name) { return atoi(getenv(name)); }
+#define NEXT(name, type) static type next; if (!next) next = (type)dlsym((void *)-1L, name)
 '''
 # What they stand in for. They ask `is_refused` at each allocation, and tell `was_read` of each reading of the clock, which may say
 # another time.
 FUNCTIONS = r'''
-#define NEXT(name, type) static type next; if (!next) next = (type)dlsym((void *)-1L, name)
 void *malloc(size_t n) { typedef void *(*F)(size_t); NEXT("malloc", F); return is_refused() ? 0 : next(n); }
 void *realloc(void *p, size_t n) { typedef void *(*F)(void *, size_t); NEXT("realloc", F); return is_refused() ? 0 : next(p, n); }
 void *aligned_alloc(size_t a, size_t n) { typedef void *(*F)(size_t, size_t); NEXT("aligned_alloc", F); return is_refused() ? 0 : next(a, n); }
@@ -92,6 +92,38 @@ static void was_read(struct timespec *time) {
     else if (!goes_to_end && ++readings > told("READINGS")) _exit(0);
 }
 ''' + FUNCTIONS
+# The system's clock is at the end of the second MOMENT, if there is one, and the sync of this number of a file or folder below UNSYNCED_IN fails.
+STANDING = CALLED + r'''
+extern int *__errno_location(void), snprintf(char *, size_t, const char *, ...);
+extern char *strstr(const char *, const char *);
+extern long readlink(const char *, char *, size_t);
+enum { EIO = 5 };
+static int is_within(int file, const char *folder) {
+    char name[32], path[4096];
+    snprintf(name, sizeof name, "/proc/self/fd/%d", file);
+    long length = readlink(name, path, sizeof path - 1);
+    if (length < 0) return 0;
+    path[length] = 0;
+    return strstr(path, folder) != 0;
+}
+int fsync(int file) {
+    typedef int (*F)(int); NEXT("fsync", F);
+    static int count;
+    const char *folder = getenv("UNSYNCED_IN");
+    if (!folder || !is_within(file, folder) || ++count != told("UNSYNCED")) return next(file);
+    *__errno_location() = EIO;
+    return -1;
+}
+int clock_gettime(int clock, struct timespec *time) {
+    typedef int (*F)(int, struct timespec *); NEXT("clock_gettime", F);
+    int got = next(clock, time);
+    if (clock == CLOCK_REALTIME && getenv("MOMENT")) {
+        time->tv_sec = atol(getenv("MOMENT"));
+        time->tv_nsec = 999999999;
+    }
+    return got;
+}
+'''
 
 
 def compiled(text, folder):

@@ -1,6 +1,7 @@
 """A case: a folder in which steps are taken, and what a step wants."""
 import ast
 import contextlib
+import os
 import pathlib
 import shutil
 import sqlite3
@@ -62,13 +63,21 @@ def wants(found, wanted, what):
 class Case:
     """The folder of a case, in which steps are taken one after the other."""
 
-    def __init__(self, program, folder):
-        self.program, self.folder = program, pathlib.Path(folder)
+    def __init__(self, program, shim, folder):
+        self.program, self.shim, self.folder = program, shim, pathlib.Path(folder)
+        # The moment of the clock, if it is not that of the machine.
+        self.moment = None
+
+    def surroundings(self, **named):
+        """The environment of the program, in which these names have these values: those of tools/lib/shims.py, STANDING."""
+        if self.moment:
+            named['MOMENT'] = self.moment
+        return dict(os.environ, LD_PRELOAD=self.shim, **named) if named else None
 
     def run(self, words, given=b'', before=(), **streams):
         """What the program gives, after these words: the exit status, standard output and standard error."""
         words = ['' if word == "''" else word for word in words.split(' ')] if words else []
-        streams = {'input': given, 'stdout': subprocess.PIPE, 'stderr': subprocess.PIPE, **streams}
+        streams = {'input': given, 'stdout': subprocess.PIPE, 'stderr': subprocess.PIPE, 'env': self.surroundings(), **streams}
         ran = subprocess.run([*before, self.program, *words], cwd=self.folder, timeout=60, **streams)
         return ran.returncode, ran.stdout, ran.stderr
 

@@ -188,6 +188,28 @@ def differ(case, words, given, wanted):
     wants(found, sorted(files), f'what differs below {one} and {other}')
 
 
+def set_clock(case, moment, given, wanted):
+    case.moment = moment
+
+
+def is_unsynchronised(case, file, given, wanted):
+    names = wanted.decode().split()
+
+    def published(number):
+        """What is said where the sync of this number fails, and the files of the site then."""
+        folder = f'unsynchronised-{number}'
+        surroundings = case.surroundings(UNSYNCED_IN=f'/{folder}', UNSYNCED=str(number))
+        ran = case.run(f'publish {file} {folder}', env=surroundings)
+        return ran, {name: text for name, text in case.below(folder).items() if name != '.lock'}
+
+    (status, _, errors), whole = published(2 * len(names) + 1)
+    wants((status, errors, sorted(whole)), (0, b'', sorted(names)), f'publish {file}, which makes {2 * len(names)} syncs')
+    for number in range(1, 2 * len(names) + 1):
+        ran, files = published(number)
+        wants(ran, (1, b'', b'fault: write\n'), f'publish {file}, whose sync {number} fails')
+        wants(files, {name: whole[name] for name in names[:number // 2]}, f'the files where sync {number} fails')
+
+
 def agree(case, folder, given, wanted):
     ran = subprocess.run([sys.executable, '-S', '-E', CHECK_SITE, folder], cwd=case.folder, capture_output=True, timeout=60, check=False)
     wants((ran.returncode, ran.stderr), (0, b''), 'check-site.py')

@@ -28,7 +28,7 @@ def listener():
 def serving(case, file, *words, connections=1):
     """The program that serves the office in the file to so many clients, at a port that nobody has taken meanwhile."""
     while True:
-        server = Served(case.program, file, '--connections', connections, *words, cwd=case.folder, stderr=subprocess.PIPE)
+        server = Served(case.program, file, '--connections', connections, *words, cwd=case.folder, stderr=subprocess.PIPE, env=case.surroundings())
         if server.listens():
             return server
         _, errors = server.communicate(timeout=60)
@@ -232,6 +232,25 @@ def is_silent(case, file, given, wanted):
 
 def is_dripping(case, file, given, wanted):
     wants(until_dropped(case, file, functools.partial(send_each_second, given)), b'', 'what a dripping client hears')
+
+
+def is_untaken(case, file_and_path, given, wanted):
+    file, _, path = file_and_path.partition(' ')
+    with serving(case, file, '--log', connections=2) as server, socket.socket() as client:
+        # Of the answer the system keeps little for a client.
+        client.setsockopt(socket.SOL_SOCKET, socket.SO_RCVBUF, 4096)
+        begun = time.monotonic()
+        client.connect(('127.0.0.1', server.port))
+        client.sendall(f'GET {path} HTTP/1.1\r\n\r\n'.encode())
+        time.sleep(1)
+        asked = time.monotonic()
+        answer = office.exchange(server.port, b'GET /registries HTTP/1.1\r\n\r\n', seconds=60)
+        wants((answer[:12], time.monotonic() - asked < 2), (b'HTTP/1.1 200', True), 'another client, who is answered within two seconds')
+        output, errors = server.communicate(timeout=60)
+        lasted = time.monotonic() - begun
+    lines = b''.join(line.partition(b' ')[2] for line in errors.splitlines(keepends=True))
+    wants((server.returncode, output, lines), (0, b'', wanted), f'serve {file}, and its log')
+    wants(9.5 < lasted < 25, True, f'{lasted} seconds after which who takes nothing is dropped')
 
 
 def send_each_second(given, client):

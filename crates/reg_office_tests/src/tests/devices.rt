@@ -1,11 +1,14 @@
-//! Readers and writers that give and take little, and fail.
+//! A reader and a writer that give and take little, and fail.
 use std::io;
 use std::io::{Read, Write};
 
-/// Gives these bytes, one a call, and counts the calls.
+/// Gives these bytes, one a call, and then ends, or fails; or it gives the first of them for ever. It counts
+/// the calls.
 #[derive(Drop)]
 pub struct GivesOne<'a> {
     pub bytes: &'a [u8],
+    pub fails: bool,
+    pub repeats: bool,
     pub reads: usize,
 }
 
@@ -13,27 +16,15 @@ impl Read for GivesOne<'_> {
     fn read(&mut self, buf: &mut [u8]) -> io::Result<usize> {
         self.reads = self.reads.wrapping_add(1);
         if self.bytes.is_empty() || buf.is_empty() {
+            if self.fails {
+                return Err(io::ErrorKind::Other.into());
+            }
             return Ok(0);
         }
         buf[0] = self.bytes[0];
-        self.bytes = &self.bytes[1..];
-        Ok(1)
-    }
-}
-
-/// Gives one byte a call, and fails when these are given.
-#[derive(Drop)]
-pub struct FailsBefore<'a> {
-    pub bytes: &'a [u8],
-}
-
-impl Read for FailsBefore<'_> {
-    fn read(&mut self, buf: &mut [u8]) -> io::Result<usize> {
-        if self.bytes.is_empty() || buf.is_empty() {
-            return Err(io::ErrorKind::Other.into());
+        if !self.repeats {
+            self.bytes = &self.bytes[1..];
         }
-        buf[0] = self.bytes[0];
-        self.bytes = &self.bytes[1..];
         Ok(1)
     }
 }
@@ -62,22 +53,5 @@ impl Write for FailsAfter {
 
     fn flush(&mut self) -> io::Result<()> {
         Ok(())
-    }
-}
-
-/// Gives the same byte for ever.
-#[derive(Drop)]
-pub struct NeverEnds {
-    pub reads: u32,
-}
-
-impl Read for NeverEnds {
-    fn read(&mut self, buf: &mut [u8]) -> io::Result<usize> {
-        self.reads = self.reads.wrapping_add(1);
-        if buf.is_empty() {
-            return Ok(0);
-        }
-        buf[0] = b'x';
-        Ok(1)
     }
 }

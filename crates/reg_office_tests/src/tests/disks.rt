@@ -2,13 +2,11 @@
 //! opening.
 mod asking;
 mod calls;
-mod counted;
-mod founding;
-mod image;
+mod failing;
 mod left;
 mod lines;
 mod making;
-mod migrating;
+mod openings;
 mod resumed;
 mod rows;
 mod sessions;

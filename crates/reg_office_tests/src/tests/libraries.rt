@@ -5,5 +5,4 @@ mod digits;
 mod early;
 mod expecting;
 mod free_values;
-mod history;
 mod places;

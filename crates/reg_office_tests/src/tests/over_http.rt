@@ -1,10 +1,4 @@
-//! Requests over HTTP that break off, fail or are silent.
-mod asking;
-mod callers;
+//! Requests over HTTP that break off or fail, what stands in front of an office, and its log.
 mod failures;
 mod front;
-mod listening;
 mod logged;
-mod messages;
-pub mod served;
-mod untaken;

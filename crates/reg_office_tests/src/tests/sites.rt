@@ -1,8 +1,4 @@
-//! Published sites, where a source or a step fails, and the answers that are published.
-mod answers;
-mod devices;
+//! Published sites, where a source fails or files take the places of others, and how much is read of an answer.
+mod bounded;
 mod faults;
-mod files;
-mod office;
 mod replacements;
-mod unsynchronised;

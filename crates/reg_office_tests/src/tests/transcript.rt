@@ -1,6 +1,7 @@
 //! What a transcript sends, and what is answered to it.
 use std::alloc::{AllocError, Global};
 use std::ops::Range;
+use std::test::Fail;
 
 /// The lines that these transcripts send, in order: those that begin with `> `, without it. A TAB
 /// is written as `|`. A line after `>= FIRST..LAST ` is sent for each of these numbers, which stands
@@ -16,15 +17,15 @@ pub fn answered(alloc: Global, transcripts: &[&str]) -> Result<String, AllocErro
 }
 
 /// The part of a transcript below the line `== TITLE`, up to the next such line.
-pub fn part<'a>(transcript: &'a str, title: &str) -> Option<&'a str> {
+pub fn part<'a>(transcript: &'a str, title: &str) -> Result<&'a str, Fail> {
     for part in transcript.split("\n== ") {
         if let Some((first, lines)) = part.split_once('\n') {
             if first == title {
-                return Some(lines);
+                return Ok(lines);
             }
         }
     }
-    None
+    Err(title.into())
 }
 
 // The lines that begin with this mark, without it.
@@ -53,12 +54,17 @@ fn put_lines(
 
 // Puts a line of which the mark is taken, once or for each of its numbers.
 fn put_marked(text: &mut String, alloc: Global, marked: &str) -> Result<(), AllocError> {
-    if let Some(line) = marked.strip_prefix(' ') {
-        return put_line(text, line, "#");
+    let line = marked.replace(alloc, "|", "\t")?;
+    let line = line.as_str();
+    if let Some(line) = line.strip_prefix(' ') {
+        text.push_str(line)?;
+        return text.push('\n');
     }
-    if let Some((numbers, line)) = numbered(marked) {
+    if let Some((numbers, line)) = numbered(line) {
         for number in numbers {
-            put_line(text, line, number.to_string(alloc)?.as_str())?;
+            let number = number.to_string(alloc)?;
+            text.push_str(line.replace(alloc, "#", number.as_str())?.as_str())?;
+            text.push('\n')?;
         }
     }
     Ok(())
@@ -71,16 +77,4 @@ fn numbered(marked: &str) -> Option<(Range<u32>, &str)> {
     let first = first.parse().ok()?;
     let last: u32 = last.parse().ok()?;
     Some((first..last.checked_add(1)?, line))
-}
-
-// Puts a line, with a number in the place of each `#`.
-fn put_line(text: &mut String, line: &str, number: &str) -> Result<(), AllocError> {
-    for c in line.chars() {
-        match c {
-            '|' => text.push('\t')?,
-            '#' => text.push_str(number)?,
-            c => text.push(c)?,
-        }
-    }
-    text.push('\n')
 }

@@ -2,14 +2,11 @@
 //! HTTP, over lists and over tables in memory.
 mod after;
 mod alike;
-mod exercise;
 mod floods;
 mod generated;
-mod heads;
+mod lines;
 mod messages;
 mod refused;
 pub mod rows;
-mod scripts;
-mod served;
 mod stored;
 mod wide;

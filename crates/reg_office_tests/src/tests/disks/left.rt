@@ -1,6 +1,4 @@
 //! What disks that stop leave.
-use crate::tests::disks::counted::Counted;
-use crate::tests::disks::image::{Image, copied};
 use sqlite::Files;
 use sqlite_disk::{Crash, Disk, Fuse, Memory};
 use std::alloc::{AllocError, Global};
@@ -8,10 +6,17 @@ use std::io;
 use std::test::Fail;
 
 /// A disk in memory that stops.
-pub(crate) type Stopping = Counted<Fuse<Memory>>;
+pub(crate) type Stopping = Fuse<Memory>;
+
+/// What lies in the files of a store.
+#[derive(Drop, PartialEq)]
+pub struct Image {
+    pub(crate) log: Vec<u8>,
+    pub(crate) db: Vec<u8>,
+}
 
 /// After how many calls the disk of each file stops.
-#[derive(Clone, Copy, Debug)]
+#[derive(Clone, Copy)]
 pub struct Stop {
     pub log: u64,
     pub db: u64,
@@ -26,28 +31,27 @@ impl Stop {
         }
     }
 
-    /// Whether disks with so many calls do not meet the stop.
-    pub fn is_within(self, stop: Stop) -> bool {
-        self.log <= stop.log && self.db <= stop.db
-    }
-
-    /// The test fails at this, and says where the disks stopped, unless the fact holds.
-    pub fn ensure(self, holds: bool, what: &str) -> Result<(), Fail> {
+    /// The test fails at this, and says what it wants, of which line, and where the disks stopped, unless the fact
+    /// holds.
+    pub fn ensure(self, holds: bool, what: &str, line: &str) -> Result<(), Fail> {
         if holds {
-            Ok(())
-        } else {
-            Err(Fail::new(format_args!("{what}, at {self:?}")))
+            return Ok(());
         }
+        let (log, db) = (self.log, self.db);
+        Err(Fail::new(format_args!("{what}, at {log} and {db}: {line}")))
     }
 }
 
 /// The disks stop at their first calls.
 pub const AT_ONCE: Stop = Stop { log: 0, db: 0 };
 
+// More calls than a session makes.
+const MOST: u64 = 20_000;
+
 /// The disks do not stop.
 pub const NEVER: Stop = Stop {
-    log: u64::MAX,
-    db: u64::MAX,
+    log: MOST,
+    db: MOST,
 };
 
 /// The log's disk stops at each call between these in turn, and then the database's.
@@ -69,58 +73,54 @@ pub struct Left {
     pub written: Image,
     /// What was synced. A crash loses the rest.
     pub synced: Image,
-    /// The least stop that lets through all calls that there were.
+    /// The least stop that lets through all calls that there were, or the stop that was met.
     pub calls: Stop,
 }
 
-/// What is left of one file.
-#[derive(Drop)]
-struct LeftOfFile {
-    written: Vec<u8>,
-    synced: Vec<u8>,
-    calls: u64,
-}
-
-/// What is left of these files.
-pub(crate) fn left_of(alloc: Global, files: Files<Stopping>) -> Result<Left, AllocError> {
-    let Files { log, db } = files;
-    let log = left_of_file(alloc, log);
-    let db = left_of_file(alloc, db);
-    let (log, db) = (log?, db?);
+/// What is left of these files, whose disks were to stop there.
+pub(crate) fn left_of(
+    alloc: Global,
+    files: Files<Stopping>,
+    stop: Stop,
+) -> Result<Left, AllocError> {
+    let Files { mut log, mut db } = files;
+    let calls = Stop {
+        log: stop.log.saturating_sub(calls_left(&mut log)),
+        db: stop.db.saturating_sub(calls_left(&mut db)),
+    };
+    let left_of_log = left_on(alloc, &mut log);
+    let left_of_db = left_on(alloc, &mut db);
+    drop(log);
+    drop(db);
+    let ((log, log_synced), (db, db_synced)) = (left_of_log?, left_of_db?);
     Ok(Left {
-        written: Image {
-            log: log.written,
-            db: db.written,
-        },
+        written: Image { log, db },
         synced: Image {
-            log: log.synced,
-            db: db.synced,
+            log: log_synced,
+            db: db_synced,
         },
-        calls: Stop {
-            log: log.calls,
-            db: db.calls,
-        },
-    })
-}
-
-fn left_of_file(alloc: Global, disk: Stopping) -> Result<LeftOfFile, AllocError> {
-    let calls = disk.calls();
-    let mut disk = disk.into_inner();
-    let written_and_synced = left_on(alloc, &mut disk);
-    drop(disk);
-    let (written, synced) = written_and_synced?;
-    Ok(LeftOfFile {
-        written,
-        synced,
         calls,
     })
 }
 
+// How many calls a disk would still take, which it takes.
+fn calls_left<D: Disk>(disk: &mut D) -> u64 {
+    for calls in 0..u64::MAX {
+        if !disk.may_be_used() {
+            return calls;
+        }
+        if disk.len().is_err() {
+            return calls;
+        }
+    }
+    u64::MAX
+}
+
 // What was written to a disk, and what a crash leaves of it.
-fn left_on(alloc: Global, disk: &mut Fuse<Memory>) -> Result<(Vec<u8>, Vec<u8>), AllocError> {
-    let written = copied(alloc, disk.inner().bytes())?;
+fn left_on(alloc: Global, disk: &mut Stopping) -> Result<(Vec<u8>, Vec<u8>), AllocError> {
+    let written = disk.inner().bytes().to_vec(alloc)?;
     disk.crash();
-    let synced = copied(alloc, disk.inner().bytes())?;
+    let synced = disk.inner().bytes().to_vec(alloc)?;
     Ok((written, synced))
 }
 
@@ -129,5 +129,5 @@ pub(crate) fn disk_with(alloc: Global, bytes: &[u8], calls: u64) -> io::Result<S
     let mut disk = Memory::new(alloc);
     disk.write_at(0, bytes)?;
     disk.sync()?;
-    Ok(Counted::new(Fuse::new(disk, calls)))
+    Ok(Fuse::new(disk, calls))
 }

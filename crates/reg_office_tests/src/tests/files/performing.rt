@@ -101,16 +101,8 @@ w %/register.csv
 < reg_cli init office.db --clerk @clerk.token
 "#;
 
-/// What a job gives.
-#[derive(Drop)]
-struct Given {
-    status: u8,
-    output: Vec<u8>,
-    errors: Vec<u8>,
-}
-
-// Does the job of these words, which is given this.
-fn done(rt: &HostRuntime, words: &str, input: &str) -> Result<Given, Fail> {
+// Does the job of these words, which is given this: its exit status, standard output and standard error.
+fn done(rt: &HostRuntime, words: &str, input: &str) -> Result<(u8, Vec<u8>, Vec<u8>), Fail> {
     let alloc = rt.alloc();
     let mut list = Vec::new(alloc);
     list.push("reg_cli")?;
@@ -124,49 +116,30 @@ fn done(rt: &HostRuntime, words: &str, input: &str) -> Result<Given, Fail> {
     let mut output = Vec::new(alloc);
     let mut errors = Vec::new(alloc);
     let status = perform(rt, job, &mut input, &mut output, &mut errors);
-    Ok(Given {
-        status,
-        output,
-        errors,
-    })
-}
-
-// What is given is this, or among other lines this.
-fn is_given(given: &[u8], wanted: &str, is_among_others: bool) -> bool {
-    if is_among_others {
-        return str::from_utf8(given).is_ok_and(|given| given.contains(wanted.trim_end()));
-    }
-    given == wanted.as_bytes()
+    Ok((status, output, errors))
 }
 
 // Does what a case says.
-fn assert_case(rt: &HostRuntime, sign: &str, words: &str, lines: &str) -> Result<(), Fail> {
+fn assert_case(rt: &HostRuntime, case: &str) -> Result<(), Fail> {
+    let (line, lines) = case.trim_start().split_once('\n').ok_or("a case")?;
+    let (sign, words) = line.split_once(' ').ok_or("words")?;
     let input = sent(rt.alloc(), &[lines])?;
     if sign == "w" {
         return Ok(fs::write(rt, words, input.as_str())?);
     }
-    let given = done(rt, words, input.as_str())?;
     let wanted = answered(rt.alloc(), &[lines])?;
-    let (said, other, status) = match sign {
-        "1" => (&given.errors, &given.output, 1),
-        _ => (&given.output, &given.errors, 0),
+    let (status, output, errors) = done(rt, words, input.as_str())?;
+    let is_fault = sign == "1";
+    let (said, other, wanted_status) = if is_fault {
+        (errors.as_slice(), output.as_slice(), 1)
+    } else {
+        (output.as_slice(), errors.as_slice(), 0)
     };
-    ensure(given.status == status, words)?;
+    ensure(status == wanted_status, words)?;
     ensure(other.is_empty(), words)?;
-    ensure(
-        is_given(said.as_slice(), wanted.as_str(), sign == "+"),
-        words,
-    )
-}
-
-// Does what each case says, with this folder.
-fn assert_cases(rt: &HostRuntime, jobs: &str) -> Result<(), Fail> {
-    for case in jobs.split("\n\n") {
-        let (line, lines) = case.trim_start().split_once('\n').ok_or("a case")?;
-        let (sign, words) = line.split_once(' ').ok_or("words")?;
-        assert_case(rt, sign, words, lines)?;
-    }
-    Ok(())
+    let said = str::from_utf8(said)?;
+    let is_among_others = sign == "+" && said.contains(wanted.as_str().trim_end());
+    ensure(is_among_others || said == wanted.as_str(), words)
 }
 
 #[test]
@@ -177,6 +150,8 @@ fn each_job(rt: HostRuntime) -> Result<(), Fail> {
     let port = listener.local_addr()?.port().to_string(rt.alloc())?;
     let jobs = JOBS.replace(rt.alloc(), "%", folder.as_str())?;
     let jobs = jobs.as_str().replace(rt.alloc(), "PORT", port.as_str())?;
-    assert_cases(&rt, jobs.as_str())?;
+    for case in jobs.as_str().split("\n\n") {
+        assert_case(&rt, case)?;
+    }
     Ok(fs::remove_dir_all(&rt, folder.as_str())?)
 }

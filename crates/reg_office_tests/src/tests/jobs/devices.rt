@@ -1,12 +1,12 @@
 //! Scripts whose reader fails before a byte or never ends, and whose writer fails after a byte.
-use crate::tests::devices::{FailsAfter, FailsBefore, NeverEnds};
-use crate::tests::exercise::{Exercise, over_lists};
+use crate::tests::devices::{FailsAfter, GivesOne};
+use crate::tests::exercise::{CLERK, Exercise, over_lists};
 use crate::tests::facts::ensure;
-use crate::tests::jobs::running::run_over;
 use reg_keeper::keeper::Keeper;
+use reg_office::Office;
 use reg_program::faults::{JobFailure, Undone};
+use reg_program::scripts::found_and_run;
 use std::alloc::{AllocError, Global};
-use std::io::{Read, Write};
 use std::test::Fail;
 
 const LINES: &str =
@@ -15,37 +15,31 @@ const LINES: &str =
 const ANSWERS: &str =
     "401 {\"error\":\"token\"}\n200 {\"account\":\"alice\",\"kind\":\"applicant\",\"until\":1800000000}\n200 []\n";
 
-/// A script that is read and answered.
+/// A script of a new office that is read and answered, and what it fails for.
 #[derive(Drop)]
-struct Script<'a, R, W> {
-    reader: &'a mut R,
-    writer: &'a mut W,
+struct Script<'a, 'b> {
+    reader: &'a mut GivesOne<'b>,
+    writer: &'a mut FailsAfter,
+    wanted: JobFailure,
 }
 
-impl<R: Read, W: Write> Exercise for Script<'_, R, W> {
-    type Outcome = Option<JobFailure>;
-
-    // Why it was not done to its end, if it was not.
-    fn done<K: Keeper + Drop>(
-        self,
-        rt: &HostRuntime,
-        keeper: K,
-    ) -> Result<Option<JobFailure>, Fail> {
-        let Script { reader, writer } = self;
-        match run_over(rt.alloc(), keeper, reader, writer) {
-            Ok(()) => Ok(None),
-            Err(Undone::Fault(failure)) => Ok(Some(failure)),
-            Err(_) => Err("a script that is refused".into()),
-        }
+impl Exercise for Script<'_, '_> {
+    fn done<K: Keeper + Drop>(self, rt: &HostRuntime, keeper: K) -> Result<String, Fail> {
+        let Script {
+            reader,
+            writer,
+            wanted,
+        } = self;
+        let mut office = Office::new(rt.alloc(), keeper);
+        let done = found_and_run(rt.alloc(), &mut office, CLERK, reader, writer);
+        drop(office);
+        let is_so = match done {
+            Err(Undone::Fault(failure)) => failure == wanted,
+            _ => false,
+        };
+        ensure(is_so, "a script that fails")?;
+        Ok(String::new(rt.alloc()))
     }
-}
-
-fn failure_of<R: Read, W: Write>(
-    rt: &HostRuntime,
-    reader: &mut R,
-    writer: &mut W,
-) -> Result<Option<JobFailure>, Fail> {
-    over_lists(rt, Script { reader, writer })
 }
 
 // The answers to the lines whose line feed is among these bytes.
@@ -64,16 +58,35 @@ fn answers_to(alloc: Global, read: &[u8]) -> Result<Vec<u8>, AllocError> {
     Ok(answers)
 }
 
+// A writer with this room.
+fn room_for(alloc: Global, room: usize) -> FailsAfter {
+    FailsAfter {
+        taken: Vec::new(alloc),
+        room,
+        most: 1,
+        writes: 0,
+    }
+}
+
 #[test]
 fn a_read_that_fails_before_each_byte(rt: HostRuntime) -> Result<(), Fail> {
     for count in 0..=LINES.len() {
         let read = &LINES.as_bytes()[..count];
-        let mut input = FailsBefore { bytes: read };
-        let mut output = Vec::new(rt.alloc());
-        let failure = failure_of(&rt, &mut input, &mut output)?;
+        let mut reader = GivesOne {
+            bytes: read,
+            fails: true,
+            repeats: false,
+            reads: 0,
+        };
+        let mut writer = room_for(rt.alloc(), usize::MAX);
+        let script = Script {
+            reader: &mut reader,
+            writer: &mut writer,
+            wanted: JobFailure::Read,
+        };
+        over_lists(&rt, script)?;
         let wanted = answers_to(rt.alloc(), read)?;
-        ensure(output == wanted, "the answers to what was read")?;
-        ensure(failure == Some(JobFailure::Read), "a read that failed")?;
+        ensure(writer.taken == wanted, "the answers to what was read")?;
     }
     Ok(())
 }
@@ -81,27 +94,40 @@ fn a_read_that_fails_before_each_byte(rt: HostRuntime) -> Result<(), Fail> {
 #[test]
 fn a_write_that_fails_after_each_byte(rt: HostRuntime) -> Result<(), Fail> {
     for room in 0..ANSWERS.len() {
-        let mut input = LINES.as_bytes();
-        let mut output = FailsAfter {
-            taken: Vec::new(rt.alloc()),
-            room,
-            most: 1,
-            writes: 0,
+        let mut reader = GivesOne {
+            bytes: LINES.as_bytes(),
+            fails: false,
+            repeats: false,
+            reads: 0,
         };
-        let failure = failure_of(&rt, &mut input, &mut output)?;
+        let mut writer = room_for(rt.alloc(), room);
+        let script = Script {
+            reader: &mut reader,
+            writer: &mut writer,
+            wanted: JobFailure::Write,
+        };
+        over_lists(&rt, script)?;
         let wanted = &ANSWERS.as_bytes()[..room];
-        ensure(output.taken.as_slice() == wanted, "what was taken")?;
-        ensure(failure == Some(JobFailure::Write), "a write that failed")?;
+        ensure(writer.taken.as_slice() == wanted, "what was taken")?;
     }
     Ok(())
 }
 
 #[test]
 fn a_reader_without_an_end(rt: HostRuntime) -> Result<(), Fail> {
-    let mut input = NeverEnds { reads: 0 };
-    let mut output = Vec::new(rt.alloc());
-    let failure = failure_of(&rt, &mut input, &mut output)?;
-    ensure(input.reads == 16_777_216, "the reads that are made")?;
-    ensure(output.is_empty(), "no answer")?;
-    ensure(failure == Some(JobFailure::Read), "a read that failed")
+    let mut reader = GivesOne {
+        bytes: b"x",
+        fails: false,
+        repeats: true,
+        reads: 0,
+    };
+    let mut writer = room_for(rt.alloc(), usize::MAX);
+    let script = Script {
+        reader: &mut reader,
+        writer: &mut writer,
+        wanted: JobFailure::Read,
+    };
+    over_lists(&rt, script)?;
+    ensure(reader.reads == 16_777_216, "the reads that are made")?;
+    ensure(writer.taken.is_empty(), "no answer")
 }

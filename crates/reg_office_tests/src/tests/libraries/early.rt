@@ -1,13 +1,8 @@
-//! Days and texts against Python's `datetime`, and terms and evidence against worked cases.
-use crate::tests::libraries::expecting::{expect, expect_at, expect_text, expect_true};
+//! Days against Python's `datetime`, and terms against worked cases. Statuses, evidence and policies are in
+//! the transcripts of `reg_cli`.
+use crate::tests::libraries::expecting::{expect, expect_at, expect_text};
 use reg_early::day::{Day, day_of, day_text, year_after};
-use reg_early::evidence::EarlyEvidence;
-use reg_early::laws;
-use reg_early::requirements::early_missing;
 use reg_early::term::{RenewFault, SettleFault, Term};
-use reg_ranges::evidence::Item;
-use reg_ranges::policy::Policy;
-use reg_ranges::text::Text;
 use std::alloc::Global;
 use std::process::Abort;
 use std::test::Fail;
@@ -16,60 +11,51 @@ fn day(number: u32) -> Result<Day, Fail> {
     Ok(Day::from_days(number).ok_or("no day")?)
 }
 
-const NO_DAYS: &[u32] = &[0, 10956, 2932897, u32::MAX];
-
+// Days by their numbers, and numbers that are none of a day.
 const DAYS: &[(u32, &str)] = &[
+    (0, "none"),
+    (10956, "none"),
     (10957, "2000-01-01"),
     (19782, "2024-02-29"),
     (47541, "2100-03-01"),
     (2932896, "9999-12-31"),
+    (2932897, "none"),
+    (u32::MAX, "none"),
 ];
-
-fn expect_no_day(rt: &impl Abort, number: u32) {
-    expect_at(rt, Day::from_days(number), None, u64::from(number));
-}
-
-fn expect_day(rt: &impl Abort, alloc: Global, number: u32, text: &str) -> Result<(), Fail> {
-    let day = day(number)?;
-    expect_at(rt, day.days(), number, u64::from(number));
-    expect_text(rt, day_text(alloc, day)?.as_str(), text, "date");
-    Ok(())
-}
-
-fn laws_return() {
-    laws::days_and_dates_are_one_to_one();
-    laws::calendar_is_jiffs();
-    laws::year_after_is_the_same_date();
-    laws::moments_have_days();
-    laws::terms_have_days();
-}
 
 #[test]
 fn days_end_where_the_calendar_does(rt: HostRuntime) -> Result<(), Fail> {
-    for number in NO_DAYS {
-        expect_no_day(&rt, *number);
-    }
     for (number, text) in DAYS {
-        expect_day(&rt, rt.alloc(), *number, text)?;
+        match Day::from_days(*number) {
+            Some(day) => {
+                expect_at(&rt, day.days(), *number, u64::from(*number));
+                expect_text(&rt, day_text(rt.alloc(), day)?.as_str(), text, "date");
+            }
+            None => expect_text(&rt, "none", text, "no date"),
+        }
     }
-    laws_return();
     Ok(())
 }
 
 #[test]
 fn moments_have_utc_days(rt: HostRuntime) {
     for (moment, number) in [
-        (946684800, 10957),
-        (1700000000, 19675),
-        (1709164799, 19781),
-        (1709164800, 19782),
-        (1709251199, 19782),
-        (32503679999, 376199),
+        (0, None),
+        (946684799, None),
+        (946684800, Some(10957)),
+        (1700000000, Some(19675)),
+        (1709164799, Some(19781)),
+        (1709164800, Some(19782)),
+        (1709251199, Some(19782)),
+        (32503679999, Some(376199)),
+        (32503680000, None),
+        (u64::MAX, None),
     ] {
-        expect_at(&rt, day_of(moment), Day::from_days(number), moment);
-    }
-    for moment in [0, 946684799, 32503680000, u64::MAX] {
-        expect_at(&rt, day_of(moment), None, moment);
+        let found = match day_of(moment) {
+            Some(day) => Some(day.days()),
+            None => None,
+        };
+        expect_at(&rt, found, number, moment);
     }
 }
 
@@ -141,207 +127,66 @@ fn term(expires: Option<u32>, renewed: bool) -> Result<Term, Fail> {
     })
 }
 
-#[test]
-fn statuses_change_on_the_expiry_day(rt: HostRuntime) -> Result<(), Fail> {
-    for (number, word) in [(20146, "Temporary"), (20147, "Expired")] {
-        let on = day(number)?;
-        expect_text(
-            &rt,
-            Term::early(day(19782)?).status(on).word(),
-            word,
-            "early",
-        );
-        expect_text(&rt, Term::permanent(on).status(on).word(), "Assigned", word);
-    }
-    Ok(())
-}
-
-// By its mark an entry is Temporary on its expiry day, on the day after and on the last day of all;
-// what does not expire is Assigned, with a mark or without.
-#[test]
-fn held_terms_do_not_expire(rt: HostRuntime) -> Result<(), Fail> {
-    for (number, word) in [
-        (20146, "Temporary"),
-        (20147, "Expired"),
-        (2932896, "Expired"),
-    ] {
-        let on = day(number)?;
-        let held = Term::early(day(19782)?).with_hold(true);
-        expect_text(&rt, held.status(on).word(), "Temporary", word);
-        let unheld = held.with_hold(false);
-        expect_text(&rt, unheld.status(on).word(), word, "a mark taken away");
-        let permanent = term(None, false)?.with_hold(true);
-        expect_text(&rt, permanent.status(on).word(), "Assigned", word);
-    }
-    Ok(())
-}
-
-// A term that ends on this day, or never, and was renewed before, or held, is renewed to this expiry or
-// fault.
-fn expect_renewal(
+// What is held stays so when it is renewed, and is not held when it is settled.
+fn expect_term(
     rt: &impl Abort,
-    (expires, renewed, held): (Option<u32>, bool, bool),
-    approval: u32,
+    before: Term,
+    approval: Day,
     iesg: bool,
-    wanted: Result<u32, RenewFault>,
-) -> Result<(), Fail> {
-    let before = term(expires, renewed)?.with_hold(held);
-    let outcome = before.renew(day(approval)?, iesg);
-    let wanted = match wanted {
-        Ok(number) => Ok(term(Some(number), true)?.with_hold(held)),
+    wanted: Result<Day, RenewFault>,
+) {
+    let renewed = match wanted {
+        Ok(expiry) => Ok(Term {
+            expires: Some(expiry),
+            renewed: true,
+            ..before
+        }),
         Err(fault) => Err(fault),
     };
-    expect_at(rt, outcome, wanted, u64::from(approval));
-    Ok(())
+    let at = u64::from(approval.days());
+    expect_at(rt, before.renew(approval, iesg), renewed, at);
+    let settled = match before.expires {
+        Some(_) => Ok(Term {
+            expires: None,
+            held: false,
+            ..before
+        }),
+        None => Err(SettleFault::Permanent),
+    };
+    expect_at(rt, before.settle(), settled, at);
 }
 
-// By a minute, and without one unless it was renewed before; and what is held stays so.
-fn expect_renewals(
-    rt: &impl Abort,
-    expires: u32,
-    renewed: bool,
-    approval: u32,
-    expiry: u32,
-) -> Result<(), Fail> {
-    for held in [false, true] {
-        let before = (Some(expires), renewed, held);
-        let alone = if renewed {
-            Err(RenewFault::Renewed)
-        } else {
-            Ok(expiry)
-        };
-        expect_renewal(rt, before, approval, false, alone)?;
-        expect_renewal(rt, before, approval, true, Ok(expiry))?;
-    }
-    Ok(())
-}
-
+// Terms that end on a day, or never, and were renewed before or not, are renewed on another day up to a third
+// one: by a minute, and without one unless they were renewed before.
 #[test]
-fn terms_are_renewed_once_or_by_a_minute(rt: HostRuntime) -> Result<(), Fail> {
+fn terms_are_renewed_and_settled(rt: HostRuntime) -> Result<(), Fail> {
     for (expires, renewed, approval, expiry) in [
-        (20147, false, 20146, 20512),
-        (20147, false, 20240, 20605),
-        (20512, true, 20240, 20877),
-        (20512, true, 20600, 20965),
+        (Some(20147), false, 20146, Ok(20512)),
+        (Some(20147), false, 20240, Ok(20605)),
+        (Some(20512), true, 20240, Ok(20877)),
+        (Some(20512), true, 20600, Ok(20965)),
+        (None, false, 20240, Err(RenewFault::Permanent)),
+        (None, true, 20240, Err(RenewFault::Permanent)),
     ] {
-        expect_renewals(&rt, expires, renewed, approval, expiry)?;
+        let before = term(expires, renewed)?;
+        let approval = day(approval)?;
+        let by_minute = match expiry {
+            Ok(number) => Ok(day(number)?),
+            Err(fault) => Err(fault),
+        };
+        let alone = match by_minute {
+            Ok(_) if renewed => Err(RenewFault::Renewed),
+            other => other,
+        };
+        expect_term(&rt, before, approval, true, by_minute);
+        expect_term(&rt, before, approval, false, alone);
+        let held = before.with_hold(true);
+        expect_term(&rt, held, approval, true, by_minute);
+        expect_term(&rt, held, approval, false, alone);
     }
-    Ok(())
-}
-
-#[test]
-fn permanent_terms_are_not_renewed(rt: HostRuntime) -> Result<(), Fail> {
-    for renewed in [false, true] {
-        for iesg in [false, true] {
-            let permanent = Err(RenewFault::Permanent);
-            expect_renewal(&rt, (None, renewed, false), 20240, iesg, permanent)?;
-        }
-    }
-    Ok(())
-}
-
-#[test]
-fn settled_terms_lose_their_expiry(rt: HostRuntime) -> Result<(), Fail> {
-    for renewed in [false, true] {
-        for held in [false, true] {
-            let settled = term(Some(20147), renewed)?.with_hold(held).settle();
-            expect(&rt, settled, Ok(term(None, renewed)?), "a term that ends");
-        }
-        let again = term(None, renewed)?.settle();
-        expect(
-            &rt,
-            again,
-            Err(SettleFault::Permanent),
-            "one without an end",
-        );
-    }
-    Ok(())
-}
-
-fn text_if(alloc: Global, there: bool, bytes: &[u8]) -> Result<Option<Text>, Fail> {
-    if there {
-        Ok(Text::read(alloc, bytes)?)
-    } else {
-        Ok(None)
-    }
-}
-
-// Evidence with so many of the items draft, stable, interest, chair and director.
-fn evidence(alloc: Global, items: u8, will_be_rfc: bool) -> Result<EarlyEvidence, Fail> {
-    Ok(EarlyEvidence {
-        draft: text_if(alloc, items > 0, b"draft-x-00")?,
-        stable: items > 1,
-        interest: items > 2,
-        chair: text_if(alloc, items > 3, b"wg")?,
-        director: text_if(alloc, items > 4, b"ad")?,
-        will_be_rfc,
-    })
-}
-
-// With so many items one is missing.
-const MISSING: &[(u8, Option<Item>)] = &[
-    (0, Some(Item::Draft)),
-    (1, Some(Item::Stable)),
-    (2, Some(Item::Interest)),
-    (3, Some(Item::Chair)),
-    (4, Some(Item::Director)),
-    (5, None),
-];
-
-fn expect_missing(
-    rt: &impl Abort,
-    alloc: Global,
-    items: u8,
-    missing: Option<Item>,
-) -> Result<(), Fail> {
-    let shown = evidence(alloc, items, false)?;
-    let found = early_missing(Policy::StandardsAction, &shown);
-    expect_at(rt, found, missing, u64::from(items));
-    expect_true(rt, shown.copy()? == shown, "a copy is equal");
-    Ok(())
-}
-
-#[test]
-fn early_items_are_asked_in_order(rt: HostRuntime) -> Result<(), Fail> {
-    for (items, missing) in MISSING {
-        expect_missing(&rt, rt.alloc(), *items, *missing)?;
-    }
-    Ok(())
-}
-
-const NEVER: Option<Item> = Some(Item::Policy);
-
-// What is missing under each policy, and what where the document will be an RFC.
-const POLICIES: &[(Policy, Option<Item>, Option<Item>)] = &[
-    (Policy::PrivateUse, NEVER, NEVER),
-    (Policy::ExperimentalUse, NEVER, NEVER),
-    (Policy::HierarchicalAllocation, NEVER, NEVER),
-    (Policy::FirstComeFirstServed, NEVER, NEVER),
-    (Policy::ExpertReview, NEVER, NEVER),
-    (Policy::SpecificationRequired, NEVER, None),
-    (Policy::RfcRequired, None, None),
-    (Policy::IetfReview, None, None),
-    (Policy::StandardsAction, None, None),
-    (Policy::IesgApproval, NEVER, NEVER),
-];
-
-fn expect_allowed(
-    rt: &impl Abort,
-    alloc: Global,
-    policy: Policy,
-    will_be_rfc: bool,
-    missing: Option<Item>,
-) -> Result<(), Fail> {
-    let shown = evidence(alloc, 5, will_be_rfc)?;
-    expect(rt, early_missing(policy, &shown), missing, policy.word());
-    Ok(())
-}
-
-#[test]
-fn four_policies_allow_early_allocation(rt: HostRuntime) -> Result<(), Fail> {
-    for (policy, otherwise, with_rfc) in POLICIES {
-        expect_allowed(&rt, rt.alloc(), *policy, false, *otherwise)?;
-        expect_allowed(&rt, rt.alloc(), *policy, true, *with_rfc)?;
-    }
+    let early = term(Some(20147), false)?;
+    expect(&rt, Term::early(day(19782)?), early, "a year");
+    let permanent = term(None, false)?;
+    expect(&rt, Term::permanent(day(19782)?), permanent, "for ever");
     Ok(())
 }

@@ -5,16 +5,18 @@ use reg_ranges::range_file::read_ranges;
 use reg_ranges::table::RangeTable;
 use reg_vacancies::least::least_free_of;
 use reg_vacancies::runs::Runs;
-use std::process::Abort;
 use std::test::Fail;
 
 #[test]
 fn numbers_join_their_neighbours(rt: HostRuntime) -> Result<(), Fail> {
     let mut runs = Runs::new(rt.alloc());
     expect(&rt, runs.next_free(0), Some(0), "of none");
-    for value in [5, 7, 0, u32::MAX, 6, 6] {
-        runs.insert(value)?;
-    }
+    runs.insert(5)?;
+    runs.insert(7)?;
+    runs.insert(0)?;
+    runs.insert(u32::MAX)?;
+    runs.insert(6)?;
+    runs.insert(6)?;
     for (from, free) in [
         (0, Some(1)),
         (4, Some(4)),
@@ -33,44 +35,27 @@ fn numbers_join_their_neighbours(rt: HostRuntime) -> Result<(), Fail> {
 const FILE: &[u8] =
     b"lo,hi,treatment,note\n0,1,rfc-required,\n2,3,expert-review,\n4,6,rfc-required,\n";
 
-fn expect_least(
-    rt: &impl Abort,
-    table: &RangeTable,
-    policy: Policy,
-    taken: &Runs,
-    want: Option<u32>,
-) {
-    expect(rt, least_free_of(table, policy, taken), want, "least free");
-}
-
-// Takes the value, and expects the least that is then free under RFC Required.
-fn take(
-    rt: &impl Abort,
-    table: &RangeTable,
-    taken: &mut Runs,
-    value: u32,
-    least: Option<u32>,
-) -> Result<(), Fail> {
-    taken.insert(value)?;
-    expect_least(rt, table, Policy::RfcRequired, taken, least);
-    Ok(())
-}
-
-fn take_all(rt: &impl Abort, table: &RangeTable, taken: &mut Runs) -> Result<(), Fail> {
-    expect_least(rt, table, Policy::RfcRequired, taken, Some(0));
-    take(rt, table, taken, 0, Some(1))?;
-    take(rt, table, taken, 1, Some(4))?;
-    take(rt, table, taken, 5, Some(4))?;
-    take(rt, table, taken, 4, Some(6))?;
-    take(rt, table, taken, 6, None)
-}
-
+// Values that are taken in turn, and which is the least then under the policy of the first and the last range.
 #[test]
 fn least_value_is_free_and_under_its_policy(rt: HostRuntime) -> Result<(), Fail> {
     let table = RangeTable::make(6, read_ranges(rt.alloc(), FILE)?)?;
     let mut taken = Runs::new(rt.alloc());
-    take_all(&rt, &table, &mut taken)?;
-    expect_least(&rt, &table, Policy::ExpertReview, &taken, Some(2));
-    expect_least(&rt, &table, Policy::IetfReview, &taken, None);
+    let least = least_free_of(&table, Policy::RfcRequired, &taken);
+    expect(&rt, least, Some(0), "of all");
+    for (value, wanted) in [
+        (0, Some(1)),
+        (1, Some(4)),
+        (5, Some(4)),
+        (4, Some(6)),
+        (6, None),
+    ] {
+        taken.insert(value)?;
+        let least = least_free_of(&table, Policy::RfcRequired, &taken);
+        expect_at(&rt, least, wanted, u64::from(value));
+    }
+    let least = least_free_of(&table, Policy::ExpertReview, &taken);
+    expect(&rt, least, Some(2), "of the range between");
+    let least = least_free_of(&table, Policy::IetfReview, &taken);
+    expect(&rt, least, None, "of no range");
     Ok(())
 }

@@ -5,20 +5,9 @@ use reg_blocks::block::Block;
 use reg_blocks::pool::is_pool_prefix;
 use reg_blocks::size::Size;
 use reg_vacancies::pool_places::Places;
-use std::alloc::{AllocError, Global};
+use std::alloc::AllocError;
 use std::process::Abort;
 use std::test::Fail;
-
-// Places with these prefixes, of which nothing is given.
-fn places_of(alloc: Global, prefixes: &[u32]) -> Result<Places, AllocError> {
-    let mut places = Places::new(alloc);
-    for prefix in prefixes {
-        if is_pool_prefix(*prefix) {
-            places.add_prefix(*prefix)?;
-        }
-    }
-    Ok(places)
-}
 
 // The block due of each size.
 fn dues(places: &Places) -> [Option<Block>; 3] {
@@ -41,32 +30,27 @@ fn expect_due(rt: &impl Abort, places: &Places, want: [Option<&str>; 3]) {
 
 #[test]
 fn due_of_two_prefixes(rt: HostRuntime) -> Result<(), Fail> {
-    expect_due(&rt, &Places::new(rt.alloc()), [None; 3]);
-    let mut places = places_of(rt.alloc(), &[0x00_1A2C, 0x00_1A2B])?;
-    expect_due(
-        &rt,
-        &places,
-        [Some("001A2B"), Some("001A2B0"), Some("001A2B000")],
-    );
+    let mut places = Places::new(rt.alloc());
+    expect_due(&rt, &places, [None; 3]);
+    places.add_prefix(0x00_1A2C)?;
+    places.add_prefix(0x00_1A2B)?;
+    let due = [Some("001A2B"), Some("001A2B0"), Some("001A2B000")];
+    expect_due(&rt, &places, due);
     places.give(block(&rt, "001A2B100"))?;
     places.give(block(&rt, "001A2B0"))?;
-    expect_due(
-        &rt,
-        &places,
-        [Some("001A2C"), Some("001A2B2"), Some("001A2B101")],
-    );
+    let due = [Some("001A2C"), Some("001A2B2"), Some("001A2B101")];
+    expect_due(&rt, &places, due);
     places.add_prefix(0x00_1A2B)?;
-    expect_due(
-        &rt,
-        &places,
-        [Some("001A2C"), Some("001A2B2"), Some("001A2B101")],
-    );
+    let due = [Some("001A2C"), Some("001A2B2"), Some("001A2B101")];
+    expect_due(&rt, &places, due);
     Ok(())
 }
 
 #[test]
 fn due_of_full_prefixes(rt: HostRuntime) -> Result<(), Fail> {
-    let mut places = places_of(rt.alloc(), &[0x00_1A2B, 0x00_1A2C])?;
+    let mut places = Places::new(rt.alloc());
+    places.add_prefix(0x00_1A2B)?;
+    places.add_prefix(0x00_1A2C)?;
     for prefix in 0x001_A2B0..=0x001_A2BF {
         if prefix != 0x001_A2B7 {
             places.give(Block::make(Size::MaM, prefix).expect(&rt, "28 bits"))?;
@@ -79,61 +63,65 @@ fn due_of_full_prefixes(rt: HostRuntime) -> Result<(), Fail> {
     Ok(())
 }
 
+// All small blocks of the prefixes from 002000 to 002063 are given, and none of 002064.
 #[test]
 fn due_past_a_hundred_full_prefixes(rt: HostRuntime) -> Result<(), Fail> {
     let mut places = Places::new(rt.alloc());
-    for prefix in 0x00_2000..=0x00_2064 {
-        expect_true(&rt, is_pool_prefix(prefix), "a prefix");
-        places.add_prefix(prefix)?;
+    for number in 0x0_0200_0000..0x0_0206_4000 {
+        if number % 0x1000 == 0 {
+            let prefix = number / 0x1000;
+            expect_true(&rt, is_pool_prefix(prefix), "a prefix");
+            places.add_prefix(prefix)?;
+        }
+        let small = Block::make(Size::MaS, u64::from(number));
+        places.give(small.expect(&rt, "36 bits"))?;
     }
-    for prefix in 0x0_0200_0000..0x0_0206_4000 {
-        places.give(Block::make(Size::MaS, prefix).expect(&rt, "36 bits"))?;
-    }
-    expect_due(
-        &rt,
-        &places,
-        [Some("002064"), Some("0020640"), Some("002064000")],
-    );
+    expect_due(&rt, &places, [None; 3]);
+    places.add_prefix(0x00_2064)?;
+    let due = [Some("002064"), Some("0020640"), Some("002064000")];
+    expect_due(&rt, &places, due);
     Ok(())
 }
 
-// Gives the block. Where there is no memory for it, nothing else is due than before, and the next
+// Adds a prefix, or gives a block. Where there is no memory for it, nothing else is due than before, and the next
 // try finds memory.
-fn give_or_again(rt: &impl Abort, places: &mut Places, block: Block) -> Result<(), AllocError> {
-    let before = dues(places);
-    if places.give(block).is_err() {
-        expect(rt, dues(places), before, "as before");
-        places.give(block)?;
+fn change_or_again(
+    rt: &impl Abort,
+    places: &mut Places,
+    prefix: Option<u32>,
+    given: Option<Block>,
+) -> Result<(), AllocError> {
+    if let Some(prefix) = prefix {
+        expect_true(rt, is_pool_prefix(prefix), "a prefix");
+        let before = dues(places);
+        if places.add_prefix(prefix).is_err() {
+            expect(rt, dues(places), before, "as before");
+            places.add_prefix(prefix)?;
+        }
+    }
+    if let Some(given) = given {
+        let before = dues(places);
+        if places.give(given).is_err() {
+            expect(rt, dues(places), before, "as before");
+            places.give(given)?;
+        }
     }
     Ok(())
 }
 
-// As `give_or_again`, of a prefix.
-fn add_or_again(rt: &impl Abort, places: &mut Places, prefix: u32) -> Result<(), AllocError> {
-    expect_true(rt, is_pool_prefix(prefix), "a prefix");
-    let before = dues(places);
-    if places.add_prefix(prefix).is_err() {
-        expect(rt, dues(places), before, "as before");
-        places.add_prefix(prefix)?;
-    }
-    Ok(())
-}
-
-fn give_each_other(rt: &impl Abort, places: &mut Places) -> Result<(), AllocError> {
-    for k in 0..64 {
-        let small = Block::make(Size::MaS, 0x0_01A2_B000 + 2 * k);
-        give_or_again(rt, places, small.expect(rt, "36 bits"))?;
-    }
-    Ok(())
-}
-
+// Sixteen prefixes, and then every other small block of the first one's front.
 #[test]
 fn due_where_memory_is_refused_once(rt: HostRuntime) -> Result<(), Fail> {
     let mut places = Places::new(rt.alloc());
-    for prefix in 0x00_1A2B..0x00_1A3B {
-        add_or_again(&rt, &mut places, prefix)?;
+    for number in 0..80 {
+        if number < 16 {
+            change_or_again(&rt, &mut places, Some(0x00_1A2B + number), None)?;
+        } else {
+            let prefix = 0x0_01A2_B000 + 2 * (u64::from(number) - 16);
+            let small = Block::make(Size::MaS, prefix).expect(&rt, "36 bits");
+            change_or_again(&rt, &mut places, None, Some(small))?;
+        }
     }
-    give_each_other(&rt, &mut places)?;
     let due = [Some("001A2C"), Some("001A2B1"), Some("001A2B001")];
     expect_due(&rt, &places, due);
     Ok(())

@@ -1,191 +1,176 @@
 //! Requests that come in pieces, break off or fail on their way, and answers that do.
-use crate::tests::devices::{FailsAfter, FailsBefore, GivesOne};
-use crate::tests::exercise::{Exercise, over_lists};
+use crate::tests::devices::{FailsAfter, GivesOne};
+use crate::tests::exercise::{Exercise, opened, over_lists};
 use crate::tests::facts::ensure;
-use crate::tests::over_http::asking::{founded, opened};
-use crate::tests::over_http::messages::{HEAD, MADE, SHORT, SUBMISSION, SUBMISSION_HEAD, THERE};
-use crate::tests::over_http::served::Served;
 use reg_keeper::keeper::Keeper;
+use reg_office::Office;
+use reg_wire::serving::serve_one;
 use reg_wire::wire_fault::WireFault;
-use std::alloc::{AllocError, Global};
 use std::test::Fail;
 
-// The submission is answered so when it comes whole.
-fn assert_submitted<K: Keeper + Drop>(
-    alloc: Global,
-    served: &mut Served<K>,
-    wanted: &[u8],
-) -> Result<(), Fail> {
-    let given = served.asked(alloc, SUBMISSION)?;
-    ensure(given.bytes.as_slice() == wanted, "the submission's answer")
-}
+// The moment of all requests.
+const MOMENT: u64 = 1_700_000_000;
 
-// The first bytes of the submission, and no more, are refused.
-fn assert_refused<K: Keeper + Drop>(
-    alloc: Global,
-    served: &mut Served<K>,
-    sent: &[u8],
-) -> Result<(), Fail> {
-    let wanted = if sent.len() < SUBMISSION_HEAD {
-        HEAD
-    } else {
-        SHORT
-    };
-    served.asked(alloc, sent)?.assert_is(400, wanted)
-}
+// An applicant and a registry.
+const LINES: &str = r#"
+> 1700000000 clerk-token-00001 PUT /desk/tokens {"account":"alice","kind":"applicant","token":"alice-token-00001","until":1800000000}
+> 1700000000 clerk-token-00001 PUT /desk/registries/flags/255 lo,hi,treatment,note|0,63,standards-action,|64,191,first-come-first-served,|192,255,reserved,|
+"#;
 
-/// Each prefix of the submission in turn, and then the whole.
-#[derive(Drop)]
-struct Prefixes;
+// A submission of alice's.
+const SUBMISSION: &[u8] =
+    b"PUT /requests/w-1 HTTP/1.1\r\nHost: x\r\nAuthorization: Bearer alice-token-00001\r\nContent-Type: application/json\r\nContent-Length: 71\r\n\r\n{\"contact\":\"c\",\"kind\":\"code\",\"label\":\"W\",\"registry\":\"flags\",\"value\":80}";
 
-impl Exercise for Prefixes {
-    type Outcome = ();
+// How many bytes of the submission its head is.
+const SUBMISSION_HEAD: usize = 132;
 
-    fn done<K: Keeper + Drop>(self, rt: &HostRuntime, keeper: K) -> Result<(), Fail> {
-        let mut served = Served::opened(rt.alloc(), keeper)?;
-        for count in 0..SUBMISSION.len() {
-            assert_refused(rt.alloc(), &mut served, &SUBMISSION[..count])?;
-        }
-        assert_submitted(rt.alloc(), &mut served, MADE)
-    }
-}
+// The answer to the submission when it comes first.
+const MADE: &[u8] =
+    b"HTTP/1.1 201 Created\r\nContent-Type: application/json\r\nContent-Length: 115\r\nConnection: close\r\n\r\n{\"ask\":{\"contact\":\"c\",\"kind\":\"code\",\"label\":\"W\",\"registry\":\"flags\",\"value\":80},\"reference\":\"w-1\",\"state\":\"pending\"}";
 
-#[test]
-fn each_prefix(rt: HostRuntime) -> Result<(), Fail> {
-    over_lists(&rt, Prefixes)
-}
+// The answer to it when it comes again.
+const THERE: &[u8] =
+    b"HTTP/1.1 200 OK\r\nContent-Type: application/json\r\nContent-Length: 115\r\nConnection: close\r\n\r\n{\"ask\":{\"contact\":\"c\",\"kind\":\"code\",\"label\":\"W\",\"registry\":\"flags\",\"value\":80},\"reference\":\"w-1\",\"state\":\"pending\"}";
 
-#[test]
-fn one_byte_a_read(rt: HostRuntime) -> Result<(), Fail> {
-    let mut reader = GivesOne {
-        bytes: SUBMISSION,
-        reads: 0,
-    };
-    let mut written = Vec::new(rt.alloc());
-    let status = opened(&rt, &mut reader, &mut written)?;
-    ensure(status == Ok(201), "the status")?;
-    ensure(written.as_slice() == MADE, "the answer")?;
-    ensure(reader.reads == SUBMISSION.len(), "a read for each byte")
-}
+// The answer to bytes that end within the body.
+const SHORT: &[u8] =
+    b"HTTP/1.1 400 Bad Request\r\nContent-Type: application/json\r\nContent-Length: 17\r\nConnection: close\r\n\r\n{\"error\":\"short\"}";
 
-const BEGIN: &[u8] = b"PUT /registries HTTP/1.1\r\nContent-Length: 65536\r\nX: ";
+// The answer to bytes that have no head.
+const HEAD: &[u8] =
+    b"HTTP/1.1 400 Bad Request\r\nContent-Type: application/json\r\nContent-Length: 16\r\nConnection: close\r\n\r\n{\"error\":\"head\"}";
 
-// A head of 8,192 bytes with a body of 65,536.
-fn longest(alloc: Global) -> Result<Vec<u8>, AllocError> {
-    let mut bytes = Vec::new(alloc);
-    bytes.extend_from_slice(BEGIN)?;
-    for _ in BEGIN.len()..8188 {
-        bytes.push(b'x')?;
-    }
-    bytes.extend_from_slice(b"\r\n\r\n")?;
-    for _ in 0..65_536 {
-        bytes.push(b' ')?;
-    }
-    Ok(bytes)
-}
-
-#[test]
-fn the_longest_request_one_byte_a_read(rt: HostRuntime) -> Result<(), Fail> {
-    let bytes = longest(rt.alloc())?;
-    let mut reader = GivesOne {
-        bytes: bytes.as_slice(),
-        reads: 0,
-    };
-    let mut written = Vec::new(rt.alloc());
-    let status = founded(&rt, &mut reader, &mut written)?;
-    ensure(status == Ok(405), "the status")?;
-    ensure(reader.reads == 73_728, "a read for each byte")
-}
-
-// A read fails after these bytes of the submission: nothing is written.
-fn assert_unread<K: Keeper + Drop>(
-    alloc: Global,
-    served: &mut Served<K>,
-    sent: &[u8],
-) -> Result<(), Fail> {
-    let mut reader = FailsBefore { bytes: sent };
-    let mut written = Vec::new(alloc);
-    let done = served.serve(alloc, &mut reader, &mut written);
-    ensure(done == Err(WireFault::Read), "a read that failed")?;
-    ensure(written.is_empty(), "no answer")
-}
-
-/// Reads that fail before each byte in turn, and then the whole submission.
-#[derive(Drop)]
-struct FailingReads;
-
-impl Exercise for FailingReads {
-    type Outcome = ();
-
-    fn done<K: Keeper + Drop>(self, rt: &HostRuntime, keeper: K) -> Result<(), Fail> {
-        let mut served = Served::opened(rt.alloc(), keeper)?;
-        for count in 0..SUBMISSION.len() {
-            assert_unread(rt.alloc(), &mut served, &SUBMISSION[..count])?;
-        }
-        assert_submitted(rt.alloc(), &mut served, MADE)
-    }
-}
-
-#[test]
-fn a_read_that_fails_before_each_byte(rt: HostRuntime) -> Result<(), Fail> {
-    over_lists(&rt, FailingReads)
-}
-
-/// A write that fails after these bytes of the answer.
-#[derive(Drop)]
-struct FailingWrite<'a> {
+/// A request that comes a byte a read, and what becomes of it.
+#[derive(Clone, Copy)]
+struct Exchange<'a> {
+    sent: &'a [u8],
+    /// After its bytes a read fails.
+    fails: bool,
+    /// So many bytes of the answer are taken, at most so many a write, and then a write fails.
+    room: usize,
+    most: usize,
+    status: Result<u16, WireFault>,
+    /// What goes out, and by how many reads.
     taken: &'a [u8],
+    reads: usize,
 }
 
-impl Exercise for FailingWrite<'_> {
-    type Outcome = ();
-
-    fn done<K: Keeper + Drop>(self, rt: &HostRuntime, keeper: K) -> Result<(), Fail> {
-        let mut served = Served::opened(rt.alloc(), keeper)?;
-        assert_cut(rt.alloc(), &mut served, self.taken)
+// These bytes are answered whole, with this status.
+fn answered<'a>(sent: &'a [u8], status: u16, taken: &'a [u8]) -> Exchange<'a> {
+    Exchange {
+        sent,
+        fails: false,
+        room: usize::MAX,
+        most: usize::MAX,
+        status: Ok(status),
+        taken,
+        reads: sent.len(),
     }
 }
 
-// These bytes went out, and the submission is there.
-fn assert_cut<K: Keeper + Drop>(
-    alloc: Global,
-    served: &mut Served<K>,
-    taken: &[u8],
+/// Requests to an office with an applicant and a registry, in turn.
+#[derive(Clone, Copy)]
+struct Exchanges<'a> {
+    exchanges: &'a [Exchange<'a>],
+}
+
+impl Exercise for Exchanges<'_> {
+    fn done<K: Keeper + Drop>(self, rt: &HostRuntime, keeper: K) -> Result<String, Fail> {
+        let mut office = opened(rt, keeper, LINES)?;
+        for exchange in self.exchanges {
+            assert_exchange(rt, &mut office, exchange)?;
+        }
+        Ok(String::new(rt.alloc()))
+    }
+}
+
+fn assert_exchange<K: Keeper>(
+    rt: &HostRuntime,
+    office: &mut Office<K>,
+    exchange: &Exchange<'_>,
 ) -> Result<(), Fail> {
-    let mut reader = SUBMISSION;
+    let alloc = rt.alloc();
+    let mut reader = GivesOne {
+        bytes: exchange.sent,
+        fails: exchange.fails,
+        repeats: false,
+        reads: 0,
+    };
     let mut writer = FailsAfter {
         taken: Vec::new(alloc),
-        room: taken.len(),
-        most: 7,
+        room: exchange.room,
+        most: exchange.most,
         writes: 0,
     };
-    let done = served.serve(alloc, &mut reader, &mut writer);
-    let is_cut = done == Err(WireFault::Write(taken.len()));
-    ensure(is_cut, "a write that failed after these bytes")?;
-    ensure(writer.taken.as_slice() == taken, "what went out")?;
-    assert_submitted(alloc, served, THERE)
+    let status = serve_one(alloc, office, MOMENT, &mut reader, &mut writer);
+    ensure(status == exchange.status, "the status")?;
+    ensure(writer.taken.as_slice() == exchange.taken, "what goes out")?;
+    ensure(reader.reads == exchange.reads, "how many reads")?;
+    let is_whole = exchange.most == usize::MAX && !exchange.taken.is_empty();
+    ensure(!is_whole || writer.writes == 1, "one write")
 }
 
+// The submission breaks off before each byte, and a read fails there: nothing is submitted. Then it comes whole.
+#[test]
+fn what_breaks_off_or_fails_before_each_byte(rt: HostRuntime) -> Result<(), Fail> {
+    let mut exchanges = Vec::new(rt.alloc());
+    for count in 0..SUBMISSION.len() {
+        let sent = &SUBMISSION[..count];
+        let wanted = if count < SUBMISSION_HEAD { HEAD } else { SHORT };
+        let short = Exchange {
+            reads: count + 1,
+            ..answered(sent, 400, wanted)
+        };
+        exchanges.push(short)?;
+        let unread = Exchange {
+            fails: true,
+            status: Err(WireFault::Read),
+            taken: b"",
+            ..short
+        };
+        exchanges.push(unread)?;
+    }
+    exchanges.push(answered(SUBMISSION, 201, MADE))?;
+    let exchanges = exchanges.as_slice();
+    over_lists(&rt, Exchanges { exchanges })?;
+    Ok(())
+}
+
+// Of the answer to the submission so much goes out, and then it is there.
 #[test]
 fn a_write_that_fails_after_each_byte(rt: HostRuntime) -> Result<(), Fail> {
     for room in 0..MADE.len() {
-        let taken = &MADE[..room];
-        over_lists(&rt, FailingWrite { taken })?;
+        let cut = Exchange {
+            room,
+            most: 7,
+            status: Err(WireFault::Write(room)),
+            ..answered(SUBMISSION, 201, &MADE[..room])
+        };
+        let exchanges = [cut, answered(SUBMISSION, 200, THERE)];
+        let exchanges = exchanges.as_slice();
+        over_lists(&rt, Exchanges { exchanges })?;
     }
     Ok(())
 }
 
+const BEGIN: &[u8] = b"PUT /registries HTTP/1.1\r\nContent-Length: 65536\r\nX: ";
+
+const METHOD: &[u8] =
+    b"HTTP/1.1 405 Method Not Allowed\r\nContent-Type: application/json\r\nContent-Length: 18\r\nConnection: close\r\n\r\n{\"error\":\"method\"}";
+
+// A head of 8,192 bytes with a body of 65,536.
 #[test]
-fn one_write_where_it_is_taken_whole(rt: HostRuntime) -> Result<(), Fail> {
-    let mut reader = SUBMISSION;
-    let mut writer = FailsAfter {
-        taken: Vec::new(rt.alloc()),
-        room: MADE.len(),
-        most: MADE.len(),
-        writes: 0,
-    };
-    let done = opened(&rt, &mut reader, &mut writer)?;
-    ensure(done == Ok(201), "the status")?;
-    ensure(writer.taken.as_slice() == MADE, "the answer")?;
-    ensure(writer.writes == 1, "one write")
+fn the_longest_request(rt: HostRuntime) -> Result<(), Fail> {
+    let mut bytes = BEGIN.to_vec(rt.alloc())?;
+    for count in BEGIN.len()..73_728 {
+        match count {
+            8188 => bytes.extend_from_slice(b"\r\n\r\n")?,
+            8189 | 8190 | 8191 => {}
+            _ => bytes.push(b'x')?,
+        }
+    }
+    let exchanges = [answered(bytes.as_slice(), 405, METHOD)];
+    let exchanges = exchanges.as_slice();
+    over_lists(&rt, Exchanges { exchanges })?;
+    Ok(())
 }

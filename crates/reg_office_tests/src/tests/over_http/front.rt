@@ -1,19 +1,33 @@
-//! What stands in front of an office and has no memory.
-use crate::tests::exercise::{Exercise, over_lists};
+//! A listener on loopback, in front of which something has no memory at first.
+use crate::tests::exercise::{CLERK, Exercise, over_lists};
 use crate::tests::facts::ensure;
-use crate::tests::over_http::listening::{all_of, client, free_address};
-use crate::tests::over_http::served::Served;
 use reg_http::dates::ClockDates;
 use reg_http::front::{Front, FrontAnswer};
+use reg_http::listener::serve_listener;
+use reg_http::peers::Peers;
 use reg_http::tcp::peers_at;
 use reg_keeper::keeper::Keeper;
+use reg_office::Office;
+use reg_parse::route::Routes;
+use reg_wire::log::Unlogged;
 use std::alloc::{AllocError, Global};
+use std::io::{Read, Write};
+use std::net::{Ipv4Addr, SocketAddr, TcpListener, TcpStream};
 use std::test::Fail;
 use std::time::Duration;
 
-/// A front that never has memory.
+const ASKS: &[u8] = b"GET /registries HTTP/1.1\r\nHost: x\r\n\r\n";
+
+const ANSWER: &[u8] =
+    b"HTTP/1.1 200 OK\r\nContent-Type: application/json\r\nContent-Length: 2\r\nConnection: close\r\n\r\n[]";
+
+const STORAGE: &[u8] = b"\r\n\r\n{\"error\":\"storage\"}";
+
+/// A front that has no memory for the first request, and nothing for others.
 #[derive(Drop)]
-struct Short;
+struct Short {
+    is_first: bool,
+}
 
 impl Front for Short {
     type Content = &'static [u8];
@@ -23,41 +37,59 @@ impl Front for Short {
         _alloc: Global,
         _request: &[u8],
     ) -> Result<Option<FrontAnswer<&'static [u8]>>, AllocError> {
-        Err(AllocError)
+        if self.is_first {
+            self.is_first = false;
+            return Err(AllocError);
+        }
+        Ok(None)
     }
 }
 
-/// One connection.
+/// Two connections, one after the other.
 #[derive(Drop)]
-struct OnePeer;
+struct TwoPeers;
 
-impl Exercise for OnePeer {
-    type Outcome = Vec<u8>;
-
-    // What its client reads.
-    fn done<K: Keeper + Drop>(self, rt: &HostRuntime, keeper: K) -> Result<Vec<u8>, Fail> {
-        let mut served = Served::founded(rt.alloc(), keeper)?;
-        heard_of(rt, &mut served)
+impl Exercise for TwoPeers {
+    fn done<K: Keeper + Drop>(self, rt: &HostRuntime, keeper: K) -> Result<String, Fail> {
+        let mut office = Office::new(rt.alloc(), keeper);
+        office.found(CLERK)?;
+        assert_two(rt, &mut office)?;
+        Ok(String::new(rt.alloc()))
     }
 }
 
-fn heard_of<K: Keeper + Drop>(rt: &HostRuntime, served: &mut Served<K>) -> Result<Vec<u8>, Fail> {
-    let address = free_address(rt)?;
-    let patience = Duration::from_millis(200);
-    let mut connections = peers_at(rt, rt.alloc(), address, patience, 1, Short)?;
-    let mut peer = client(rt, address, b"GET /registries HTTP/1.1\r\n\r\n")?;
+// One client is told that there was no memory, and not what the office answers; the other is told that.
+fn assert_two<K: Keeper + Drop>(rt: &HostRuntime, office: &mut Office<K>) -> Result<(), Fail> {
+    let alloc = rt.alloc();
+    let routes = Routes::new(alloc)?;
+    let listener = TcpListener::bind(rt, SocketAddr::from((Ipv4Addr::LOCALHOST, 0)))?;
+    let address = listener.local_addr()?;
+    drop(listener);
+    let patience = Duration::from_millis(2000);
+    let front = Short { is_first: true };
+    let mut peers = peers_at(rt, alloc, address, patience, 2, front)?;
+    let mut first = TcpStream::connect(rt, address)?;
+    first.write_all(ASKS)?;
+    let mut second = TcpStream::connect(rt, address)?;
+    second.write_all(ASKS)?;
     let mut dates = ClockDates { clock: rt };
-    let _ = served.listen(rt.alloc(), &mut dates, &mut connections, 1);
-    drop(connections);
-    all_of(rt, &mut peer)
+    let log = &mut Unlogged;
+    let done = serve_listener(alloc, &mut dates, office, &routes, &mut peers, 1, log);
+    peers.finish(log);
+    drop(peers);
+    ensure(done.answered == 1, "the office answers one")?;
+    let mut heard = Vec::new(alloc);
+    first.read_to_end(&mut heard)?;
+    let is_refused = heard.ends_with(STORAGE);
+    ensure(is_refused || heard.as_slice() == ANSWER, "the first")?;
+    heard.clear();
+    second.read_to_end(&mut heard)?;
+    let wanted = if is_refused { ANSWER } else { STORAGE };
+    ensure(heard.ends_with(wanted), "the second")
 }
 
 #[test]
 fn a_front_without_memory(rt: HostRuntime) -> Result<(), Fail> {
-    let heard = over_lists(&rt, OnePeer)?;
-    let is_told = heard.ends_with(b"\r\n\r\n{\"error\":\"storage\"}");
-    ensure(
-        is_told,
-        "that there was no memory, and no answer of the office",
-    )
+    over_lists(&rt, TwoPeers)?;
+    Ok(())
 }

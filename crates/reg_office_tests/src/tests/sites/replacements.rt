@@ -54,19 +54,17 @@ fn publish(rt: &HostRuntime, folder: &str, bytes: &[u8]) -> Result<(), Unpublish
     let Some(name) = Name::read(b"a") else {
         return Err(Unpublished::Read);
     };
-    directory.publish(File::RegistryCsv(name), &mut Whole::of(bytes))
+    directory.publish(File::RegistryCsv(name), &mut Whole::of(bytes))?;
+    Ok(())
 }
 
-// The file has these bytes.
-fn assert_there(rt: &HostRuntime, folder: &str, bytes: &[u8]) -> Result<(), Fail> {
+// The file is published. Where nothing can be written beside its place, it is published again, since nothing is
+// written; and one with a byte more is not, and leaves it as it is.
+fn assert_published(rt: &HostRuntime, folder: &str, bytes: &mut Vec<u8>) -> Result<(), Fail> {
+    ensure(publish(rt, folder, bytes) == Ok(()), "published")?;
     let place = format!(in rt.alloc(); "{folder}/registries/a.csv")?;
-    let there = fs::read(rt, place.as_str())?;
-    ensure(there.as_slice() == bytes, "the file")
-}
-
-// Where nothing can be written beside its place, the file with these bytes is published again, since
-// nothing is written; and one with a byte more is not, and leaves it as it is.
-fn assert_kept(rt: &HostRuntime, folder: &str, bytes: &mut Vec<u8>) -> Result<(), Fail> {
+    let place = place.as_str();
+    ensure(fs::read(rt, place)? == *bytes, "the file")?;
     let beside = format!(in rt.alloc(); "{folder}/registries/.new")?;
     ensure(!fs::exists(rt, beside.as_str())?, "what was being written")?;
     fs::create_dir(rt, beside.as_str())?;
@@ -79,7 +77,7 @@ fn assert_kept(rt: &HostRuntime, folder: &str, bytes: &mut Vec<u8>) -> Result<()
         "a file beside its place",
     )?;
     bytes.truncate(length);
-    assert_there(rt, folder, bytes)?;
+    ensure(fs::read(rt, place)? == *bytes, "the file as it was")?;
     Ok(fs::remove_dir(rt, beside.as_str())?)
 }
 
@@ -89,9 +87,7 @@ fn files_in_the_places_of_others(rt: HostRuntime) -> Result<(), Fail> {
     let folder = folder.as_str();
     for (length, other) in IN_TURN {
         let mut bytes = bytes_of(&rt, length, other)?;
-        ensure(publish(&rt, folder, &bytes) == Ok(()), "published")?;
-        assert_there(&rt, folder, &bytes)?;
-        assert_kept(&rt, folder, &mut bytes)?;
+        assert_published(&rt, folder, &mut bytes)?;
     }
     Ok(fs::remove_dir_all(&rt, folder)?)
 }

@@ -50,21 +50,9 @@ const ASKS: &str =
 // A range file for `%R`.
 const RANGES: &str = "lo,hi,treatment,note\t0,0,first-come-first-served,\t1,1,reserved,kept\t";
 
-// The words of which one is drawn for a letter.
-fn words(letter: char) -> &'static str {
-    match letter {
-        'N' => "a a-1 b-2 flags alice xan 0 abcdefghijklmnopqrstuvwxyz-01234",
-        'P' => "000000 FCFFFF 001A2B 011A2B 0000012",
-        'B' => "000000 0000000 000000001 001A2B0 FCFFFFFFF G",
-        'S' => "MA-L MA-M MA-S",
-        'M' => "true false",
-        'V' => "0 5 6 7 64 65 66 70 71 72 100 191 192 200 255 256 4294967295",
-        'U' => "0 1700000000 1800000000 32503679999 32503680000 32503680001",
-        'K' => "other-token-00000 other-token-00001 other-token-00002 short",
-        'D' => "ff2676003e48 ff267600 f722f90f a4eb0813a20d 00000000 0000000",
-        _ => "a a-1 flags 0 nobody abcdefghijklmnopqrstuvwxyz-01234",
-    }
-}
+/// A text of the most letters.
+pub const TEXT: &str =
+    "tttttttttttttttttttttttttttttttttttttttttttttttttttttttttttttttttttttttttttttttttttttttttttttttttttttttttttttttttttttttttttttttttttttttttttttttttttttttttttttttttttttttttttttttttttttttttttttttttttttttt";
 
 /// A fixed sequence of numbers. The multiplier and the increment are those of Knuth's MMIX.
 #[derive(Drop)]
@@ -89,22 +77,31 @@ impl Sequence {
         words.split(end).nth(place).unwrap_or("")
     }
 
-    // A length of a text, from 1 to 200, one of both ends now and then.
-    fn length(&mut self) -> usize {
-        match self.below(8) {
-            0 => 1,
-            1 => 200,
-            _ => self.below(200).saturating_add(1),
-        }
-    }
-
-    // Puts what is drawn for a letter.
-    fn put_drawn(&mut self, line: &mut String, letter: char) -> Result<(), AllocError> {
-        match letter {
-            'R' => line.push_str(RANGES),
-            'T' => put_text(line, self.length()),
-            letter => line.push_str(self.one_of(words(letter), ' ')),
-        }
+    // What is drawn for a letter: a text from 1 to 200 letters, one of both ends now and then; a range file; or
+    // a word.
+    fn drawn(&mut self, letter: char) -> &'static str {
+        let words = match letter {
+            'T' => {
+                let length = match self.below(8) {
+                    0 => 1,
+                    1 => 200,
+                    _ => self.below(200).saturating_add(1),
+                };
+                return TEXT.get(..length).unwrap_or("");
+            }
+            'R' => return RANGES,
+            'N' => "a a-1 b-2 flags alice xan 0 abcdefghijklmnopqrstuvwxyz-01234",
+            'P' => "000000 FCFFFF 001A2B 011A2B 0000012",
+            'B' => "000000 0000000 000000001 001A2B0 FCFFFFFFF G",
+            'S' => "MA-L MA-M MA-S",
+            'M' => "true false",
+            'V' => "0 5 6 7 64 65 66 70 71 72 100 191 192 200 255 256 4294967295",
+            'U' => "0 1700000000 1800000000 32503679999 32503680000 32503680001",
+            'K' => "other-token-00000 other-token-00001 other-token-00002 short",
+            'D' => "ff2676003e48 ff267600 f722f90f a4eb0813a20d 00000000 0000000",
+            _ => "a a-1 flags 0 nobody abcdefghijklmnopqrstuvwxyz-01234",
+        };
+        self.one_of(words, ' ')
     }
 
     // Puts a text in which `%` and a letter is what is drawn.
@@ -114,30 +111,12 @@ impl Sequence {
         for piece in pieces {
             let mut chars = piece.chars();
             if let Some(letter) = chars.next() {
-                self.put_drawn(line, letter)?;
+                line.push_str(self.drawn(letter))?;
             }
             line.push_str(chars.as_str())?;
         }
         Ok(())
     }
-
-    // Puts a request, with an ask for `%A` at its end.
-    fn put_request(&mut self, line: &mut String, text: &str) -> Result<(), AllocError> {
-        let Some(first) = text.strip_suffix("%A") else {
-            return self.put(line, text);
-        };
-        self.put(line, first)?;
-        let ask = self.one_of(ASKS, '\n');
-        self.put(line, ask)
-    }
-}
-
-/// Puts a text of so many letters.
-pub fn put_text(line: &mut String, length: usize) -> Result<(), AllocError> {
-    for _ in 0..length {
-        line.push('t')?;
-    }
-    Ok(())
 }
 
 /// The requests, in their order, each a line of a script with a line feed.
@@ -148,7 +127,14 @@ pub fn requests(alloc: Global) -> Result<String, AllocError> {
         lines.push_str("1700000000 ")?;
         let place = count.checked_rem(ROUTES.split('\n').count()).unwrap_or(0);
         let route = ROUTES.split('\n').nth(place).unwrap_or("");
-        numbers.put_request(&mut lines, route)?;
+        match route.strip_suffix("%A") {
+            Some(first) => {
+                numbers.put(&mut lines, first)?;
+                let ask = numbers.one_of(ASKS, '\n');
+                numbers.put(&mut lines, ask)?;
+            }
+            None => numbers.put(&mut lines, route)?,
+        }
         lines.push('\n')?;
     }
     Ok(lines)

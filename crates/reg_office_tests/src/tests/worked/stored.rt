@@ -3,10 +3,10 @@ ghost use Rattle.std.specs.Prelude.{◌≡◌, true};
 ghost use Rattle.reg_core.specs.WellKept.{has_request_form};
 ghost use Rattle.reg_core.specs.World.{pending};
 
-use crate::tests::transcript::{answered, sent};
-use crate::tests::worked::exercise::{CLERK, Exercise, assert_over_both};
+use crate::tests::exercise::{CLERK, Exercise};
+use crate::tests::transcript::{answered, part, sent};
+use crate::tests::worked::lines::{Lines, answers_of, assert_over_both};
 use crate::tests::worked::rows::ROWS;
-use crate::tests::worked::scripts::{answers_of, part_of};
 use reg_core::ask::{Ask, CodeAsk, Want};
 use reg_core::change::Change;
 use reg_core::text::{Account, Name, Ref, Text};
@@ -40,23 +40,23 @@ const STORED: &str = r#"
 
 /// Lines of an office, two requests that are put into it, and lines of the office that is founded again
 /// over the same keeper.
-#[derive(Drop)]
+#[derive(Clone, Copy)]
 struct Stored<'a> {
-    first: &'a str,
-    last: &'a str,
+    first: Lines<'a>,
+    last: Lines<'a>,
 }
 
 impl Exercise for Stored<'_> {
-    fn answers<K: Keeper + Drop>(&self, alloc: Global, keeper: K) -> Result<String, Fail> {
-        let mut office = Office::new(alloc, keeper);
+    fn done<K: Keeper + Drop>(self, rt: &HostRuntime, keeper: K) -> Result<String, Fail> {
+        let mut office = Office::new(rt.alloc(), keeper);
         office.found(CLERK)?;
-        answers_of(alloc, &mut office, self.first)?;
+        answers_of(rt, &mut office, self.first)?;
         let mut keeper = office.into_keeper();
-        put(alloc, &mut keeper, b"alice", b"a-1")?;
-        put(alloc, &mut keeper, b"bob", b"r-9")?;
-        let mut office = Office::new(alloc, keeper);
+        put(rt.alloc(), &mut keeper, b"alice", b"a-1")?;
+        put(rt.alloc(), &mut keeper, b"bob", b"r-9")?;
+        let mut office = Office::new(rt.alloc(), keeper);
         office.found(CLERK)?;
-        answers_of(alloc, &mut office, self.last)
+        answers_of(rt, &mut office, self.last)
     }
 }
 
@@ -69,25 +69,18 @@ fn put<K: Keeper>(
 ) -> Result<(), Fail> {
     let account = Account::read(account).ok_or("an account")?;
     let reference = Ref::read(reference).ok_or("a reference")?;
-    Ok(submit(keeper, account, reference, ask(alloc)?)?)
-}
-
-fn ask(alloc: Global) -> Result<Ask, Fail> {
-    Ok(Ask::Code(CodeAsk {
+    let ask = Ask::Code(CodeAsk {
         registry: Name::read(b"flag").ok_or("a name")?,
         want: Want::Value(5),
-        label: text(alloc, b"L")?,
+        label: Text::read(alloc, b"L")?.ok_or("a label")?,
         evidence: Evidence {
-            contact: Some(text(alloc, b"c")?),
+            contact: Text::read(alloc, b"c")?,
             spec: None,
             rfc: None,
             minute: None,
         },
-    }))
-}
-
-fn text(alloc: Global, letters: &[u8]) -> Result<Text, Fail> {
-    Ok(Text::read(alloc, letters)?.ok_or("a text")?)
+    });
+    Ok(submit(keeper, account, reference, ask)?)
 }
 
 // Adds a pending request, if there is none under its reference.
@@ -115,12 +108,17 @@ fn request_formed(account: &Account, reference: &Ref, ask: &Ask)
 
 #[test]
 fn requests_beneath_commands(rt: HostRuntime) -> Result<(), Fail> {
-    let first = sent(rt.alloc(), &[part_of(ROWS, "grants")?])?;
+    let first = sent(rt.alloc(), &[part(ROWS, "grants")?])?;
     let lines = sent(rt.alloc(), &[STORED])?;
     let wanted = answered(rt.alloc(), &[STORED])?;
-    let stored = Stored {
-        first: first.as_str(),
-        last: lines.as_str(),
+    let first = Lines {
+        lines: first.as_str(),
+        is_over_http: false,
     };
-    assert_over_both(rt.alloc(), &stored, lines.as_str(), wanted.as_str())
+    let last = Lines {
+        lines: lines.as_str(),
+        is_over_http: false,
+    };
+    let stored = Stored { first, last };
+    assert_over_both(&rt, stored, lines.as_str(), wanted.as_str())
 }

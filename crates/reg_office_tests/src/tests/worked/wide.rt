@@ -1,6 +1,6 @@
 //! A registry of 64 ranges that are all of 32 bits, and asks in it with texts of full length, as lines of a
 //! script.
-use crate::tests::worked::generated::put_text;
+use crate::tests::worked::generated::TEXT;
 use std::alloc::{AllocError, Global};
 
 // How many ranges there are, and how many values each has.
@@ -35,67 +35,41 @@ const LOOKS: &str = "1700000000 - GET /registries/wide
 /// The registry is defined; each range is asked for its first and last value, and each treatment for its
 /// least; and all is looked at.
 pub fn wide(alloc: Global) -> Result<String, AllocError> {
-    let mut text = String::new(alloc);
-    put_text(&mut text, 200)?;
-    let asked = ASKED.replace(alloc, "%T", text.as_str())?;
+    let asked = ASKED.replace(alloc, "%T", TEXT)?;
+    let asked = asked.as_str();
     let mut lines = String::from_str(alloc, DEFINES)?;
-    put_ranges(&mut lines, alloc, text.as_str())?;
-    put_values(&mut lines, alloc, asked.as_str())?;
-    put_leasts(&mut lines, alloc, asked.as_str())?;
+    let mut asks = String::new(alloc);
+    for place in 0..RANGES {
+        let low = place.wrapping_mul(VALUES);
+        let high = low.wrapping_add(VALUES).wrapping_sub(1);
+        // One of the eleven, in turn.
+        let turn = usize::try_from(place % 11).unwrap_or(0);
+        let treatment = TREATMENTS.split(' ').nth(turn).unwrap_or("");
+        let row = format!(in alloc; "{low},{high},{treatment},{}\t", TEXT)?;
+        lines.push_str(row.as_str())?;
+        put_value(&mut asks, alloc, asked, low)?;
+        put_value(&mut asks, alloc, asked, high)?;
+        if place < 11 {
+            let wanted = format!(in alloc; "\"least\":\"{treatment}\"")?;
+            put_asked(&mut asks, alloc, asked, treatment, wanted.as_str())?;
+        }
+    }
+    lines.push('\n')?;
+    lines.push_str(asks.as_str())?;
     lines.push_str(LOOKS)?;
     Ok(lines)
 }
 
-// The ends of a range.
-fn ends(place: u32) -> (u32, u32) {
-    let low = place.wrapping_mul(VALUES);
-    (low, low.wrapping_add(VALUES).wrapping_sub(1))
-}
-
-// Puts the rows of all ranges, each with this note.
-fn put_ranges(lines: &mut String, alloc: Global, note: &str) -> Result<(), AllocError> {
-    for place in 0..RANGES {
-        let (low, high) = ends(place);
-        let treatment = treatment_of(place);
-        let row = format!(in alloc; "{low},{high},{treatment},{note}\t")?;
-        lines.push_str(row.as_str())?;
-    }
-    lines.push('\n')
-}
-
-// The treatment of the range at a place, of eleven in turn.
-fn treatment_of(place: u32) -> &'static str {
-    let turn = usize::try_from(place % 11).unwrap_or(0);
-    TREATMENTS.split(' ').nth(turn).unwrap_or("")
-}
-
-// Puts what asks for the first and the last value of each range.
-fn put_values(lines: &mut String, alloc: Global, asked: &str) -> Result<(), AllocError> {
-    for place in 0..RANGES {
-        let (low, high) = ends(place);
-        put_value(lines, alloc, asked, low)?;
-        put_value(lines, alloc, asked, high)?;
-    }
-    Ok(())
-}
-
-fn put_value(lines: &mut String, alloc: Global, asked: &str, value: u32) -> Result<(), AllocError> {
+// Puts what asks for a value.
+fn put_value(asks: &mut String, alloc: Global, asked: &str, value: u32) -> Result<(), AllocError> {
     let name = format!(in alloc; "v-{value}")?;
     let wanted = format!(in alloc; "\"value\":{value}")?;
-    put_asked(lines, alloc, asked, name.as_str(), wanted.as_str())
+    put_asked(asks, alloc, asked, name.as_str(), wanted.as_str())
 }
 
-// Puts what asks for the least value under each treatment.
-fn put_leasts(lines: &mut String, alloc: Global, asked: &str) -> Result<(), AllocError> {
-    for treatment in TREATMENTS.split(' ') {
-        let wanted = format!(in alloc; "\"least\":\"{treatment}\"")?;
-        put_asked(lines, alloc, asked, treatment, wanted.as_str())?;
-    }
-    Ok(())
-}
-
+// Puts what asks for this, under this reference.
 fn put_asked(
-    lines: &mut String,
+    asks: &mut String,
     alloc: Global,
     asked: &str,
     name: &str,
@@ -103,5 +77,5 @@ fn put_asked(
 ) -> Result<(), AllocError> {
     let named = asked.replace(alloc, "%N", name)?;
     let whole = named.as_str().replace(alloc, "%W", wanted)?;
-    lines.push_str(whole.as_str())
+    asks.push_str(whole.as_str())
 }
