@@ -99,8 +99,8 @@ def pictures_of_demonstration(said, profiles, folder):
             picture(person, folder / ('desk.png' if kind == 'applicant' else f'desk-{kind}.png'), 1056, 1100)
             person.quiet(kind)
             person.driver.get(f'{said["registries"]}registries/ciphers.html')
-            picture(person, folder / 'site.png', 1056, 1056)
+            picture(person, folder / 'site.png', 1280, 1056)
             person.driver.get(said['registries'])
-            picture(person, folder / 'index.png', 1056, 1056)
+            picture(person, folder / 'index.png', 1280, 1056)
         finally:
             person.end()
