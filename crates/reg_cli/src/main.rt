@@ -1,11 +1,11 @@
 //! The office of an assignment authority as a program.
 #![tactic(auto)]
 
-use reg_files::performing::perform_at;
+use reg_files::performing::perform;
 use reg_jobs::command_line::job;
 use reg_jobs::jobs::{Job, JobFault};
-use reg_program::console::Console;
 use reg_program::performing::refuse;
+use reg_program::progress::Progress;
 use reg_program::terminal::Outlet;
 use std::env;
 use std::io::IsTerminal;
@@ -20,28 +20,23 @@ fn main(rt: HostRuntime) -> ExitCode {
 }
 
 // Does a job, and gives the exit status. A terminal is sent no bytes of others that it might obey. How far a
-// script is, the program itself says, with bytes that a terminal obeys.
+// script is, `Progress` tells on it, with bytes that it obeys.
 fn carry_out(rt: &HostRuntime, job: Job) -> u8 {
     let alloc = rt.alloc();
     let is_watched = rt.stderr().is_terminal();
     let is_script = matches!(&job, Job::Script { .. });
-    let mut output = Outlet {
+    let answers = Outlet {
         alloc,
         writer: rt.stdout(),
         is_terminal: rt.stdout().is_terminal(),
     };
+    let mut output = Progress::new(rt, answers, rt.stderr(), is_watched && is_script);
     let mut errors = Outlet {
         alloc,
         writer: rt.stderr(),
-        is_terminal: is_watched && !is_script,
+        is_terminal: is_watched,
     };
-    let mut console = Console {
-        input: &mut rt.reader(),
-        output: &mut output,
-        errors: &mut errors,
-        is_watched,
-    };
-    perform_at(rt, job, &mut console)
+    perform(rt, job, &mut rt.reader(), &mut output, &mut errors)
 }
 
 // The job that the program's arguments ask for.

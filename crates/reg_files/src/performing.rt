@@ -20,32 +20,11 @@ pub fn perform<R: Read, W: Write, E: Write>(
 ) -> u8
     ensures status { (result ≡ 0) ⊎ (result ≡ 1) }
 {
-    let mut console = unwatched(input, output, errors);
-    perform_at(rt, job, &mut console)
-}
-
-// A console by which nobody sits.
-fn unwatched<'a, R: Read, W: Write, E: Write>(
-    input: &'a mut R,
-    output: &'a mut W,
-    errors: &'a mut E,
-) -> Console<'a, R, W, E> {
-    Console {
+    let mut dates = ClockDates { clock: rt };
+    let mut console = Console {
         input,
         output,
         errors,
-        is_watched: false,
-    }
-}
-
-/// Does a job at a console, and gives the exit status as `perform` does.
-pub fn perform_at<R: Read, W: Write, E: Write>(
-    rt: &HostRuntime,
-    job: Job,
-    console: &mut Console<'_, R, W, E>,
-) -> u8
-    ensures status { (result ≡ 0) ⊎ (result ≡ 1) }
-{
-    let mut dates = ClockDates { clock: rt };
-    performing::perform(rt, &mut dates, &mut Files, &FileCopies, job, console)
+    };
+    performing::perform(rt, &mut dates, &mut Files, &FileCopies, job, &mut console)
 }

@@ -4,7 +4,7 @@ use Rattle.std.specs.Prelude.{⊤, OnOk}
 use Rattle.reg_core.specs.World.{empty_world}
 use Rattle.reg_store.specs.Lists.{world_in}
 use Rattle.reg_store.specs.declared.lists.ListKeeper.{ListKeeper}
-use Rattle.reg_program.specs.Founding.{RunsAll, told_beside}
+use Rattle.reg_program.specs.Founding.{RunsAll}
 use Rattle.reg_program.specs.Inputs.{AreKnown, token_in}
 use Rattle.reg_program.specs.Performing.{RunsInMemory, Tries}
 use Rattle.reg_program.specs.Tasks.{Streams}
@@ -17,7 +17,7 @@ pub ran : (Untouched : Type 0) (word token : List ℕ) (io : Streams) (first : L
     → world_in first ≡ empty_world
     → OnOk done ((last : ListKeeper)
     × RunsAll world_in (λ _. ⊤) (λ _. ⊤) false first last token io.unread io.left
-    (told_beside io.is_watched io.had) (told_beside io.is_watched io.has))
+    io.had io.has)
     → Tries Untouched (λ (r : Result ⊤ Undone). Untouched × RunsInMemory word io) done
 ran Untouched word token io first (Ok u) same said is_empty (last, runs) = (
   same,

@@ -1,5 +1,5 @@
 -- The jobs that found an office, and have it answer the lines of a script.
-use Rattle.std.specs.Prelude.{◌≡◌, ◌⊎◌, ⊤, ℕ, Bool, true, false, List, Option, None, codes}
+use Rattle.std.specs.Prelude.{◌≡◌, ◌⊎◌, ⊤, ℕ, Bool, false, List, Option, codes}
 use Rattle.std.specs.Io.KnownBytes.{Appends}
 use Rattle.reg_core.specs.World.{World}
 use Rattle.reg_keeper.specs.Keeper.{GoesOn}
@@ -65,22 +65,15 @@ RunsUpTo {S} world Holds Sound fails first last token unread left had has undone
     × (office : S) × FoundsClerk world Holds Sound first office token
     × StopsAt (ServesOver world Holds Sound fails) fault office last unread left had has)
 
--- what is known of an output: nothing where progress is told on a terminal
-abbrev pub told_beside : Bool → Option (List ℕ) → Option (List ℕ)
-told_beside true known = None
-told_beside false known = known
-
 -- the same over a console, by what is known of such inputs and outputs
 module _ {S R W E : Type 0} (world : S → World) (Holds Sound : S → Type 0) (fails : Bool)
     (remaining : R → Option (List ℕ)) (contents : W → Option (List ℕ)) (old new : Console R W E) where
   abbrev pub RunsAllOn : S → S → List ℕ → Type 0
   RunsAllOn first last token =
       RunsAll world Holds Sound fails first last token (remaining old.input.now)
-      (remaining new.input.now) (told_beside old.is_watched (contents old.output.now))
-      (told_beside old.is_watched (contents new.output.now))
+      (remaining new.input.now) (contents old.output.now) (contents new.output.now)
 
   abbrev pub RunsUpToOn : S → S → List ℕ → Undone → Type 0
   RunsUpToOn first last token =
       RunsUpTo world Holds Sound fails first last token (remaining old.input.now)
-      (remaining new.input.now) (told_beside old.is_watched (contents old.output.now))
-      (told_beside old.is_watched (contents new.output.now))
+      (remaining new.input.now) (contents old.output.now) (contents new.output.now)

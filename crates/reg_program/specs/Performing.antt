@@ -24,7 +24,7 @@ use Rattle.reg_program.specs.Asking.{definition_at, listing_at}
 use Rattle.reg_program.specs.Capabilities.{PrintsListed, PrintsRevoked}
 use Rattle.reg_program.specs.Copying.{PrintsCopied}
 use Rattle.reg_program.specs.Expiring.{PrintsTable}
-use Rattle.reg_program.specs.Founding.{RunsAll, told_beside}
+use Rattle.reg_program.specs.Founding.{RunsAll}
 use Rattle.reg_program.specs.Importing.{IsImported}
 use Rattle.reg_program.specs.Inputs.{AreKnown, IsTokenOf, body_in, token_in}
 use Rattle.reg_program.specs.Journal.{TellsActs}
@@ -146,7 +146,7 @@ pub record RunsInMemory (word : List ℕ) (io : Streams) : Type 0 where
   pub is_empty : world_in first ≡ empty_world
   pub last : ListKeeper
   pub runs : RunsAll world_in (λ _. ⊤) (λ _. ⊤) false first last token io.unread io.left
-      (told_beside io.is_watched io.had) (told_beside io.is_watched io.has)
+      io.had io.has
 
 -- ---- What some jobs do with the offices in files
 
@@ -226,7 +226,7 @@ module _ (Carried : ToldOfTasks) (Checked : List ℕ → Streams → Result ⊤ 
     (Copied : List ℕ → List ℕ → ℤ → ℕ → Type 0) (Recorded : List ℕ → List Act → Type 0)
     (Untouched : Type 0) where
   -- What a job does, with this result, by what is known of standard input and output and of the
-  -- clock. Of what a served office publishes and of help nothing else is said here.
+  -- clock. Of what a served office publishes nothing else is said here.
   abbrev pub DoesJob : Streams → Job → Result ⊤ Undone → Type 0
   DoesJob io (job.Script clerk file) done =
       RunsIn (option_map string_bytes file) (string_bytes clerk) Carried Untouched io done
@@ -257,7 +257,8 @@ module _ (Carried : ToldOfTasks) (Checked : List ℕ → Streams → Result ⊤ 
   DoesJob io (job.Revoke source token chosen) done =
       TellsRevoked (string_bytes source) chosen Carried Untouched io done
   DoesJob io job.Version done = Untouched × OnOk done (Appends io.had io.has version_line)
-  DoesJob io (job.Help text) done = Untouched
+  DoesJob io (job.Help text) done =
+      Untouched × OnOk done (Appends io.had io.has (string_bytes text))
 
 -- Either this was done; or it was not, and then nothing was, or it itself failed.
 abbrev pub Tries : Type 0 → (Result ⊤ Undone → Type 0) → Result ⊤ Undone → Type 0

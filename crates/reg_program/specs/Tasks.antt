@@ -9,7 +9,7 @@ use Rattle.reg_pages.specs.declared.notes.Notes.{Notes}
 use Rattle.reg_program.specs.Asking.{PrintsStep, step_of}
 use Rattle.reg_program.specs.Doing.{Does}
 use Rattle.reg_program.specs.Expiring.{PrintsDue}
-use Rattle.reg_program.specs.Founding.{IsReady, IsUnready, RunsAll, RunsUpTo, told_beside}
+use Rattle.reg_program.specs.Founding.{IsReady, IsUnready, RunsAll, RunsUpTo}
 use Rattle.reg_program.specs.Looking.{only_looks}
 use Rattle.reg_program.specs.Revoking.{IsUnrevoked, Revokes}
 use Rattle.reg_program.specs.Tokens.{IsListed}
@@ -19,10 +19,8 @@ use Rattle.reg_program.specs.declared.tasks.Task.{Task}
 use Rattle.reg_program.specs.declared.tasks.Task.TheVariants.{Found, Run, Serve, Ask, Tokens, Revoke, Publish, Due}
 
 -- What is known of standard input and output and of the clock, before and after: what is left to be
--- read, what was written, and what the clock is to say. Where progress is told on a terminal it is
--- told beside the output.
+-- read, what was written, and what the clock is to say
 pub record Streams : Type 0 where
-  pub is_watched : Bool
   pub unread : Option (List ℕ)
   pub left : Option (List ℕ)
   pub had : Option (List ℕ)
@@ -30,11 +28,10 @@ pub record Streams : Type 0 where
   pub readings : Option (List (Option Duration))
   pub later : Option (List (Option Duration))
 
-abbrev pub streams : Bool → Option (List ℕ) → Option (List ℕ) → Option (List ℕ)
+abbrev pub streams : Option (List ℕ) → Option (List ℕ) → Option (List ℕ)
     → Option (List ℕ) → Option (List (Option Duration)) → Option (List (Option Duration)) → Streams
-streams is_watched unread left had has readings later =
+streams unread left had has readings later =
     record {
-      is_watched = is_watched;
       unread = unread;
       left = left;
       had = had;
@@ -47,7 +44,7 @@ streams is_watched unread left had has readings later =
 abbrev pub streams_by : {R W E D : Type 0} → (R → Option (List ℕ)) → (W → Option (List ℕ))
     → (D → Option (List (Option Duration))) → Console R W E → Console R W E → D → D → Streams
 streams_by remaining contents readings old new before after =
-    streams old.is_watched (remaining old.input.now) (remaining new.input.now)
+    streams (remaining old.input.now) (remaining new.input.now)
     (contents old.output.now) (contents new.output.now) (readings before) (readings after)
 
 -- this is the moment that the clock said, which was read once
@@ -62,11 +59,9 @@ Did world Holds Sound fails before after io result (Found clerk) =
     (moment : ℕ) × IsMoment io moment × Does world Holds Sound fails before after result
     (IsReady moment clerk.now io.had io.has) (IsUnready moment clerk.now)
 Did world Holds Sound fails before after io result (Run clerk) =
-    let had = told_beside io.is_watched io.had in
-    let has = told_beside io.is_watched io.has in
     MatchResult result
-    (λ _. RunsAll world Holds Sound fails before after clerk.now io.unread io.left had has)
-    (RunsUpTo world Holds Sound fails before after clerk.now io.unread io.left had has)
+    (λ _. RunsAll world Holds Sound fails before after clerk.now io.unread io.left io.had io.has)
+    (RunsUpTo world Holds Sound fails before after clerk.now io.unread io.left io.had io.has)
 Did world Holds Sound fails before after io result (Serve serving site) = ⊤
 Did world Holds Sound fails before after io result (Ask asked) =
     (moment : ℕ) × IsMoment io moment × PrintsStep world Holds Sound fails before after

@@ -10,6 +10,4 @@ pub struct Console<'a, R: Read, W: Write, E: Write> {
     pub output: &'a mut W,
     /// Standard error.
     pub errors: &'a mut E,
-    /// Whether standard error is a terminal, where a job that lasts tells how far it is.
-    pub is_watched: bool,
 }

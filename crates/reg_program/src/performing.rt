@@ -173,7 +173,7 @@ fn run_over<K: Keeper + Drop, R: Read, W: Write, E: Write>(
         console.old console.new keeper last clerk.now) }
 {
     let mut office = Office::new(rt.alloc(), keeper);
-    run_in(rt, &mut office, clerk, console)
+    run_in(rt.alloc(), &mut office, clerk, console)
 }
 
 fn init<D: Dates, O: Offices, R: Read, W: Write, E: Write>(

@@ -1,15 +1,19 @@
 //! How far a script is.
+ghost use Rattle.std.specs.Prelude.{◌≡◌};
+
 use std::io;
 use std::io::Write;
 use std::time::{Clock, Duration};
 
-/// Passes the answers of a script on, counts them, and tells on a terminal, about once a second,
-/// how many lines were answered, how many of them were refused, and how many are answered a second.
+/// Passes bytes on. Where somebody watches a script, they are its answers: it counts them, and tells on a
+/// terminal, about once a second, how many lines were answered, how many of them were refused, and how many
+/// are answered a second. A flush says that there are no more. What is told goes beside what is passed on.
 #[derive(Drop)]
 pub struct Progress<'a, C: Clock, W: Write, E: Write> {
     clock: &'a C,
-    output: &'a mut W,
-    terminal: &'a mut E,
+    output: W,
+    terminal: E,
+    is_watched: bool,
     // When it began, and what was told last, by the monotonic clock.
     began: Option<Duration>,
     told: Option<Duration>,
@@ -52,35 +56,50 @@ impl Tally {
 }
 
 impl<'a, C: Clock, W: Write, E: Write> Progress<'a, C, W, E> {
-    /// A script that begins, whose answers go to this output.
-    pub fn new(clock: &'a C, output: &'a mut W, terminal: &'a mut E) -> Self {
+    /// What passes bytes on to this output, and may be watched on this terminal.
+    pub fn new(clock: &'a C, output: W, terminal: E, is_watched: bool) -> Self {
         let began = clock.monotonic().ok();
         Progress {
             clock,
             output,
             terminal,
+            is_watched,
             began,
             told: began,
             tally: Tally::new(),
         }
     }
 
-    /// Tells how far it came, and ends the line. It does not matter whether that can be written.
-    pub fn end(mut self) {
-        let now = self.clock.monotonic().ok();
-        self.tell(now);
-        let _ = self.terminal.write_all(b"\n");
-    }
-
-    // Tells how far it is where that is due.
-    fn tell_if_due(&mut self) {
+    // Counts the answers in the next bytes, and tells how far it is where that is due.
+    fn count(&mut self, bytes: &[u8])
+        ensures { self.new.output ≡ self.old.output }
+    {
+        if !self.is_watched {
+            return;
+        }
+        self.tally.count(bytes);
         let now = self.clock.monotonic().ok();
         if elapsed(self.told, now) >= 1000 {
             self.tell(now);
         }
     }
 
-    fn tell(&mut self, now: Option<Duration>) {
+    // Tells how far it came, ends the line, and tells no more. It does not matter whether that can be written.
+    fn end(&mut self)
+        ensures { self.new.output ≡ self.old.output }
+    {
+        if !self.is_watched {
+            return;
+        }
+        let now = self.clock.monotonic().ok();
+        self.tell(now);
+        let _ = self.terminal.write_all(b"\n");
+        self.is_watched = false;
+    }
+
+    fn tell(&mut self, now: Option<Duration>)
+        ensures { self.new.output ≡ self.old.output }
+    {
         let Tally {
             answered,
             refused,
@@ -119,14 +138,16 @@ fn rate(count: u64, milliseconds: u64) -> u64 {
 }
 
 impl<C: Clock, W: Write, E: Write> Write for Progress<'_, C, W, E> {
+    ghost contents = { λ p. W.contents p.output };
+
     fn write(&mut self, buf: &[u8]) -> io::Result<usize> {
         let count = self.output.write(buf)?;
-        self.tally.count(&buf[..count]);
-        self.tell_if_due();
+        self.count(&buf[..count]);
         Ok(count)
     }
 
     fn flush(&mut self) -> io::Result<()> {
+        self.end();
         self.output.flush()
     }
 }

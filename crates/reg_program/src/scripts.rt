@@ -4,18 +4,16 @@ ghost use Rattle.reg_program.specs.Founding.{RunsAll, RunsAllOn, RunsUpTo, RunsU
 
 use crate::console::Console;
 use crate::faults::Undone;
-use crate::progress::Progress;
 use reg_keeper::keeper::Keeper;
 use reg_office::Office;
 use reg_wire::script::run;
 use std::alloc::Global;
 use std::io::{Read, Write};
-use std::time::Clock;
 
-/// Founds an office, and answers the lines of standard input. Where standard error is a terminal,
-/// it tells there how far it is.
-pub fn run_in<H: AllocGlobal + Clock, K: Keeper, R: Read, W: Write, E: Write>(
-    rt: &H,
+/// Founds an office, and answers the lines of standard input. What counts the answers, as `Progress` does,
+/// learns by a flush that there are no more.
+pub fn run_in<K: Keeper, R: Read, W: Write, E: Write>(
+    alloc: Global,
     office: &mut Office<K>,
     clerk: &[u8],
     console: &mut Console<'_, R, W, E>,
@@ -25,13 +23,8 @@ pub fn run_in<H: AllocGlobal + Clock, K: Keeper, R: Read, W: Write, E: Write>(
     ensures err { IfErr result (RunsUpToOn K.world K.Holds K.Sound K.FAILS R.remaining W.contents
         console.old console.new office.old office.new clerk.now) }
 {
-    let alloc = rt.alloc();
-    if !console.is_watched {
-        return found_and_run(alloc, office, clerk, console.input, console.output);
-    }
-    let mut progress = Progress::new(rt, console.output, console.errors);
-    let done = found_and_run(alloc, office, clerk, console.input, &mut progress);
-    progress.end();
+    let done = found_and_run(alloc, office, clerk, console.input, console.output);
+    let _ = console.output.flush();
     done
 }
 

@@ -152,7 +152,7 @@ impl Task<'_> {
         let alloc = rt.alloc();
         match self {
             Task::Found { clerk } => found_in(office, moment_now(dates), clerk, console.output),
-            Task::Run { clerk } => run_in(rt, office, clerk, console),
+            Task::Run { clerk } => run_in(alloc, office, clerk, console),
             Task::Serve { serving, site: _ } => {
                 serve_in(alloc, ports, dates, office, *serving, console)
             }

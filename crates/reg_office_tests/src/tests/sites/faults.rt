@@ -128,7 +128,6 @@ fn published<S: Source>(
         input: &mut io::empty(),
         output: &mut output,
         errors: &mut errors,
-        is_watched: false,
     };
     let folders = Directories { rt };
     publish_in(

@@ -15,7 +15,7 @@ pub returns-in-Import : goal.returns-in-Import
 returns-in-Import g c =
     let console = c.args.console.now in
     let unread = g.R.Read.remaining console.input.now in
-    let io = streams console.is_watched unread unread (g.W.Write.contents console.output.now)
+    let io = streams unread unread (g.W.Write.contents console.output.now)
     (g.W.Write.contents c.import.new.output) (g.D.Dates.readings c.args.dates.now)
     (g.D.Dates.readings c.moment_now.new.dates) in
     rw c.in-Import.is
