@@ -10,7 +10,8 @@ use reg_core::command::PublicCommand;
 use reg_core::reply::Reply;
 use reg_core::told::Told;
 use reg_print::answer::{Answer, body_of};
-use reg_print::comparing::is_page;
+use reg_site::tree::RegistryTree;
+use reg_source::comparing::gives_just;
 use reg_source::unpublished::Unpublished;
 use std::alloc::{AllocError, Global};
 
@@ -33,7 +34,7 @@ pub fn told_of(alloc: Global, command: &PublicCommand, body: &[u8]) -> Result<To
     let Told::Page(page) = &told else {
         return compared(alloc, told, body);
     };
-    if !is_page(alloc, page, body)? {
+    if !gives_just(alloc, &mut RegistryTree::of(page), body)? {
         return Err(Unpublished::Read);
     }
     Ok(told)

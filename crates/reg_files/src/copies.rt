@@ -1,6 +1,5 @@
 //! Copies of the offices in files.
 ghost use Rattle.std.specs.Prelude.{◌≡◌, ◌++◌, IfErr, OnOk};
-ghost use Rattle.sqlite.specs.Files.{file_state};
 ghost use Rattle.sqlite.specs.Held.{state};
 ghost use Rattle.reg_source.specs.Disk.{replaces};
 ghost use Rattle.reg_source.specs.Names.{names_by};
@@ -168,38 +167,19 @@ fn put_into<P: Targets, W: Write>(
         (P.Unopened places.now path.now folder.now) snapshot.old) }
 {
     let mut target = places.open(path, folder)?;
-    put_snapshot(alloc, snapshot, &mut target.disk, &target.names, output)
-}
-
-/// Lets the bytes of a copy in which an office was seen take their place on a disk, and prints the version
-/// of the office and how many requests it has.
-pub fn put_snapshot<D: Disk, W: Write>(
-    alloc: Global,
-    snapshot: &mut Snapshot,
-    disk: &mut D,
-    names: &Names,
-    output: &mut W,
-) -> Result<(), Undone>
-    requires { IsSeenAlone snapshot.old }
-    ensures printed { OnOk result (PrintsCopied (TellsCount snapshot.old.look.version
-        (file_state snapshot.old.look.keeper.tables) (file_state snapshot.new.look.keeper.tables))
-        (W.contents output.old) (W.contents output.new)) }
-    ensures put { D.Tells → OnOk result (D.done disk.new
-        ≡ D.done disk.old ++ replaces (names_by names.now) snapshot.old.bytes.items) }
-    ensures failed { D.Tells → IfErr result (IsUncopied (names_by names.now)
-        snapshot.old.bytes.items (D.done disk.old) (D.done disk.new)) }
-{
     put_look(
         alloc,
         &mut snapshot.look,
         snapshot.bytes.as_slice(),
-        disk,
-        names,
+        &mut target.disk,
+        &target.names,
         output,
     )
 }
 
-// The same, over any store, since what is over a known one unfolds all that it holds.
+// Lets the bytes of a copy in which an office was seen take their place on a disk, and prints the version of the
+// office and how many requests it has. It is over any store, since what is over a known one unfolds all that it
+// holds.
 fn put_look<S: Alter, D: Disk, W: Write>(
     alloc: Global,
     look: &mut Look<S>,

@@ -19,12 +19,14 @@ pub mod targets;
 use crate::access::{make_private, warn_of_readers};
 use crate::front::SitePorts;
 use crate::sites::{SitePlace, site_at};
+use reg_client::peer::exchange;
 use reg_http::dates::Dates;
 use reg_program::console::Console;
 use reg_program::faults::{JobFailure, Undone};
 use reg_program::opened::{check_with, do_with};
 use reg_program::publishing::Directories;
 use reg_program::tasks::{Offices, Task};
+use reg_source::unpublished::Unpublished;
 use reg_sql::keeper::SqlKeeper;
 use reg_sql::look::{Look, look_at};
 use reg_sql::open::OpenFault;
@@ -42,6 +44,8 @@ impl Offices for Files {
     ghost Carried = { λ _ _ _ _ _ _. Unit {0} };
 
     ghost Checked = { λ _ _ _ _ _. Unit {0} };
+
+    ghost Answered = { λ _ _ _ _. Unit {0} };
 
     fn open_and_do<D: Dates, R: Read, W: Write, E: Write>(
         &mut self,
@@ -74,6 +78,15 @@ impl Offices for Files {
             Ok(look) => check_and_close(rt, look, dates, console),
             Err(trouble) => Err(explained(rt.alloc(), trouble)?),
         }
+    }
+
+    fn exchange(
+        &self,
+        rt: &HostRuntime,
+        port: u16,
+        request: &[u8],
+    ) -> Result<Vec<u8>, Unpublished> {
+        exchange(rt, port, request)
     }
 }
 

@@ -2,7 +2,6 @@
 ghost use Rattle.std.specs.Prelude.{◌≡◌, ◌<◌, ◌++◌, ◌+◌, ◌^◌, [], length, true, List, IfOk, IfErr, OnOk};
 ghost use Rattle.std.specs.Ordering.{is_le};
 ghost use Rattle.reg_maps.specs.Maps.{text_cmp};
-ghost use Rattle.reg_print.specs.Comparing.{Leaves};
 ghost use Rattle.reg_history.specs.Chain.{chained, record_of, says};
 ghost use Rattle.reg_history.specs.History.{AddsRecord, IsHistory, IsHistoryOf, IsWrongAfter, SaysJust, TakesRecord, TellsWrong, later};
 ghost use Rattle.reg_history.specs.Reading.{IsAt};
@@ -19,6 +18,7 @@ use crate::recorder::{Recorded, Recorder};
 use reg_changes::change::{Fact, HistoryRecord, PublishedChange, Subject};
 use reg_changes::field::Field;
 use reg_changes::said::{Said, Unrecorded, apply, changes_to};
+use reg_print::comparing::behind;
 use std::alloc::{AllocError, Global};
 use std::collections::BTreeMap;
 
@@ -234,13 +234,6 @@ fn is_in_order(last: &Field, next: &Field) -> bool
     ensures { result ≡ is_le (text_cmp last.now next.now) }
 {
     last <= next
-}
-
-// What is left of a text behind this front, where it begins with it.
-fn behind<'a>(front: &[u8], text: &'a [u8]) -> Option<&'a [u8]>
-    ensures { Leaves front.now text.now result }
-{
-    text.strip_prefix(front)
 }
 
 // The later of two moments.

@@ -1,5 +1,6 @@
 pub mod ComparedTexts
 pub mod Covered
+pub mod Fronts
 pub mod ListedMembers
 pub mod ListingText
 pub mod PrintedTokens

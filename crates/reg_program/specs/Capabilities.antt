@@ -11,6 +11,7 @@ use Rattle.reg_print.specs.declared.answer.Format.TheVariants.{Json}
 use Rattle.reg_client.specs.Answers.{answer_text}
 use Rattle.reg_site.specs.Site.{told_text}
 use Rattle.reg_program.specs.Printing.{Prints}
+use Rattle.reg_program.specs.Requests.{IsBodilessBy}
 use Rattle.reg_program.specs.Revoking.{no_token}
 use Rattle.reg_program.specs.Served.{IsRefusal}
 use Rattle.reg_program.specs.Tokens.{IsTokenTable}
@@ -18,6 +19,7 @@ use Rattle.reg_program.specs.Undone.{refusal_line}
 use Rattle.reg_program.specs.declared.faults.JobFailure.TheVariants.{Memory}
 use Rattle.reg_program.specs.declared.faults.Undone.{Undone}
 use Rattle.reg_program.specs.declared.faults.Undone.TheVariants.{Fault, Explained, Refused}
+use Rattle.reg_program.specs.declared.requests.JobRequest.{JobRequest}
 
 -- ---- What is asked
 
@@ -25,6 +27,15 @@ use Rattle.reg_program.specs.declared.faults.Undone.TheVariants.{Fault, Explaine
 abbrev pub revocation_at : Which → List ℕ
 revocation_at (Digest digits) = codes "/desk/tokens/" ++ string_bytes digits
 revocation_at (Account name) = codes "/desk/accounts/" ++ string_bytes name
+
+-- by such a request they are asked for, with the token that a word says
+abbrev pub AsksTokens : Option (List ℕ) → JobRequest → Type 0
+AsksTokens word request = IsBodilessBy word (codes "GET") (codes "/desk/tokens") request
+
+-- and by such a one taken away
+abbrev pub AsksRevocation : Option (List ℕ) → Which → JobRequest → Type 0
+AsksRevocation word which request =
+    IsBodilessBy word (codes "DELETE") (revocation_at which) request
 
 -- they are said by digits of a digest, or by an account
 abbrev pub is_formed : Which → Bool
@@ -56,12 +67,12 @@ pub record PrintsRevokedOf (bytes : List ℕ) (had has : Option (List ℕ)) : Ty
   pub some : 0 < length rows
   pub prints : Prints had has (IsTokenTable rows)
 
--- what such an answer lists is printed
-abbrev pub PrintsListed : Option (List ℕ) → Option (List ℕ) → Type 0
-PrintsListed had has = (bytes : List ℕ) × PrintsListedOf bytes had has
+-- what such an answer lists is printed that is given so
+abbrev pub PrintsListed : (List ℕ → Type 0) → Option (List ℕ) → Option (List ℕ) → Type 0
+PrintsListed IsGiven had has = (bytes : List ℕ) × IsGiven bytes × PrintsListedOf bytes had has
 
-abbrev pub PrintsRevoked : Option (List ℕ) → Option (List ℕ) → Type 0
-PrintsRevoked had has = (bytes : List ℕ) × PrintsRevokedOf bytes had has
+abbrev pub PrintsRevoked : (List ℕ → Type 0) → Option (List ℕ) → Option (List ℕ) → Type 0
+PrintsRevoked IsGiven had has = (bytes : List ℕ) × IsGiven bytes × PrintsRevokedOf bytes had has
 
 -- a line of an office is said by this one of an office in a file: that several are chosen by the one that
 -- there is no such token, and any other by itself

@@ -21,13 +21,14 @@ use Rattle.reg_store.specs.declared.lists.ListKeeper.{ListKeeper}
 use Rattle.reg_core.specs.World.{empty_world}
 use Rattle.reg_core.specs.declared.journal.Act.{Act}
 use Rattle.reg_program.specs.Asking.{definition_at, listing_at}
-use Rattle.reg_program.specs.Capabilities.{PrintsListed, PrintsRevoked}
+use Rattle.reg_program.specs.Capabilities.{AsksRevocation, AsksTokens, PrintsListed, PrintsRevoked}
 use Rattle.reg_program.specs.Copying.{PrintsCopied}
 use Rattle.reg_program.specs.Expiring.{PrintsTable}
 use Rattle.reg_program.specs.Founding.{RunsAll}
 use Rattle.reg_program.specs.Importing.{IsImported}
 use Rattle.reg_program.specs.Inputs.{AreKnown, IsTokenOf, body_in, token_in}
 use Rattle.reg_program.specs.Journal.{TellsActs}
+use Rattle.reg_program.specs.Requests.{IsAnsweredAt, IsDefinition, IsListing, IsWorded}
 use Rattle.reg_program.specs.Served.{PrintsAnswer}
 use Rattle.reg_program.specs.Tasks.{Streams}
 use Rattle.reg_program.specs.Verifying.{IsVerifiedBy}
@@ -38,6 +39,7 @@ use Rattle.reg_program.specs.declared.faults.Undone.{Undone}
 use Rattle.reg_program.specs.declared.listening.Serving.{Serving}
 use Rattle.reg_program.specs.declared.requests.JobQuestion.{JobQuestion}
 use Rattle.reg_program.specs.declared.requests.JobQuestion.TheVariants as asks
+use Rattle.reg_program.specs.declared.requests.JobRequest.{JobRequest}
 use Rattle.reg_program.specs.declared.tasks.Task.{Task}
 use Rattle.reg_program.specs.declared.tasks.Task.TheVariants.{Found, Run, Serve, Ask, Tokens, Revoke, Publish, Due}
 
@@ -131,11 +133,12 @@ abbrev pub TellsFrom : Type 0 → List ℕ → Type 0 → (Result ⊤ Undone →
 TellsFrom Untouched source Printed Does done =
     (IsAddress source → Untouched × OnOk done Printed) × ((IsAddress source → ⊥) → Does done)
 
--- the same, and it is printed in this form what the one that is served answers
-abbrev pub AnswersFrom : Type 0 → List ℕ → AnswerForm → Streams → (Result ⊤ Undone → Type 0)
-    → Result ⊤ Undone → Type 0
-AnswersFrom Untouched source form io Does done =
-    TellsFrom Untouched source (PrintsAnswer form io.had io.has) Does done
+-- the same, and it is printed in this form what the one that is served answers to a request of this kind
+abbrev pub AnswersFrom : (ℕ → List ℕ → List ℕ → Type 0) → (JobRequest → Type 0) → Type 0 → List ℕ
+    → AnswerForm → Streams → (Result ⊤ Undone → Type 0) → Result ⊤ Undone → Type 0
+AnswersFrom Answered Asks Untouched source form io Does done =
+    TellsFrom Untouched source (PrintsAnswer (IsAnsweredAt Answered source Asks) form io.had io.has)
+    Does done
 
 -- an office in memory that was empty is founded, with the token that a word says, and answers all lines
 -- of standard input on standard output
@@ -154,8 +157,12 @@ pub record RunsInMemory (word : List ℕ) (io : Streams) : Type 0 where
 abbrev pub ToldOfTasks : Type 1
 ToldOfTasks = List ℕ → Task → Streams → Result ⊤ Undone → Type 0
 
--- Of each job: `Carried` tells of a task that was carried out, and `Untouched` says that nothing was
--- done with any office.
+-- of the office that is served on a port, which answer it gives to the bytes of a request
+abbrev pub ToldOfServed : Type 1
+ToldOfServed = ℕ → List ℕ → List ℕ → Type 0
+
+-- Of each job: `Carried` tells of a task that was carried out, `Answered` of a request that was answered, and
+-- `Untouched` says that nothing was done with any office in a file.
 
 -- the script is run with the office in a file or, without one, with one in memory
 abbrev pub RunsIn : Option (List ℕ) → List ℕ → ToldOfTasks → Type 0 → Streams → Result ⊤ Undone → Type 0
@@ -168,31 +175,36 @@ CarriesRequest order Carried Untouched io done =
     CarriesThen Carried (string_bytes order.source) (IsRequestedBy order io.unread) io done
 
 -- a request is answered
-abbrev pub AnswersRequest : OfficeRequest → ToldOfTasks → Type 0 → Streams → Result ⊤ Undone → Type 0
-AnswersRequest order Carried Untouched io done =
-    AnswersFrom Untouched (string_bytes order.source) Body io
+abbrev pub AnswersRequest : ToldOfServed → OfficeRequest → ToldOfTasks → Type 0 → Streams
+    → Result ⊤ Undone → Type 0
+AnswersRequest Answered order Carried Untouched io done =
+    AnswersFrom Answered (IsWorded order io.unread) Untouched (string_bytes order.source) Body io
     (CarriesRequest order Carried Untouched io) done
 
 -- a registry is defined
-abbrev pub AnswersDefinition : Definition → ToldOfTasks → Type 0 → Streams → Result ⊤ Undone → Type 0
-AnswersDefinition order Carried Untouched io done =
-    AnswersFrom Untouched (string_bytes order.source) Line io
+abbrev pub AnswersDefinition : ToldOfServed → Definition → ToldOfTasks → Type 0 → Streams
+    → Result ⊤ Undone → Type 0
+AnswersDefinition Answered order Carried Untouched io done =
+    AnswersFrom Answered (IsDefinition order) Untouched (string_bytes order.source) Line io
     (Carries Carried (string_bytes order.source) (IsDefinedBy order) io) done
 
 -- a registry is listed or, without one, the blocks
-abbrev pub AnswersListing : List ℕ → Option (List ℕ) → ToldOfTasks → Type 0 → Streams
+abbrev pub AnswersListing : ToldOfServed → List ℕ → Option (List ℕ) → ToldOfTasks → Type 0 → Streams
     → Result ⊤ Undone → Type 0
-AnswersListing source registry Carried Untouched io done =
-    AnswersFrom Untouched source Body io (Carries Carried source (IsListedBy registry) io) done
+AnswersListing Answered source registry Carried Untouched io done =
+    AnswersFrom Answered (IsListing registry) Untouched source Body io
+    (Carries Carried source (IsListedBy registry) io) done
 
 -- what a job asks is answered
-abbrev pub AnswersQuestion : JobQuestion → ToldOfTasks → Type 0 → Streams → Result ⊤ Undone → Type 0
-AnswersQuestion (asks.Request order) Carried Untouched io done =
-    AnswersRequest order.now Carried Untouched io done
-AnswersQuestion (asks.Definition order) Carried Untouched io done =
-    AnswersDefinition order.now Carried Untouched io done
-AnswersQuestion (asks.Listing source registry) Carried Untouched io done =
-    AnswersListing source.now (option_map string_bytes registry.now) Carried Untouched io done
+abbrev pub AnswersQuestion : ToldOfServed → JobQuestion → ToldOfTasks → Type 0 → Streams
+    → Result ⊤ Undone → Type 0
+AnswersQuestion Answered (asks.Request order) Carried Untouched io done =
+    AnswersRequest Answered order.now Carried Untouched io done
+AnswersQuestion Answered (asks.Definition order) Carried Untouched io done =
+    AnswersDefinition Answered order.now Carried Untouched io done
+AnswersQuestion Answered (asks.Listing source registry) Carried Untouched io done =
+    AnswersListing Answered source.now (option_map string_bytes registry.now) Carried Untouched io
+    done
 
 -- the office in a file is published in a folder; of one that is served nothing is said here
 abbrev pub PublishesFrom : Publication → ToldOfTasks → Type 0 → Streams → Result ⊤ Undone → Type 0
@@ -208,23 +220,27 @@ TellsDue source days Carried Untouched io done =
     TellsFrom Untouched source (PrintsTable io.had io.has)
     (Carries Carried source (λ task. task ≡ Due days) io) done
 
--- all capabilities are printed
-abbrev pub TellsTokens : List ℕ → ToldOfTasks → Type 0 → Streams → Result ⊤ Undone → Type 0
-TellsTokens source Carried Untouched io done =
-    TellsFrom Untouched source (PrintsListed io.had io.has)
+-- all capabilities are printed, with the token that a word says where the office is served
+abbrev pub TellsTokens : ToldOfServed → List ℕ → Option (List ℕ) → ToldOfTasks → Type 0 → Streams
+    → Result ⊤ Undone → Type 0
+TellsTokens Answered source word Carried Untouched io done =
+    TellsFrom Untouched source
+    (PrintsListed (IsAnsweredAt Answered source (AsksTokens word)) io.had io.has)
     (Carries Carried source (λ task. task ≡ Tokens) io) done
 
 -- these capabilities are taken away, and printed
-abbrev pub TellsRevoked : List ℕ → Which → ToldOfTasks → Type 0 → Streams → Result ⊤ Undone → Type 0
-TellsRevoked source chosen Carried Untouched io done =
-    TellsFrom Untouched source (PrintsRevoked io.had io.has)
+abbrev pub TellsRevoked : ToldOfServed → List ℕ → Option (List ℕ) → Which → ToldOfTasks → Type 0
+    → Streams → Result ⊤ Undone → Type 0
+TellsRevoked Answered source word chosen Carried Untouched io done =
+    TellsFrom Untouched source
+    (PrintsRevoked (IsAnsweredAt Answered source (AsksRevocation word chosen)) io.had io.has)
     (Carries Carried source (IsTakenBy chosen) io) done
 
 -- The same of each job. Of one that was looked at `Checked` tells, of a copy `Copied`, and of the acts
 -- in one `Recorded`.
 module _ (Carried : ToldOfTasks) (Checked : List ℕ → Streams → Result ⊤ Undone → Type 0)
-    (Copied : List ℕ → List ℕ → ℤ → ℕ → Type 0) (Recorded : List ℕ → List Act → Type 0)
-    (Untouched : Type 0) where
+    (Answered : ToldOfServed) (Copied : List ℕ → List ℕ → ℤ → ℕ → Type 0)
+    (Recorded : List ℕ → List Act → Type 0) (Untouched : Type 0) where
   -- What a job does, with this result, by what is known of standard input and output and of the
   -- clock. Of what a served office publishes nothing else is said here.
   abbrev pub DoesJob : Streams → Job → Result ⊤ Undone → Type 0
@@ -235,11 +251,11 @@ module _ (Carried : ToldOfTasks) (Checked : List ℕ → Streams → Result ⊤ 
       Carries Carried (string_bytes file) (IsFounding (string_bytes clerk)) io done
   DoesJob io (job.Serve service) done =
       Carries Carried (string_bytes service.file) (IsServedBy service) io done
-  DoesJob io (job.Request order) done = AnswersRequest order Carried Untouched io done
-  DoesJob io (job.Define order) done = AnswersDefinition order Carried Untouched io done
+  DoesJob io (job.Request order) done = AnswersRequest Answered order Carried Untouched io done
+  DoesJob io (job.Define order) done = AnswersDefinition Answered order Carried Untouched io done
   DoesJob io (job.Listing source registry) done =
-      AnswersListing (string_bytes source) (option_map string_bytes registry) Carried Untouched io
-      done
+      AnswersListing Answered (string_bytes source) (option_map string_bytes registry) Carried
+      Untouched io done
   DoesJob io (job.Publish order) done = PublishesFrom order Carried Untouched io done
   DoesJob io (job.Verify folder digest) done =
       Untouched × IsVerifiedBy (option_map string_bytes digest) io.had io.has done
@@ -253,9 +269,11 @@ module _ (Carried : ToldOfTasks) (Checked : List ℕ → Streams → Result ⊤ 
       Untouched
       × TellsActs (Recorded (string_bytes file)) (option_map string_bytes digest) io.had io.has done
   DoesJob io (job.Tokens source token) done =
-      TellsTokens (string_bytes source) Carried Untouched io done
+      TellsTokens Answered (string_bytes source) (option_map string_bytes token) Carried Untouched io
+      done
   DoesJob io (job.Revoke source token chosen) done =
-      TellsRevoked (string_bytes source) chosen Carried Untouched io done
+      TellsRevoked Answered (string_bytes source) (option_map string_bytes token) chosen Carried
+      Untouched io done
   DoesJob io job.Version done = Untouched × OnOk done (Appends io.had io.has version_line)
   DoesJob io (job.Help text) done =
       Untouched × OnOk done (Appends io.had io.has (string_bytes text))
@@ -284,13 +302,14 @@ module _ {O : Type 0} (Carried : O → O → ToldOfTasks) (old new : O) where
 
 -- and any job, with copies of which `Copied` tells, and `Recorded` of their acts
 module _ {O : Type 0} (Carried : O → O → ToldOfTasks)
-    (Checked : O → O → List ℕ → Streams → Result ⊤ Undone → Type 0)
+    (Checked : O → O → List ℕ → Streams → Result ⊤ Undone → Type 0) (Answered : O → ToldOfServed)
     (Copied : List ℕ → List ℕ → ℤ → ℕ → Type 0) (Recorded : List ℕ → List Act → Type 0)
     (old new : O) (io : Streams) where
   -- what is done
   abbrev pub IsDoneBy : Job → Result ⊤ Undone → Type 0
   IsDoneBy job done =
-      DoesJob (Carried old new) (Checked old new) Copied Recorded (new ≡ old) io job done
+      DoesJob (Carried old new) (Checked old new) (Answered old) Copied Recorded (new ≡ old) io job
+      done
 
   abbrev pub TriesJob : Job → Result ⊤ Undone → Type 0
   TriesJob job done = Tries (new ≡ old) (IsDoneBy job) done

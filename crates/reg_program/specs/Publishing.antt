@@ -1,11 +1,19 @@
 -- What publishing does.
-use Rattle.std.specs.Prelude.{⊤, ℕ, List, Option, OnOk, Result}
+use Rattle.std.specs.Prelude.{◌≡◌, ◌++◌, ⊤, ℕ, List, Option, OnOk, Result, codes}
+use Rattle.std.specs.Str.Parse.{IsNumeral, digits_value, without_leading_plus}
 use Rattle.std.specs.declared.time.Duration.{Duration}
 use Rattle.reg_core.specs.View.{Published}
 use Rattle.reg_http.specs.Meeting.{ReadsMoment}
 use Rattle.reg_pages.specs.declared.notes.Notes.{Notes}
 use Rattle.reg_publish.specs.Publishing.{PublishesSite}
 use Rattle.reg_program.specs.declared.faults.Undone.{Undone}
+
+-- an office is served on this port at an address: its digits stand behind the colon
+pub record IsPortOf (source : List ℕ) (port : ℕ) : Type 0 where
+  pub digits : List ℕ
+  pub is : source ≡ codes "http://127.0.0.1:" ++ digits
+  pub numeral : IsNumeral 10 (without_leading_plus digits)
+  pub number : digits_value 10 (without_leading_plus digits) ≡ port
 
 -- the site of what a source tells anybody at a moment goes on with these notes in a folder that was
 -- opened so

@@ -1,10 +1,14 @@
 -- The requests of the jobs that have an office answer one.
-use Rattle.std.specs.Prelude.{◌≡◌, ℕ, Bool, true, false, List, [], Option, Some, None, codes, option_map}
+use Rattle.std.specs.Prelude.{◌≡◌, ℕ, Bool, true, false, List, [], Option, Some, None, codes, option_and_then, option_map}
 use Rattle.std.specs.String.{string_bytes}
+use Rattle.reg_core.specs.Names.{is_token}
+use Rattle.reg_ranges.specs.Texts.{read_text}
 use Rattle.reg_jobs.specs.declared.jobs.Definition.{Definition as OfRegistry}
 use Rattle.reg_jobs.specs.declared.jobs.OfficeRequest.{OfficeRequest}
 use Rattle.reg_program.specs.Asking.{definition_at, listing_at}
 use Rattle.reg_program.specs.Inputs.{AreKnown, IsTokenOf, body_in}
+use Rattle.reg_program.specs.Publishing.{IsPortOf}
+use Rattle.reg_program.specs.Served.{request_text}
 use Rattle.reg_program.specs.declared.asking.AnswerForm.{AnswerForm}
 use Rattle.reg_program.specs.declared.asking.AnswerForm.TheVariants.{Body, Line}
 use Rattle.reg_program.specs.declared.requests.JobQuestion.{JobQuestion}
@@ -48,12 +52,22 @@ pub record IsDefinition (order : OfRegistry) (request : JobRequest) : Type 0 whe
   pub path : string_bytes request.path
       ≡ definition_at (string_bytes order.name) (string_bytes order.max)
 
+-- it has no body, and just these other parts
+pub record IsBodiless (token : Option (List ℕ)) (method path : List ℕ) (request : JobRequest) : Type 0
+  where
+    pub token : token_bytes request ≡ token
+    pub method : string_bytes request.method ≡ method
+    pub path : string_bytes request.path ≡ path
+    pub body : request.body.items ≡ []
+
+-- the same of the token that a word says
+abbrev pub IsBodilessBy : Option (List ℕ) → List ℕ → List ℕ → JobRequest → Type 0
+IsBodilessBy word method path request =
+    (token : Option (List ℕ)) × IsTokenOf word token × IsBodiless token method path request
+
 -- it lists a registry or, without one, the blocks, for anybody
-pub record IsListing (registry : Option (List ℕ)) (request : JobRequest) : Type 0 where
-  pub token : IsTokenOf None (token_bytes request)
-  pub method : string_bytes request.method ≡ codes "GET"
-  pub path : string_bytes request.path ≡ listing_at registry
-  pub body : request.body.items ≡ []
+abbrev pub IsListing : Option (List ℕ) → JobRequest → Type 0
+IsListing registry request = IsBodiless None (codes "GET") (listing_at registry) request
 
 -- it asks for what a job asks, where so much stands on standard input
 abbrev pub IsRequestOf : JobQuestion → Option (List ℕ) → JobRequest → Type 0
@@ -61,3 +75,23 @@ IsRequestOf (Request order) input request = IsWorded order.now input request
 IsRequestOf (Definition order) input request = IsDefinition order.now request
 IsRequestOf (Listing source registry) input request =
     IsListing (option_map string_bytes registry.now) request
+
+-- ---- What is sent, and answered
+
+-- the bytes of a request: its token stands in the head alone, if it has the form of one
+abbrev pub sent_text : JobRequest → List ℕ
+sent_text request =
+    request_text (string_bytes request.method) (string_bytes request.path)
+    (option_and_then (read_text is_token) (token_bytes request)) request.body.items
+
+-- an answer is given to a request of this kind
+abbrev pub IsGivenTo : (List ℕ → List ℕ → Type 0) → (JobRequest → Type 0) → List ℕ → Type 0
+IsGivenTo Answered Asks answer =
+    (request : JobRequest) × Asks request × Answered (sent_text request) answer
+
+-- the office that is served at an address gives an answer to a request of this kind
+pub record IsAnsweredAt (Answered : ℕ → List ℕ → List ℕ → Type 0) (source : List ℕ)
+    (Asks : JobRequest → Type 0) (answer : List ℕ) : Type 0 where
+  pub port : ℕ
+  pub at : IsPortOf source port
+  pub given : IsGivenTo (Answered port) Asks answer

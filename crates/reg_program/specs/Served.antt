@@ -53,9 +53,10 @@ pub record PrintsAnswerOf (bytes : List ℕ) (form : AnswerForm) (had has : Opti
   pub accepting : is_accepting status ≡ true
   pub wrote : Appends had has (told form status format body)
 
--- such an answer is printed
-abbrev pub PrintsAnswer : AnswerForm → Option (List ℕ) → Option (List ℕ) → Type 0
-PrintsAnswer form had has = (bytes : List ℕ) × PrintsAnswerOf bytes form had has
+-- such an answer is printed that is given so
+abbrev pub PrintsAnswer : (List ℕ → Type 0) → AnswerForm → Option (List ℕ) → Option (List ℕ) → Type 0
+PrintsAnswer IsGiven form had has =
+    (bytes : List ℕ) × IsGiven bytes × PrintsAnswerOf bytes form had has
 
 -- the bytes are any other answer of an office
 pub record IsRefusal (bytes line : List ℕ) : Type 0 where

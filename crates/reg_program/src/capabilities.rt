@@ -3,10 +3,11 @@
 //!
 //! What a served office answers is printed as over a file. So of digits that begin several digests, and of
 //! a list of none, it is said that there is no such token.
-ghost use Rattle.std.specs.Prelude.{◌≡◌, true, IfErr, IfOk, OnOk};
+ghost use Rattle.std.specs.Prelude.{◌≡◌, true, IfErr, IfOk, OnOk, option_map};
 ghost use Rattle.std.specs.String.{string_bytes};
-ghost use Rattle.reg_program.specs.Capabilities.{IsIllFormed, IsSaidOfFile, IsUnrevokedOf, ListsCapabilities, PrintsListed, PrintsListedOf, PrintsRevoked, PrintsRevokedOf, is_formed, revocation_at};
+ghost use Rattle.reg_program.specs.Capabilities.{AsksRevocation, AsksTokens, IsIllFormed, IsSaidOfFile, IsUnrevokedOf, ListsCapabilities, PrintsListed, PrintsListedOf, PrintsRevoked, PrintsRevokedOf, is_formed, revocation_at};
 ghost use Rattle.reg_program.specs.Performing.{IsTakenBy, TellsRevoked, TellsTokens, TriesIn, TriesTask};
+ghost use Rattle.reg_program.specs.Requests.{IsGivenTo};
 ghost use Rattle.reg_program.specs.Served.{IsUnprintedOf};
 ghost use Rattle.reg_program.specs.Tasks.{streams_by};
 
@@ -16,7 +17,7 @@ use crate::console::Console;
 use crate::faults::{JobFailure, Undone};
 use crate::inputs::optional_token;
 use crate::publishing::port_of;
-use crate::requests::JobRequest;
+use crate::requests::bodiless;
 use crate::served::{answer_of, unaccepted};
 use crate::tasks::{Offices, Task};
 use crate::tokens::{account_of, no_token, print_rows};
@@ -45,10 +46,11 @@ pub fn list_tokens<D: Dates, O: Offices, R: Read, W: Write, E: Write>(
 ) -> Result<(), Undone>
     ensures { let io = streams_by R.remaining W.contents D.readings console.old console.new dates.old
         dates.new in
-        TriesIn O.Carried offices.old offices.new (TellsTokens source.now) io result }
+        TriesIn O.Carried offices.old offices.new (TellsTokens (O.Answered offices.old) source.now
+        (option_map string_bytes token.now)) io result }
 {
     match port_of(source)? {
-        Some(port) => list_served(rt, port, token, console.output),
+        Some(port) => list_served(rt, offices, port, token, console.output),
         None => carry_out(rt, dates, offices, source, Task::Tokens, console),
     }
 }
@@ -65,10 +67,11 @@ pub fn revoke<D: Dates, O: Offices, R: Read, W: Write, E: Write>(
 ) -> Result<(), Undone>
     ensures { let io = streams_by R.remaining W.contents D.readings console.old console.new dates.old
         dates.new in
-        TriesIn O.Carried offices.old offices.new (TellsRevoked source.now which.now) io result }
+        TriesIn O.Carried offices.old offices.new (TellsRevoked (O.Answered offices.old) source.now
+        (option_map string_bytes token.now) which.now) io result }
 {
     match port_of(source)? {
-        Some(port) => revoke_served(rt, port, token, which, console.output),
+        Some(port) => revoke_served(rt, offices, port, token, which, console.output),
         None => revoke_in_file(rt, dates, offices, source, which, console),
     }
 }
@@ -102,55 +105,45 @@ fn revoke_in_file<D: Dates, O: Offices, R: Read, W: Write, E: Write>(
 
 /// Prints all capabilities of the office that is served on a port of loopback. `Refused` where it refuses
 /// it.
-pub fn list_served<W: Write>(
+pub fn list_served<O: Offices, W: Write>(
     rt: &HostRuntime,
+    offices: &O,
     port: u16,
     token: &Option<String>,
     output: &mut W,
 ) -> Result<(), Undone>
-    ensures { OnOk result (PrintsListed (W.contents output.old) (W.contents output.new)) }
+    ensures { OnOk result (PrintsListed (IsGivenTo (O.Answered offices.now port)
+        (AsksTokens (option_map string_bytes token.now)))
+        (W.contents output.old) (W.contents output.new)) }
 {
     let alloc = rt.alloc();
     let token = optional_token(rt, alloc, token)?;
     let path = String::from_str(alloc, "/desk/tokens")?;
-    let answer = answer_to(rt, port, token, &Method::GET, path)?;
+    let request = bodiless(alloc, token, Method::GET.as_str(), path)?;
+    let answer = answer_of(rt, offices, port, &request)?;
     print_listed(alloc, answer.as_slice(), output)
 }
 
 /// Has these capabilities taken away by the office that is served on a port of loopback, and prints them.
 /// `Refused` where it refuses it, and where there are none, or the words choose none or several.
-pub fn revoke_served<W: Write>(
+pub fn revoke_served<O: Offices, W: Write>(
     rt: &HostRuntime,
+    offices: &O,
     port: u16,
     token: &Option<String>,
     which: &Which,
     output: &mut W,
 ) -> Result<(), Undone>
-    ensures { OnOk result (PrintsRevoked (W.contents output.old) (W.contents output.new)) }
+    ensures { OnOk result (PrintsRevoked (IsGivenTo (O.Answered offices.now port)
+        (AsksRevocation (option_map string_bytes token.now) which.now))
+        (W.contents output.old) (W.contents output.new)) }
 {
     let alloc = rt.alloc();
     let token = optional_token(rt, alloc, token)?;
     let path = revocation_path(alloc, which)?;
-    let answer = answer_to(rt, port, token, &Method::DELETE, path)?;
+    let request = bodiless(alloc, token, Method::DELETE.as_str(), path)?;
+    let answer = answer_of(rt, offices, port, &request)?;
     print_revoked(alloc, answer.as_slice(), output)
-}
-
-// The bytes that the office that is served on a port of loopback answers to a request without a body.
-fn answer_to(
-    rt: &HostRuntime,
-    port: u16,
-    token: Option<Vec<u8>>,
-    method: &Method,
-    path: String,
-) -> Result<Vec<u8>, Undone> {
-    let alloc = rt.alloc();
-    let request = JobRequest {
-        token,
-        method: String::from_str(alloc, method.as_str())?,
-        path,
-        body: Vec::new(alloc),
-    };
-    answer_of(rt, port, &request)
 }
 
 /// The path at which these capabilities are taken away. `Refused` where they are said by no digits of a

@@ -45,7 +45,7 @@ pub fn perform<D: Dates, O: Offices, C: Copies, R: Read, W: Write, E: Write>(
     ensures status { (result ≡ 0) ⊎ (result ≡ 1) }
     ensures done { let io = streams_by R.remaining W.contents D.readings console.old console.new dates.old
         dates.new in
-        EndsJob O.Carried O.Checked (C.Copied copies.now) (C.Recorded copies.now) offices.old
+        EndsJob O.Carried O.Checked O.Answered (C.Copied copies.now) (C.Recorded copies.now) offices.old
         offices.new io job result }
 {
     match attempt(rt, dates, offices, copies, &job, console) {
@@ -102,7 +102,7 @@ fn attempt<D: Dates, O: Offices, C: Copies, R: Read, W: Write, E: Write>(
 ) -> Result<(), Undone>
     ensures { let io = streams_by R.remaining W.contents D.readings console.old console.new dates.old
         dates.new in
-        TriesJob O.Carried O.Checked (C.Copied copies.now) (C.Recorded copies.now) offices.old
+        TriesJob O.Carried O.Checked O.Answered (C.Copied copies.now) (C.Recorded copies.now) offices.old
         offices.new io job.now result }
 {
     match job {

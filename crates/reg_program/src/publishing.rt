@@ -2,7 +2,7 @@
 ghost use Rattle.std.specs.Prelude.{◌<◌, IfOk, OnOk, IfSome, MatchOption};
 ghost use Rattle.std.specs.Option.{option_copied};
 ghost use Rattle.reg_jobs.specs.Asking.{IsAddress};
-ghost use Rattle.reg_program.specs.Publishing.{PublishesIn};
+ghost use Rattle.reg_program.specs.Publishing.{IsPortOf, PublishesIn};
 
 use crate::asking::{print, refusal_line};
 use crate::console::Console;
@@ -32,6 +32,7 @@ use std::io::{Read, Write};
 pub fn port_of(source: &str) -> Result<Option<u16>, JobFailure>
     ensures served { IfOk result (λ port. MatchOption port (IsAddress source.now → ⊥)
         (λ _. IsAddress source.now)) }
+    ensures number { IfOk result (λ port. IfSome port (IsPortOf source.now)) }
     ensures least { IfOk result (λ port. IfSome port (λ p. 0 < p)) }
 {
     let Some(port) = source.strip_prefix(SERVED) else {
@@ -88,7 +89,7 @@ impl Folder for LockedDirectory<'_> {
         self.directory.read(alloc, file)
     }
 
-    fn publish<P: Portions>(&mut self, file: File, bytes: &mut P) -> Result<(), Unpublished> {
+    fn publish<P: Portions>(&mut self, file: File, bytes: &mut P) -> Result<[u8; 32], Unpublished> {
         self.directory.publish(file, bytes)
     }
 }

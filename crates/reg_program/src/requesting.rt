@@ -24,7 +24,8 @@ pub fn ask<D: Dates, O: Offices, R: Read, W: Write, E: Write>(
 ) -> Result<(), Undone>
     ensures { let io = streams_by R.remaining W.contents D.readings console.old console.new dates.old
         dates.new in
-        TriesIn O.Carried offices.old offices.new (AnswersQuestion question.entry) io result }
+        TriesIn O.Carried offices.old offices.new (AnswersQuestion (O.Answered offices.old) question.entry) io
+        result }
 {
     let port = port_of(question.source())?;
     let request = request_of(rt, question, console.input)?;
@@ -33,7 +34,7 @@ pub fn ask<D: Dates, O: Offices, R: Read, W: Write, E: Write>(
     match port {
         Some(port) => {
             drop(command);
-            ask_served(rt, port, &request, form, console.output)
+            ask_served(rt, offices, port, &request, form, console.output)
         }
         None => {
             let task = Task::Ask(Question {

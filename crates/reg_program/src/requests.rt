@@ -4,7 +4,7 @@ ghost use Rattle.std.specs.String.{string_bytes};
 ghost use Rattle.reg_parse.specs.Command.{asked};
 ghost use Rattle.reg_program.specs.Asking.{Spells, definition_at, listing_at};
 ghost use Rattle.reg_program.specs.Looking.{only_looks};
-ghost use Rattle.reg_program.specs.Requests.{IsDefinition, IsListing, IsRequestOf, IsWorded, form_by, reads_input, source_by};
+ghost use Rattle.reg_program.specs.Requests.{IsBodiless, IsDefinition, IsListing, IsRequestOf, IsWorded, form_by, reads_input, source_by};
 
 use crate::asking::{AnswerForm, answer_line};
 use crate::faults::{JobFailure, Undone};
@@ -135,11 +135,23 @@ fn definition_path(alloc: Global, order: &Definition) -> Result<String, AllocErr
 pub fn listing(alloc: Global, registry: &Option<String>) -> Result<JobRequest, AllocError>
     ensures { IfOk result (IsListing (option_map string_bytes registry.now)) }
 {
-    let method = String::from_str(alloc, Method::GET.as_str())?;
     let path = listing_path(alloc, registry)?;
+    bodiless(alloc, None, Method::GET.as_str(), path)
+}
+
+/// A request without a body. Only want of memory is an error.
+pub fn bodiless(
+    alloc: Global,
+    token: Option<Vec<u8>>,
+    method: &str,
+    path: String,
+) -> Result<JobRequest, AllocError>
+    ensures { IfOk result
+        (IsBodiless (option_map (λ t. t.items) token) method.now (string_bytes path)) }
+{
     Ok(JobRequest {
-        token: None,
-        method,
+        token,
+        method: String::from_str(alloc, method)?,
         path,
         body: Vec::new(alloc),
     })

@@ -4,40 +4,50 @@ ghost use Rattle.std.specs.Option.{option_copied};
 ghost use Rattle.std.specs.String.{string_bytes};
 ghost use Rattle.reg_core.specs.Names.{is_token};
 ghost use Rattle.reg_ranges.specs.Texts.{read_text};
-ghost use Rattle.reg_program.specs.Requests.{token_bytes};
-ghost use Rattle.reg_program.specs.Served.{IsUnprintedOf, PrintsAnswer, PrintsAnswerOf, is_accepting, request_head, request_text, told, told_line, token_line};
+ghost use Rattle.reg_program.specs.Requests.{sent_text};
+ghost use Rattle.reg_program.specs.Served.{IsUnprintedOf, PrintsAnswer, PrintsAnswerOf, is_accepting, request_head, told, told_line, token_line};
 
 use crate::asking::{AnswerForm, line_by, print, with_end};
 use crate::faults::{JobFailure, Undone};
 use crate::publishing::undone;
 use crate::requests::JobRequest;
+use crate::tasks::Offices;
 use http::StatusCode;
 use reg_client::answers::{Answered, answer_in};
-use reg_client::peer::exchange;
 use reg_core::text::Token;
 use std::alloc::{AllocError, Global};
 use std::io::Write;
 
 /// Has the office that is served on a port of loopback answer a request, and prints its answer. `Refused` where
 /// it refuses it.
-pub fn ask_served<W: Write>(
+pub fn ask_served<O: Offices, W: Write>(
     rt: &HostRuntime,
+    offices: &O,
     port: u16,
     request: &JobRequest,
     form: AnswerForm,
     output: &mut W,
 ) -> Result<(), Undone>
-    ensures { OnOk result (PrintsAnswer form (W.contents output.old) (W.contents output.new)) }
+    ensures { OnOk result (PrintsAnswer (O.Answered offices.now port (sent_text request.now)) form
+        (W.contents output.old) (W.contents output.new)) }
 {
-    let answer = answer_of(rt, port, request)?;
+    let answer = answer_of(rt, offices, port, request)?;
     print_answer(rt.alloc(), answer.as_slice(), form, output)
 }
 
 /// The bytes that the office that is served on a port of loopback answers to a request.
-pub fn answer_of(rt: &HostRuntime, port: u16, request: &JobRequest) -> Result<Vec<u8>, Undone> {
+pub fn answer_of<O: Offices>(
+    rt: &HostRuntime,
+    offices: &O,
+    port: u16,
+    request: &JobRequest,
+) -> Result<Vec<u8>, Undone>
+    ensures { IfOk result
+        (λ answer. O.Answered offices.now port (sent_text request.now) answer.items) }
+{
     let alloc = rt.alloc();
     let bytes = request_bytes(alloc, request)?;
-    match exchange(rt, port, bytes.as_slice()) {
+    match offices.exchange(rt, port, bytes.as_slice()) {
         Ok(answer) => Ok(answer),
         Err(why) => Err(undone(alloc, why)?),
     }
@@ -48,9 +58,7 @@ pub fn answer_of(rt: &HostRuntime, port: u16, request: &JobRequest) -> Result<Ve
 /// The bytes of a request (RFC 9112): its method, its path, its token, if that has the form of one, and
 /// its body. Any other token is nobody's, as none is.
 pub fn request_bytes(alloc: Global, request: &JobRequest) -> Result<Vec<u8>, AllocError>
-    ensures { IfOk result (λ v. v.items ≡ request_text (string_bytes request.now.method)
-        (string_bytes request.now.path)
-        (option_and_then (read_text is_token) (token_bytes request.now)) request.now.body.items) }
+    ensures { IfOk result (λ v. v.items ≡ sent_text request.now) }
 {
     let authorization = authorization(alloc, formed(request.token.as_deref()))?;
     let method = request.method.as_str();

@@ -1,5 +1,5 @@
 //! What jobs do with the offices in files.
-ghost use Rattle.std.specs.Prelude.{◌≡◌, false, true, Err, option_map};
+ghost use Rattle.std.specs.Prelude.{◌≡◌, false, true, Err, IfOk, option_map};
 ghost use Rattle.reg_core.specs.Names.{is_token};
 ghost use Rattle.reg_core.specs.View.{published};
 ghost use Rattle.reg_program.specs.Doing.{Does};
@@ -23,6 +23,7 @@ use reg_http::peers::Ports;
 use reg_keeper::keeper::Keeper;
 use reg_office::{Choice, Office};
 use reg_pages::notes::Notes;
+use reg_source::unpublished::Unpublished;
 use std::io::{Read, Write};
 
 /// What a job does with the office in a file.
@@ -58,7 +59,7 @@ pub enum Task<'a> {
     Due(u32),
 }
 
-/// What has the offices in files.
+/// What has the offices: in files, and served on this machine.
 pub trait Offices {
     ghost use Rattle.std.specs.Prelude.{⊤, ℕ, List, Result};
     ghost use Rattle.reg_program.specs.Tasks.{Streams as OfConsole};
@@ -71,6 +72,9 @@ pub trait Offices {
 
     /// What becomes of them by a look at the office in the file at a path, with this result.
     ghost Checked: { Self → Self → List ℕ → OfConsole → Result ⊤ OfJob → Type 0 };
+
+    /// The office that is served on a port of loopback gives this answer to the bytes of a request.
+    ghost Answered: { Self → ℕ → List ℕ → List ℕ → Type 0 };
 
     /// Opens the office in the file at a path, does one task with it, and closes it. The office is begun,
     /// empty, where the task begins it and there is no file, or one with nothing in it. `Busy` where another
@@ -101,6 +105,11 @@ pub trait Offices {
         ensures { let io = streams_by R.remaining W.contents D.readings console.old console.new dates.old
             dates.new in
             Checked self.old self.new path.now io result };
+
+    /// Sends the bytes of one request to the office that is served on a port of loopback, and gives the bytes
+    /// of its answer. As `exchange` of `reg_client`.
+    fn exchange(&self, rt: &HostRuntime, port: u16, request: &[u8]) -> Result<Vec<u8>, Unpublished>
+        ensures { IfOk result (λ answer. Answered self.now port request.now answer.items) };
 }
 
 impl Task<'_> {

@@ -1,13 +1,13 @@
 -- The record that an index names.
-use Rattle.std.proofs.Common.{◌≡◌, ◌↔◌, ◌⊎◌, inl, inr, ℕ, ◌+◌, ◌-◌, ◌<◌, ◌≤◌, ◌==◌, true, false, cond, List, [], ◌∷◌, ◌++◌, Option, Some, None, codes, drop, length, take, option_map, refl, sym, ap, ◌∙◌, subst}
-use Rattle.std.specs.Option.{option_and_then, option_copied, option_or}
-use Rattle.std.specs.Prelude.{MatchOption, bytes_eq, position}
+use Rattle.std.proofs.Common.{◌≡◌, ◌↔◌, ◌⊎◌, inl, inr, ℕ, ◌+◌, ◌-◌, ◌<◌, ◌≤◌, ◌==◌, List, [], ◌∷◌, ◌++◌, Option, Some, None, codes, drop, length, take, option_map, refl, sym, ap, ◌∙◌, subst}
+use Rattle.std.specs.Option.{option_and_then, option_or}
+use Rattle.std.specs.Prelude.{position}
 use Rattle.std.proofs.lemmas.List.{drop_all, drop_more, take_rest, take-append-drop}
-use denote.Ref.{Bor}
-use Rattle.std.proofs.lemmas.Option.{cond_some, none-some, option_and_then_some, some_pair_parts}
-use Rattle.std.proofs.lemmas.Slice.Eq.{bytes_eq-Decides}
+use Rattle.std.proofs.lemmas.Option.{none-some, option_and_then_some, some_pair_parts}
+use Rattle.reg_print.specs.Comparing.{behind, until}
+use Rattle.reg_print.proofs.Fronts.{behind_is}
 use Rattle.reg_ranges.specs.Numbers.{read_number}
-use Rattle.reg_publish.specs.Earlier.{HasRecord, IsTied, NamesRecord, behind, behind_first, digest_in, named_by, named_record, until}
+use Rattle.reg_publish.specs.Earlier.{HasRecord, IsTied, NamesRecord, behind_first, digest_in, named_by, named_record}
 
 -- ---- What is found in a text
 
@@ -19,13 +19,6 @@ map_some f (Some x) y e = (x, refl, cc)
 or_some : {X : Type 0} (o p : Option X) (x : X) → option_or o p ≡ Some x → (o ≡ Some x) ⊎ (p ≡ Some x)
 or_some None p x e = inr e
 or_some (Some y) p x e = inl e
-
-behind_is : (front text rest : List ℕ) → behind front text ≡ Some rest → text ≡ front ++ rest
-behind_is front text rest e =
-    let n = length front in
-    let found = cond_some (bytes_eq (take n text) front) (drop n text) rest e in
-    sym (take-append-drop n text)
-    ∙ (λ i. (bytes_eq-Decides (take n text) front).0 found.0 i ++ found.1 i)
 
 behind_first_is : (front text rest : List ℕ) → behind_first front text ≡ Some rest
     → (before : List ℕ) × (text ≡ before ++ (front ++ rest))
@@ -43,31 +36,6 @@ until_is : (byte : ℕ) (text : List ℕ) (parts : List ℕ × List ℕ) → unt
 until_is byte text parts e =
     let found = map_some (λ n. (take n text, drop n text)) (position (λ b. b == byte) text) parts e in
     sym (take-append-drop found.0 text) ∙ ap (λ (p : List ℕ × List ℕ). p.0 ++ p.1) found.2
-
--- ---- As the code finds it
-
--- what `strip_prefix` says
-pub behind_by : (front text : List ℕ) (r : Option (Bor (List ℕ)))
-    → MatchOption r (bytes_eq (take (length front) text) front ≡ false)
-    (λ x. (bytes_eq (take (length front) text) front ≡ true) × (x.now ≡ drop (length front) text)
-    × (length x.now + length front ≡ length text))
-    → option_copied r ≡ behind front text
-behind_by front text None m =
-    ap (λ b. cond b (Some (drop (length front) text)) None) (sym m)
-behind_by front text (Some x) m =
-    ap Some m.1 ∙ ap (λ b. cond b (Some (drop (length front) text)) None) (sym m.0)
-
--- the byte is not there
-pub until_none : (byte : ℕ) (text : List ℕ) → position (λ b. b == byte) text ≡ None
-    → None ≡ until byte text
-until_none byte text e = ap (option_map (λ n. (take n text, drop n text))) (sym e)
-
--- it is at this place
-pub until_some : (byte : ℕ) (text front rest : List ℕ) (end : ℕ)
-    → position (λ b. b == byte) text ≡ Some end → front ≡ take end text → rest ≡ drop end text
-    → Some (front, rest) ≡ until byte text
-until_some byte text front rest end e a b =
-    (λ i. Some (a i, b i)) ∙ ap (option_map (λ n. (take n text, drop n text))) (sym e)
 
 -- ---- From a place on
 

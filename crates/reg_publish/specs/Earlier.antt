@@ -1,8 +1,9 @@
 -- What a folder has of earlier publications.
-use Rattle.std.specs.Prelude.{◌≡◌, ◌⊎◌, ◌==◌, ⊤, ℕ, List, [], ◌∷◌, ◌++◌, codes, length, take, drop, position, bytes_eq, Option, Some, None, option_map, option_and_then, if◌then◌else◌}
+use Rattle.std.specs.Prelude.{◌≡◌, ◌⊎◌, ⊤, ℕ, List, [], ◌∷◌, ◌++◌, codes, Option, Some, None, option_map, option_and_then}
 use Rattle.std.specs.Option.{option_or}
 use Rattle.reg_history.specs.Chain.{HasDigest, chained, header_line}
 use Rattle.reg_changes.specs.declared.change.HistoryRecord.{HistoryRecord}
+use Rattle.reg_print.specs.Comparing.{behind, until}
 use Rattle.reg_ranges.specs.Numbers.{read_number}
 
 -- ---- The record that an index names
@@ -11,19 +12,10 @@ use Rattle.reg_ranges.specs.Numbers.{read_number}
 abbrev pub Named : Type 0
 Named = ℕ × List ℕ
 
--- what is left of a text behind this front, where it begins with it
-abbrev pub behind : List ℕ → List ℕ → Option (List ℕ)
-behind front text =
-    (if bytes_eq (take (length front) text) front then Some (drop (length front) text) else None)
-
 -- what stands in a text behind the first place of this front
 abbrev pub behind_first : List ℕ → List ℕ → Option (List ℕ)
 behind_first front [] = None
 behind_first front (b ∷ text) = option_or (behind front (b ∷ text)) (behind_first front text)
-
--- a text before the first such byte, and from it on
-abbrev pub until : ℕ → List ℕ → Option (List ℕ × List ℕ)
-until byte text = option_map (λ end. (take end text, drop end text)) (position (λ b. b == byte) text)
 
 -- a digest up to its quote (34), where what follows it in an index stands there
 abbrev pub digest_in : List ℕ → Option (List ℕ)

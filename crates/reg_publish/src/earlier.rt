@@ -3,7 +3,7 @@ ghost use Rattle.std.specs.Prelude.{◌≡◌, ◌↔◌, ℕ, List, Option, Som
 ghost use Rattle.std.specs.Option.{option_copied};
 ghost use Rattle.reg_history.specs.Chain.{header_line};
 ghost use Rattle.reg_history.specs.History.{IsHistoryOf};
-ghost use Rattle.reg_publish.specs.Earlier.{HasRecord, IsTied, behind, behind_first, digest_in, named_record, text_there, until};
+ghost use Rattle.reg_publish.specs.Earlier.{HasRecord, IsTied, behind_first, digest_in, named_record, text_there};
 ghost use Rattle.reg_publish.specs.Faults.{HistoryIsUnread};
 ghost use Rattle.reg_site.specs.Files.{path_of};
 ghost use Rattle.reg_site.specs.declared.files.File.TheVariants as file;
@@ -11,6 +11,7 @@ ghost use Rattle.reg_site.specs.declared.files.File.TheVariants as file;
 use crate::faults::{HistoryFault, PublishFault};
 use reg_history::chain::Chain;
 use reg_history::history::{HEADER, History, read};
+use reg_print::comparing::{behind, until};
 use reg_ranges::number::read_number;
 use reg_site::files::File;
 use reg_source::folder::Folder;
@@ -153,19 +154,4 @@ fn behind_first<'a>(front: &[u8], text: &'a [u8]) -> Option<&'a [u8]>
         }
     }
     None
-}
-
-// What is left of a text behind this front, where it begins with it.
-fn behind<'a>(front: &[u8], text: &'a [u8]) -> Option<&'a [u8]>
-    ensures { option_copied result ≡ behind front.now text.now }
-{
-    text.strip_prefix(front)
-}
-
-// A text before the first such byte, and from it on.
-fn until<'a>(byte: u8, text: &'a [u8]) -> Option<(&'a [u8], &'a [u8])>
-    ensures { option_map (λ parts. (parts.0.now, parts.1.now)) result ≡ until byte text.now }
-{
-    let end = text.iter().position(|other| *other == byte)?;
-    Some(text.split_at(end))
 }

@@ -10,7 +10,7 @@ ghost use Rattle.reg_site.specs.IndexTree.{row_of};
 ghost use Rattle.reg_site.specs.Site.{site_title as title_by};
 ghost use Rattle.reg_site.specs.Summary.{summary};
 
-use crate::placing::put;
+use crate::placing::put_bytes;
 use reg_blocks::pool::Pool;
 use reg_changes::change::HistoryRecord;
 use reg_core::holding::Listed;
@@ -46,11 +46,11 @@ pub(crate) fn publish_changes<F: Folder>(
 {
     let changes = last_changes(alloc, overview)?;
     let html = changes_page(alloc, notes, changes.as_slice())?;
-    put(alloc, folder, sums, File::ChangesPage, &html)?;
+    put_bytes(alloc, folder, sums, File::ChangesPage, &html)?;
     drop(html);
     let id = feed_id(alloc, overview.first_digest())?;
     let feed = changes_feed(alloc, site_title(notes), id.as_str(), changes.as_slice())?;
-    put(alloc, folder, sums, File::ChangesFeed, &feed)?;
+    put_bytes(alloc, folder, sums, File::ChangesFeed, &feed)?;
     Ok(())
 }
 
@@ -73,7 +73,7 @@ pub(crate) fn publish_indexes<F: Folder>(
         blocks.now moment)) }
 {
     let html = index_page(alloc, notes, registers, pool, blocks, moment)?;
-    put(alloc, folder, sums, File::Index, &html)?;
+    put_bytes(alloc, folder, sums, File::Index, &html)?;
     drop(html);
     let now = moment_text(alloc, moment)?;
     let tree = index_tree(
@@ -84,7 +84,7 @@ pub(crate) fn publish_indexes<F: Folder>(
         text_of(overview.last_digest()),
         registers,
     )?;
-    put(alloc, folder, sums, File::IndexTree, &tree)?;
+    put_bytes(alloc, folder, sums, File::IndexTree, &tree)?;
     Ok(())
 }
 

@@ -2,19 +2,18 @@
 ghost use Rattle.std.specs.Prelude.{◌≡◌, OnOk};
 ghost use Rattle.reg_publish.specs.Folder.{Places, PlacesSummed};
 ghost use Rattle.reg_site.specs.Site.{one_file};
-ghost use Rattle.reg_site.specs.Sums.{digest as digest_by, entries_of, lines_of};
+ghost use Rattle.reg_site.specs.Sums.{entries_of, lines_of};
 ghost use Rattle.reg_site.specs.declared.files.File.TheVariants as file;
 
-use reg_changes::field::Field;
 use reg_pages::portions::{Portions, Whole};
 use reg_site::files::File;
-use reg_site::sums::{Sums, digest_of};
+use reg_site::sums::Sums;
 use reg_source::folder::Folder;
 use reg_source::unpublished::Unpublished;
 use std::alloc::Global;
 
 /// Puts a file with these bytes into a folder, and adds its sum.
-pub(crate) fn put<F: Folder>(
+pub(crate) fn put_bytes<F: Folder>(
     alloc: Global,
     folder: &mut F,
     sums: &mut Sums,
@@ -24,26 +23,23 @@ pub(crate) fn put<F: Folder>(
     ensures { OnOk result (PlacesSummed F.Puts folder.old folder.new sums.old sums.new
         (one_file file bytes.now)) }
 {
-    let digest = digest_of(alloc, &mut Whole::of(bytes))?;
-    put_portions(alloc, folder, sums, file, digest, &mut Whole::of(bytes))
+    put(alloc, folder, sums, file, &mut Whole::of(bytes))
 }
 
-/// Puts a file with the bytes that are given into a folder, and adds its sum, which is this one.
-pub(crate) fn put_portions<F: Folder, P: Portions>(
+/// Puts a file with the bytes that are given into a folder, and adds its sum.
+pub(crate) fn put<F: Folder, P: Portions>(
     alloc: Global,
     folder: &mut F,
     sums: &mut Sums,
     file: File,
-    digest: Field,
     bytes: &mut P,
 ) -> Result<(), Unpublished>
-    requires { digest ≡ digest_by (P.rest bytes.old) }
     ensures { OnOk result (PlacesSummed F.Puts folder.old folder.new sums.old sums.new
         (one_file file (P.rest bytes.old))) }
 {
-    folder.publish(file, bytes)?;
+    let hash = folder.publish(file, bytes)?;
     let path = file.path(alloc)?;
-    sums.add(alloc, path.as_str(), digest)?;
+    sums.add(alloc, path.as_str(), &hash)?;
     Ok(())
 }
 
@@ -57,5 +53,6 @@ pub(crate) fn put_sums<F: Folder>(
         (one_file file.Sums (lines_of (entries_of sums)))) }
 {
     let text = sums.text(alloc)?;
-    folder.publish(File::Sums, &mut Whole::of(text.as_slice()))
+    folder.publish(File::Sums, &mut Whole::of(text.as_slice()))?;
+    Ok(())
 }

@@ -17,7 +17,7 @@ use crate::earlier::{Earlier, read_earlier};
 use crate::faults::PublishFault;
 use crate::indexes::{publish_changes, publish_indexes, registers, summaries};
 use crate::left_out::{LeftOut, left_out};
-use crate::placing::{put, put_sums};
+use crate::placing::{put_bytes, put_sums};
 use crate::registries::{publish_blocks, publish_pool, publish_registries};
 use crate::told::{AllTold, ask_all};
 use reg_changes::change::HistoryRecord;
@@ -111,7 +111,7 @@ fn publish_told<F: Folder>(
 {
     let mut sums = Sums::new(alloc);
     let Recorded { text, overview } = recorded;
-    put(alloc, folder, &mut sums, File::Changes, text.as_slice())?;
+    put_bytes(alloc, folder, &mut sums, File::Changes, text.as_slice())?;
     drop(text);
     publish_shown(alloc, folder, &mut sums, notes, &overview, told)?;
     publish_last(alloc, folder, &mut sums, notes, &overview, told, moment)?;

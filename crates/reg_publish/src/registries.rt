@@ -13,7 +13,7 @@ ghost use Rattle.reg_site.specs.Registry.{registry_page};
 ghost use Rattle.reg_site.specs.Site.{block_files, one_file, page_files, pool_files, told_text};
 ghost use Rattle.reg_site.specs.declared.files.File.TheVariants as file;
 
-use crate::placing::{put, put_portions};
+use crate::placing::{put, put_bytes};
 use reg_blocks::pool::Pool;
 use reg_blocks::size::Size;
 use reg_changes::change::HistoryRecord;
@@ -32,7 +32,7 @@ use reg_site::recent::day_part;
 use reg_site::records::RegistryRecords;
 use reg_site::registry::RegistryPage;
 use reg_site::style::style;
-use reg_site::sums::{Sums, digest_of};
+use reg_site::sums::Sums;
 use reg_site::tree::RegistryTree;
 use reg_source::folder::Folder;
 use reg_source::told::page_in;
@@ -74,7 +74,13 @@ fn publish_registry<F: Folder>(
     let changed = overview.last_changed(alloc, page.name.as_str())?;
     put_page(alloc, folder, sums, notes, changed, page)?;
     put_listing(alloc, folder, sums, page)?;
-    put_tree(alloc, folder, sums, page)?;
+    put(
+        alloc,
+        folder,
+        sums,
+        File::RegistryTree(page.name),
+        &mut RegistryTree::of(page),
+    )?;
     put_records(alloc, folder, sums, notes, day_part(changed), page)?;
     Ok(())
 }
@@ -91,16 +97,12 @@ fn put_page<F: Folder>(
         (one_file (file.RegistryPage page.now.name)
         (registry_page (option_copied notes.entry) changed.now page.now))) }
 {
-    let mut first = RegistryPage::of(alloc, page, notes, changed)?;
-    let digest = digest_of(alloc, &mut first)?;
-    drop(first);
     let mut html = RegistryPage::of(alloc, page, notes, changed)?;
-    put_portions(
+    put(
         alloc,
         folder,
         sums,
         File::RegistryPage(page.name),
-        digest,
         &mut html,
     )
 }
@@ -114,39 +116,8 @@ fn put_listing<F: Folder>(
     ensures { OnOk result (PlacesSummed F.Puts folder.old folder.new sums.old sums.new
         (one_file (file.RegistryCsv page.now.name) (told_text (tells.Sheet page.now)))) }
 {
-    let mut first = RegistryCsv::of(alloc, page)?;
-    let digest = digest_of(alloc, &mut first)?;
-    drop(first);
     let mut csv = RegistryCsv::of(alloc, page)?;
-    put_portions(
-        alloc,
-        folder,
-        sums,
-        File::RegistryCsv(page.name),
-        digest,
-        &mut csv,
-    )
-}
-
-fn put_tree<F: Folder>(
-    alloc: Global,
-    folder: &mut F,
-    sums: &mut Sums,
-    page: &Page,
-) -> Result<(), Unpublished>
-    ensures { OnOk result (PlacesSummed F.Puts folder.old folder.new sums.old sums.new
-        (one_file (file.RegistryTree page.now.name) (told_text (tells.Page page.now)))) }
-{
-    let digest = digest_of(alloc, &mut RegistryTree::of(page))?;
-    let mut tree = RegistryTree::of(page);
-    put_portions(
-        alloc,
-        folder,
-        sums,
-        File::RegistryTree(page.name),
-        digest,
-        &mut tree,
-    )
+    put(alloc, folder, sums, File::RegistryCsv(page.name), &mut csv)
 }
 
 fn put_records<F: Folder>(
@@ -161,16 +132,12 @@ fn put_records<F: Folder>(
         (one_file (file.RegistryRecords page.now.name)
         (records_text (option_copied notes.entry) day.now page.now))) }
 {
-    let mut first = RegistryRecords::of(alloc, page, notes, day)?;
-    let digest = digest_of(alloc, &mut first)?;
-    drop(first);
     let mut xml = RegistryRecords::of(alloc, page, notes, day)?;
-    put_portions(
+    put(
         alloc,
         folder,
         sums,
         File::RegistryRecords(page.name),
-        digest,
         &mut xml,
     )
 }
@@ -188,9 +155,8 @@ pub(crate) fn publish_blocks<F: Folder>(
     ensures { OnOk result (PlacesSummed F.Puts folder.old folder.new sums.old sums.new
         (block_files (apply_lines (option_copied notes.entry)) blocks.now)) }
 {
-    let digest = digest_of(alloc, &mut BlocksPage::of(blocks, notes))?;
     let mut html = BlocksPage::of(blocks, notes);
-    put_portions(alloc, folder, sums, File::BlocksPage, digest, &mut html)?;
+    put(alloc, folder, sums, File::BlocksPage, &mut html)?;
     put_block_listing(alloc, folder, sums, blocks)?;
     put_size(alloc, folder, sums, Size::MaL, blocks)?;
     put_size(alloc, folder, sums, Size::MaM, blocks)?;
@@ -208,7 +174,7 @@ fn put_block_listing<F: Folder>(
         (one_file file.BlocksListing (told_text (tells.Blocks blocks.now)))) }
 {
     let csv = block_listing(alloc, blocks)?;
-    put(alloc, folder, sums, File::BlocksListing, &csv)
+    put_bytes(alloc, folder, sums, File::BlocksListing, &csv)
 }
 
 fn put_size<F: Folder>(
@@ -222,7 +188,7 @@ fn put_size<F: Folder>(
         (one_file (file.Assignments size) (assignments_text size blocks.now))) }
 {
     let csv = assignments(alloc, size, blocks)?;
-    put(alloc, folder, sums, File::Assignments(size), &csv)
+    put_bytes(alloc, folder, sums, File::Assignments(size), &csv)
 }
 
 /// Publishes what is told of the pool, and how pages look.
@@ -236,8 +202,8 @@ pub(crate) fn publish_pool<F: Folder>(
         (pool_files pool.now)) }
 {
     let tree = text_of(alloc, Told::Pool(pool.copy()?))?;
-    put(alloc, folder, sums, File::Pool, &tree)?;
-    put(alloc, folder, sums, File::Style, style().as_bytes())?;
+    put_bytes(alloc, folder, sums, File::Pool, &tree)?;
+    put_bytes(alloc, folder, sums, File::Style, style().as_bytes())?;
     Ok(())
 }
 

@@ -6,4 +6,3 @@ pub mod Merging
 pub mod Portioned
 pub mod ShortPictures
 pub mod SiteLaws
-pub mod Summed

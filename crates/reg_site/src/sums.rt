@@ -1,10 +1,10 @@
 //! The sums of all files, as `sha256sum` reads them.
 ghost use Rattle.std.specs.Prelude.{◌≡◌, [], string_bytes, IfOk, List, OnOk, ℕ};
-ghost use Rattle.reg_site.specs.Sums.{digest as digest_by, entries_of, lines_of, sum_line, with_sum};
+ghost use Rattle.hex.specs.Hex.{encode_lower};
+ghost use Rattle.sha2.specs.Sha256.{sha256};
+ghost use Rattle.reg_site.specs.Sums.{entries_of, lines_of, sum_line, with_sum};
 
 use reg_changes::field::Field;
-use reg_pages::portions::Portions;
-use sha2::{Digest, Sha256};
 use std::alloc::{AllocError, Global};
 use std::collections::BTreeMap;
 
@@ -24,13 +24,14 @@ impl Sums {
         }
     }
 
-    /// Adds the digest of the file at a place, from the folder of the site on. Only want of memory is an
+    /// Adds the SHA-256 of the file at a place, from the folder of the site on. Only want of memory is an
     /// error.
-    pub fn add(&mut self, alloc: Global, path: &str, digest: Field) -> Result<(), AllocError>
-        ensures { OnOk result ((bytes : List ℕ) → digest ≡ digest_by bytes
+    pub fn add(&mut self, alloc: Global, path: &str, hash: &[u8; 32]) -> Result<(), AllocError>
+        ensures { OnOk result ((bytes : List ℕ) → hash.now ≡ sha256 bytes
             → entries_of self.new ≡ with_sum (entries_of self.old) path.now bytes) }
     {
         let path = Field::new(alloc, path)?;
+        let digest = digits_of(alloc, hash)?;
         self.digests.insert(path, digest)?;
         Ok(())
     }
@@ -54,18 +55,10 @@ fn sum_line(alloc: Global, path: &str, digest: &str) -> Result<String, AllocErro
     format!(in alloc; "{digest}  {path}\n")
 }
 
-/// The SHA-256 of all bytes that are still to be given, in lower-case hexadecimal. Only want of memory
-/// is an error.
-pub fn digest_of<P: Portions>(alloc: Global, bytes: &mut P) -> Result<Field, AllocError>
-    ensures { IfOk result (λ digits. digits ≡ digest_by (P.rest bytes.old)) }
+// A hash in lower-case hexadecimal.
+fn digits_of(alloc: Global, hash: &[u8; 32]) -> Result<Field, AllocError>
+    ensures { IfOk result (λ digits. digits ≡ encode_lower hash.now) }
 {
-    let mut hasher = Sha256::new();
-    let mut portion = Vec::new(alloc);
-    while bytes.push_next(&mut portion)? {
-        hasher.update(portion.as_slice());
-        portion.clear();
-    }
-    let hash: [u8; 32] = hasher.finalize();
     let digits = hex::encode(alloc, hash.as_slice())?;
     Field::new(alloc, digits.as_str())
 }

@@ -74,10 +74,10 @@ impl<D: Disk> Folder for Directory<D> {
         }
     }
 
-    fn publish<P: Portions>(&mut self, file: File, bytes: &mut P) -> Result<(), Unpublished> {
+    fn publish<P: Portions>(&mut self, file: File, bytes: &mut P) -> Result<[u8; 32], Unpublished> {
         let names = self.names(file)?;
         match put(&mut self.disk, self.alloc, &names, bytes) {
-            Ok(()) => Ok(()),
+            Ok(hash) => Ok(hash),
             Err(why) => {
                 self.disk.remove(names.beside.as_str());
                 Err(why)

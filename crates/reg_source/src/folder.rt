@@ -1,5 +1,6 @@
 //! Where files are published.
 ghost use Rattle.std.specs.Prelude.{◌≡◌, ◌≤◌, IfOk, IfSome, OnOk, OnErr, length, option_map};
+ghost use Rattle.sha2.specs.Sha256.{sha256};
 ghost use Rattle.reg_site.specs.Files.{path_of};
 
 use crate::unpublished::Unpublished;
@@ -35,10 +36,11 @@ pub trait Folder {
         ensures most { IfOk result (λ found. IfSome found (λ v. length v.items ≤ 268435456)) };
 
     /// Publishes a file of a site, whole: whoever reads it, at any time, reads all of what was there or
-    /// all of these bytes, and from now on these. They are taken in portions. Where they are there
-    /// already nothing is written. `Write` where it cannot be written; what was there stays then, or
-    /// the new bytes are there whole.
-    fn publish<P: Portions>(&mut self, file: File, bytes: &mut P) -> Result<(), Unpublished>
+    /// all of these bytes, and from now on these. They are taken in portions, and hashed as they are taken: gives
+    /// their SHA-256. Where they are there already nothing is written. `Write` where it cannot be written; what
+    /// was there stays then, or the new bytes are there whole.
+    fn publish<P: Portions>(&mut self, file: File, bytes: &mut P) -> Result<[u8; 32], Unpublished>
         ensures done { OnOk result (Puts self.old self.new (path_of file) (P.rest bytes.old)) }
+        ensures hash { IfOk result (λ hash. hash ≡ sha256 (P.rest bytes.old)) }
         ensures failed { OnErr result (Leaves self.old self.new (path_of file) (P.rest bytes.old)) };
 }

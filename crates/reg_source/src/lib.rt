@@ -3,6 +3,7 @@
 #![tactic(auto)]
 
 pub mod bounded;
+pub mod comparing;
 pub mod directory;
 pub mod disk;
 pub mod folder;

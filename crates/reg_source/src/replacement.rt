@@ -1,15 +1,18 @@
 //! A file that takes the place of another.
-ghost use Rattle.std.specs.Prelude.{◌≡◌, ◌≤◌, ◌++◌, [], length, take, IsTrue, IfOk, OnOk, OnErr};
+ghost use Rattle.std.specs.Prelude.{◌≡◌, ◌≤◌, ◌++◌, [], length, take, IsTrue, IfNone, IfOk, OnOk, OnErr};
 ghost use Rattle.std.specs.Io.KnownBytes.{Consumes, IsAtEnd};
 ghost use Rattle.reg_pages.specs.Portions.{GivesIfMore};
 ghost use Rattle.reg_source.specs.Copied.{IsCompared, IsCopied};
+ghost use Rattle.sha2.specs.Sha256.{sha256};
 ghost use Rattle.reg_source.specs.Disk.{IsLeft, IsPut, IsStopped, StaysBeside, begins, names_of, names_within, replaces};
+ghost use Rattle.reg_source.specs.Hashed.{FeedsHasher, FeedsTaken};
 ghost use Rattle.reg_source.specs.Names.{names_by};
 
 use crate::disk::Disk;
 use crate::unpublished::{Unpublished, unwritten};
 use reg_pages::portions::Portions;
 use reg_site::files::File;
+use sha2::{Digest, Sha256};
 use std::alloc::{AllocError, Global};
 use std::io::Read;
 
@@ -75,7 +78,8 @@ pub fn replace<D: Disk, P: Portions>(
     ensures failed { D.Tells → OnErr result (IsLeft (names_by names.now) (P.rest bytes.old)
         (D.done disk.old) (D.done disk.new)) }
 {
-    match write(disk, names, 0, &mut Vec::new(alloc), bytes) {
+    let mut hasher = Sha256::new();
+    match write(disk, names, 0, &mut Vec::new(alloc), bytes, &mut hasher) {
         Ok(()) => Ok(()),
         Err(why) => {
             disk.remove(names.beside.as_str());
@@ -84,26 +88,49 @@ pub fn replace<D: Disk, P: Portions>(
     }
 }
 
-/// Lets these bytes take a place. Where the file that is there has all of them, and no other, nothing
-/// is done.
+/// Lets these bytes take a place, and gives their SHA-256. Where the file that is there has all of them, and no
+/// other, nothing is done.
 pub(crate) fn put<D: Disk, P: Portions>(
     disk: &mut D,
     alloc: Global,
     names: &Names,
     bytes: &mut P,
+) -> Result<[u8; 32], Unpublished>
+    ensures done { D.Tells → OnOk result (IsPut (names_by names.now)
+        (D.held disk.old (names_by names.now).place) (P.rest bytes.old) (D.done disk.old)
+        (D.done disk.new)) }
+    ensures hash { IfOk result (λ hash. hash ≡ sha256 (P.rest bytes.old)) }
+    ensures failed { D.Tells → OnErr result (IsStopped (names_by names.now) (P.rest bytes.old)
+        (D.done disk.old) (D.done disk.new)) }
+{
+    let mut hasher = Sha256::new();
+    match put_hashed(disk, alloc, names, bytes, &mut hasher) {
+        Ok(()) => Ok(hasher.finalize()),
+        Err(why) => Err(why),
+    }
+}
+
+// The same, with a hasher that is fed with the bytes.
+fn put_hashed<D: Disk, P: Portions>(
+    disk: &mut D,
+    alloc: Global,
+    names: &Names,
+    bytes: &mut P,
+    hasher: &mut Sha256,
 ) -> Result<(), Unpublished>
     ensures done { D.Tells → OnOk result (IsPut (names_by names.now)
         (D.held disk.old (names_by names.now).place) (P.rest bytes.old) (D.done disk.old)
         (D.done disk.new)) }
+    ensures fed { OnOk result (FeedsHasher hasher.old hasher.new (P.rest bytes.old)) }
     ensures failed { D.Tells → OnErr result (IsStopped (names_by names.now) (P.rest bytes.old)
         (D.done disk.old) (D.done disk.new)) }
 {
     let mut gathered = Vec::with_capacity(alloc, GATHERED_BYTES)?;
     let Some(mut reader) = disk.open(names.place.as_str()) else {
-        return write(disk, names, 0, &mut gathered, bytes);
+        return write(disk, names, 0, &mut gathered, bytes, hasher);
     };
-    match compared(&mut reader, &mut gathered, bytes)? {
-        Some(same) => write(disk, names, same, &mut gathered, bytes),
+    match compared(&mut reader, &mut gathered, bytes, hasher)? {
+        Some(same) => write(disk, names, same, &mut gathered, bytes, hasher),
         None => Ok(()),
     }
 }
@@ -114,12 +141,16 @@ fn compared<R: Read, P: Portions>(
     reader: &mut R,
     gathered: &mut Vec<u8>,
     bytes: &mut P,
+    hasher: &mut Sha256,
 ) -> Result<Option<u64>, Unpublished>
-    ensures { IfOk result (λ same. IsCompared same (R.remaining reader.old) gathered.new.items
-        (P.rest bytes.old) (P.rest bytes.new)) }
+    ensures same { IfOk result (λ same. IsCompared same (R.remaining reader.old)
+        gathered.new.items (P.rest bytes.old) (P.rest bytes.new)) }
+    ensures fed { OnOk result
+        (FeedsTaken hasher.old hasher.new (P.rest bytes.old) (P.rest bytes.new)) }
+    ensures all { IfOk result (λ same. IfNone same (P.rest bytes.new ≡ [])) }
 {
     let mut same = 0u64;
-    while gather(bytes, gathered)? {
+    while gather_hashed(bytes, gathered, hasher)? {
         if !goes_on(reader, gathered) {
             return Ok(Some(same));
         }
@@ -133,6 +164,22 @@ fn compared<R: Read, P: Portions>(
     } else {
         Ok(Some(same))
     }
+}
+
+// Gathers the next bytes, tells whether there are any, and feeds a hasher with them.
+fn gather_hashed<P: Portions>(
+    bytes: &mut P,
+    gathered: &mut Vec<u8>,
+    hasher: &mut Sha256,
+) -> Result<bool, AllocError>
+    ensures more { IfOk result
+        (λ more. GivesIfMore more [] gathered.new.items (P.rest bytes.old) (P.rest bytes.new)) }
+    ensures fed { OnOk result
+        (FeedsTaken hasher.old hasher.new (P.rest bytes.old) (P.rest bytes.new)) }
+{
+    let more = gather(bytes, gathered)?;
+    hasher.update(gathered.as_slice());
+    Ok(more)
 }
 
 // Gathers the next bytes, and tells whether there are any.
@@ -150,24 +197,27 @@ fn gather<P: Portions>(bytes: &mut P, gathered: &mut Vec<u8>) -> Result<bool, Al
 }
 
 // Writes a file beside its place, with so many bytes of the file that is there, those that were
-// gathered, and those that are still to be given; has it kept, and lets it take the place.
+// gathered, and those that are still to be given, with which a hasher is fed; has it kept, and lets it take the
+// place.
 fn write<D: Disk, P: Portions>(
     disk: &mut D,
     names: &Names,
     same: u64,
     gathered: &mut Vec<u8>,
     bytes: &mut P,
+    hasher: &mut Sha256,
 ) -> Result<(), Unpublished>
     ensures done { D.Tells → OnOk result (D.done disk.new ≡ D.done disk.old ++ replaces
         (names_by names.now) (take same (D.held disk.old (names_by names.now).place)
         ++ (gathered.old.items ++ P.rest bytes.old))) }
+    ensures fed { OnOk result (FeedsHasher hasher.old hasher.new (P.rest bytes.old)) }
     ensures failed { D.Tells → OnErr result (IsStopped (names_by names.now)
         (take same (D.held disk.old (names_by names.now).place)
         ++ (gathered.old.items ++ P.rest bytes.old)) (D.done disk.old) (D.done disk.new)) }
 {
     let mut draft = begun(disk, names, same)?;
     disk.add(&mut draft, gathered)?;
-    while gather(bytes, gathered)? {
+    while gather_hashed(bytes, gathered, hasher)? {
         disk.add(&mut draft, gathered)?;
     }
     disk.keep(draft)?;

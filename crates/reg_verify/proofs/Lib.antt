@@ -2,5 +2,4 @@ mod Flaws
 mod Folders
 mod Named
 mod Nameless
-mod Portioned
 mod StrayFiles

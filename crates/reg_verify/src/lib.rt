@@ -5,7 +5,6 @@ mod files;
 pub mod flaw;
 pub mod folder;
 mod index;
-mod listing;
 pub mod part;
 mod registries;
 mod strays;

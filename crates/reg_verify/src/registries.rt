@@ -12,7 +12,6 @@ ghost use Rattle.reg_verify.specs.Verifying.{AddsBlocks, AddsName, AddsPage, Add
 use crate::files::{blocks_in, bytes_of, page_in, pool_in, told_in};
 use crate::flaw::{FolderFlaw, Unverified};
 use crate::folder::Reads;
-use crate::listing::gives_just;
 use crate::part::FolderPart;
 use reg_changes::change::{Class, Fact, Subject};
 use reg_changes::said::Said;
@@ -21,6 +20,7 @@ use reg_core::page::Page;
 use reg_core::text::Name;
 use reg_history::published::{add_blocks, add_page, add_prefixes};
 use reg_site::listing::RegistryCsv;
+use reg_source::comparing::gives_just;
 use std::alloc::Global;
 
 /// All that is published by the files of a folder, of which the registries are those that a history names.

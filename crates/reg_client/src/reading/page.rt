@@ -11,6 +11,7 @@ use reg_core::text::{Account, Name, Text};
 use reg_early::day::Day;
 use reg_early::day_reading::read_day;
 use reg_early::term::{Status, Term};
+use reg_print::comparing::behind;
 use reg_print::parts::front;
 use reg_ranges::policy::Treatment;
 use reg_ranges::range::Range;
@@ -27,20 +28,16 @@ pub(super) fn read(alloc: Global, name: &Name, body: &[u8]) -> Result<Page, Unpu
     ensures { IfOk result (λ page. page.name ≡ name.now) }
 {
     let mut scratch = Scratch::new(alloc);
-    let rest = behind(front(), body)?;
+    let rest = behind(front(), body).ok_or(Unpublished::Read)?;
     let (entries, rest) = read_entries(alloc, &mut scratch, rest)?;
-    let frame = object_of(alloc, behind(b"],", rest)?)?;
+    let rest = behind(b"],", rest).ok_or(Unpublished::Read)?;
+    let frame = object_of(alloc, rest)?;
     let mut members = Members::new(&mut scratch, &frame)?;
     Ok(Page {
         name: *name,
         table: read_table(alloc, name, &mut members)?,
         entries,
     })
-}
-
-// What stands behind these bytes.
-fn behind<'a>(front: &[u8], text: &'a [u8]) -> Result<&'a [u8], Unpublished> {
-    text.strip_prefix(front).ok_or(Unpublished::Read)
 }
 
 // The object whose text goes on so behind its bracket.

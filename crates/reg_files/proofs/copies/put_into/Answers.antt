@@ -4,12 +4,12 @@ use Rattle.reg_files.proofs.copies.put_into.Goals as goal
 
 pub returns-clause-copied : goal.returns-clause-copied
 returns-clause-copied g c =
-    told_put c.put_snapshot.result _ _ _ _ _ _
+    told_put c.put_look.result _ _ _ _ _ _
     (λ version requests is put. record {
       told = record {
         seen = c.requires;
         of_version = is.0;
-        counted = c.put_snapshot.new.snapshot;
+        counted = record c.args.snapshot.now { look = c.put_look.new.look };
         has_requests = is.1;
       };
       names = _;
@@ -18,11 +18,11 @@ returns-clause-copied g c =
       opened = c.in_ok-target.ensures;
       steps = put;
     })
-    c.put_snapshot.ensures.printed c.put_snapshot.ensures.put
+    c.put_look.ensures.printed (rw c.as_slice.ensures.value at c.put_look.ensures.put)
 
 pub returns-clause-failed : goal.returns-clause-failed
 returns-clause-failed g c =
-    left_open c.put_snapshot.result _ _ _
+    left_open c.put_look.result _ _ _
     (λ why left. inr record {
       names = _;
       first = _;
@@ -30,4 +30,4 @@ returns-clause-failed g c =
       opened = c.in_ok-target.ensures;
       steps = left;
     })
-    c.put_snapshot.ensures.failed
+    (rw c.as_slice.ensures.value at c.put_look.ensures.failed)

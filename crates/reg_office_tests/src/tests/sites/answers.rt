@@ -13,10 +13,11 @@ use reg_core::told::Told;
 use reg_keeper::keeper::Keeper;
 use reg_office::Office;
 use reg_print::answer::Format;
-use reg_print::comparing::is_page;
+use reg_site::tree::RegistryTree;
 use reg_source::bounded::read_up_to;
+use reg_source::comparing::gives_just;
 use reg_source::unpublished::Unpublished;
-use std::alloc::Global;
+use std::alloc::{AllocError, Global};
 use std::test::Fail;
 
 const BYTES: &[u8] = b"0123456789";
@@ -246,6 +247,11 @@ fn replaced(alloc: Global, body: &[u8], i: usize, bytes: &[u8]) -> Result<Vec<u8
     other.extend_from_slice(bytes)?;
     other.extend_from_slice(rest.get(1..).unwrap_or(b""))?;
     Ok(other)
+}
+
+// Whether these bytes are the text of a registry.
+fn is_page(alloc: Global, page: &Page, body: &[u8]) -> Result<bool, AllocError> {
+    gives_just(alloc, &mut RegistryTree::of(page), body)
 }
 
 // These bytes are the text of their registry, and none with a byte changed, left out or put in.

@@ -14,6 +14,7 @@ use reg_site::files::File;
 use reg_source::folder::{Folder, MOST_READ_BYTES};
 use reg_source::source::Source;
 use reg_source::unpublished::Unpublished;
+use sha2::{Digest, Sha256};
 use std::alloc::{AllocError, Global};
 use std::test::Fail;
 
@@ -110,18 +111,19 @@ impl Folder for Kept {
         Ok(Some(bytes.to_vec(alloc)?))
     }
 
-    fn publish<P: Portions>(&mut self, file: File, bytes: &mut P) -> Result<(), Unpublished> {
+    fn publish<P: Portions>(&mut self, file: File, bytes: &mut P) -> Result<[u8; 32], Unpublished> {
         if self.room == 0 {
             return Err(Unpublished::Write);
         }
         self.room -= 1;
         let path = file.path(self.alloc)?;
         let bytes = whole(self.alloc, bytes)?;
+        let hash = Sha256::digest(bytes.as_slice());
         match self.place_of(path.as_str()) {
             Some(place) if place < self.files.len() => self.files[place].bytes = bytes,
             _ => self.files.push(Placed { path, bytes })?,
         }
-        Ok(())
+        Ok(hash)
     }
 }
 

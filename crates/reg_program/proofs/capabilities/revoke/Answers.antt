@@ -1,17 +1,43 @@
-use Rattle.std.proofs.Common.{◌≡◌}
-use Rattle.reg_program.specs.Capabilities.{PrintsRevoked}
+use Rattle.std.proofs.Common.{◌≡◌, List, ℕ, refl}
+use Rattle.std.specs.Option.{option_map}
+use Rattle.std.specs.String.{string_bytes}
+use Rattle.reg_program.specs.Capabilities.{AsksRevocation, PrintsRevoked, PrintsRevokedOf}
 use Rattle.reg_program.specs.Performing.{Carries, IsTakenBy}
-use Rattle.reg_program.specs.Tasks.{streams_by}
+use Rattle.reg_program.specs.Requests.{IsAnsweredAt}
+use Rattle.reg_program.specs.Tasks.{streams, streams_by}
 use Rattle.reg_program.proofs.Carried.{file_tells}
+use Rattle.reg_program.proofs.Questions.{at_port, served_tells}
 use Rattle.reg_program.proofs.capabilities.revoke.Goals as goal
+
+pub returns-in-Some : goal.returns-in-Some
+returns-in-Some g c =
+    let Answered = g.O.Offices.Answered c.args.offices.now in
+    let source = c.args.source.now in
+    let Asks = AsksRevocation (option_map string_bytes c.args.token.now) c.args.which.now in
+    let console = c.args.console.now in
+    let unread = g.R.Read.remaining console.input.now in
+    let had = g.W.Write.contents console.output.now in
+    let has = g.W.Write.contents c.revoke_served.new.output in
+    let now = g.D.Dates.readings c.args.dates.now in
+    let io = streams console.is_watched unread unread had has now now in
+    let Of : List ℕ → Type 0 = λ bytes. PrintsRevokedOf bytes had has in
+    served_tells (c.args.offices.now ≡ c.args.offices.now) source
+    (PrintsRevoked (IsAnsweredAt Answered source Asks) had has)
+    (Carries (g.O.Offices.Carried c.args.offices.now c.args.offices.now) source
+    (IsTakenBy c.args.which.now) io)
+    c.revoke_served.result refl (rw c.in-Some.is at c.in_ok-port.ensures.served)
+    (at_port Answered source Asks c.in-Some.port Of c.revoke_served.result
+    (rw c.in-Some.is at c.in_ok-port.ensures.number) c.revoke_served.ensures)
 
 pub returns-in-None : goal.returns-in-None
 returns-in-None g c =
+    let Answered = g.O.Offices.Answered c.args.offices.now in
     let source = c.args.source.now in
+    let Asks = AsksRevocation (option_map string_bytes c.args.token.now) c.args.which.now in
     let io = streams_by g.R.Read.remaining g.W.Write.contents g.D.Dates.readings c.args.console.now
     c.revoke_in_file.new.console c.args.dates.now c.revoke_in_file.new.dates in
     file_tells (c.revoke_in_file.new.offices ≡ c.args.offices.now) source
-    (PrintsRevoked io.had io.has)
+    (PrintsRevoked (IsAnsweredAt Answered source Asks) io.had io.has)
     (Carries (g.O.Offices.Carried c.args.offices.now c.revoke_in_file.new.offices) source
     (IsTakenBy c.args.which.now) io)
     c.revoke_in_file.result (rw c.in-None.is at c.in_ok-port.ensures.served)

@@ -8,7 +8,7 @@ loop-place-preserved c =
     let text = c.args.text.now in
     let place = c.loop-place.place in
     let inside : place < length text = omega arith in
-    first_more front text place inside (at_place front text place None c.in_default.ensures)
+    first_more front text place inside (at_place front text place None c.in_default.ensures.value)
     ∙ c.loop-place.invariant
 
 pub returns-in-Some : goal.returns-in-Some
@@ -20,7 +20,7 @@ returns-in-Some c =
     let rest = c.in-Some.rest.now in
     sym
     (first_here front text rest place inside
-    (at_place front text place (Some rest) c.in-Some.ensures))
+    (at_place front text place (Some rest) c.in-Some.ensures.value))
     ∙ c.loop-place.invariant
 
 pub returns : goal.returns

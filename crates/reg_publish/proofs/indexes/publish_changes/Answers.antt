@@ -14,11 +14,11 @@ returns g c = λ records is.
     let Puts = g.F.Folder.Puts in
     let lines = apply_lines (option_copied c.args.notes) in
     let f = c.args.folder.now in
-    let f1 = c.put.new.folder in
-    let f2 = c.put-2.new.folder in
+    let f1 = c.put_bytes.new.folder in
+    let f2 = c.put_bytes-2.new.folder in
     let s = c.args.sums.now in
-    let s1 = c.put.new.sums in
-    let s2 = c.put-2.new.sums in
+    let s1 = c.put_bytes.new.sums in
+    let s2 = c.put_bytes-2.new.sums in
     let changes = c.in_ok-changes.ensures records is in
     let page = c.deref.ensures.value ∙ c.in_ok-html.ensures
     ∙ ap (changes_page lines) (ap (map shown) c.as_slice.ensures.value ∙ changes) in
@@ -32,4 +32,4 @@ returns g c = λ records is.
     let atom = one_file ChangesFeed c.deref-2.result.now in
     summed_as Puts f f2 s s2 (html ++ atom) _
     (λ i. one_file ChangesPage (page i) ++ one_file ChangesFeed (feed i))
-    (summed_both Puts f f1 f2 s s1 s2 html atom c.in_ok-put.ensures c.in_ok-put-2.ensures)
+    (summed_both Puts f f1 f2 s s1 s2 html atom c.in_ok-put_bytes.ensures c.in_ok-put_bytes-2.ensures)

@@ -11,11 +11,11 @@ pub returns : goal.returns
 returns g c = λ records is.
     let Puts = g.F.Folder.Puts in
     let f = c.args.folder.now in
-    let f1 = c.put.new.folder in
-    let f2 = c.put-2.new.folder in
+    let f1 = c.put_bytes.new.folder in
+    let f2 = c.put_bytes-2.new.folder in
     let s = c.args.sums.now in
-    let s1 = c.put.new.sums in
-    let s2 = c.put-2.new.sums in
+    let s1 = c.put_bytes.new.sums in
+    let s2 = c.put_bytes-2.new.sums in
     let page = c.deref.ensures.value ∙ c.in_ok-html.ensures in
     let now = c.as_str.ensures.value ∙ c.in_ok-now.ensures in
     let last = c.text_of.ensures
@@ -28,4 +28,4 @@ returns g c = λ records is.
     let json = one_file IndexTree c.deref-2.result.now in
     summed_as Puts f f2 s s2 (html ++ json) _
     (λ i. one_file Index (page i) ++ one_file IndexTree (tree i))
-    (summed_both Puts f f1 f2 s s1 s2 html json c.in_ok-put.ensures c.in_ok-put-2.ensures)
+    (summed_both Puts f f1 f2 s s1 s2 html json c.in_ok-put_bytes.ensures c.in_ok-put_bytes-2.ensures)

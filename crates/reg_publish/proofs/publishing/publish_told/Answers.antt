@@ -17,18 +17,18 @@ returns g c = λ records is.
     let prefixes = prefixes_of c.args.told.now.pool in
     let rows = blocks_of c.args.told.now.blocks in
     let f = c.args.folder.now in
-    let f1 = c.put.new.folder in
+    let f1 = c.put_bytes.new.folder in
     let f2 = c.publish_shown.new.folder in
     let f3 = c.publish_last.new.folder in
     let f4 = c.put_sums.new.folder in
     let s = c.new-sums.result in
-    let s1 = c.put.new.sums in
+    let s1 = c.put_bytes.new.sums in
     let s2 = c.publish_shown.new.sums in
     let s3 = c.publish_last.new.sums in
     let text = (chained records).text in
     let history = summed_as Puts f f1 s s1 (one_file Changes c.as_slice.result.now)
     (one_file Changes text) (ap (one_file Changes) (c.as_slice.ensures.value ∙ is.text))
-    c.in_ok-put.ensures in
+    c.in_ok-put_bytes.ensures in
     let shown = shown_files notes records digests pages prefixes rows in
     let steady = one_file Changes text ++ shown in
     let indexes = index_files notes digests (rows_by records pages) prefixes rows

@@ -12,13 +12,13 @@ returns g c =
     let Puts = g.F.Folder.Puts in
     let rows = c.args.blocks.now in
     let f = c.args.folder.now in
-    let f1 = c.put_portions.new.folder in
+    let f1 = c.put.new.folder in
     let f2 = c.put_block_listing.new.folder in
     let f3 = c.put_size.new.folder in
     let f4 = c.put_size-2.new.folder in
     let f5 = c.put_size-3.new.folder in
     let s = c.args.sums.now in
-    let s1 = c.put_portions.new.sums in
+    let s1 = c.put.new.sums in
     let s2 = c.put_block_listing.new.sums in
     let s3 = c.put_size.new.sums in
     let s4 = c.put_size-2.new.sums in
@@ -31,7 +31,7 @@ returns g c =
     summed_as Puts f f5 s s5 (html ++ (csv ++ (large ++ (medium ++ small)))) _
     (λ i. one_file BlocksPage (c.of-html.ensures i) ++ (csv ++ (large ++ (medium ++ small))))
     (summed_both Puts f f1 f5 s s1 s5 html (csv ++ (large ++ (medium ++ small)))
-    c.in_ok-put_portions.ensures
+    c.in_ok-put.ensures
     (summed_both Puts f1 f2 f5 s1 s2 s5 csv (large ++ (medium ++ small))
     c.in_ok-put_block_listing.ensures
     (summed_both Puts f2 f3 f5 s2 s3 s5 large (medium ++ small) c.in_ok-put_size.ensures

@@ -6,6 +6,6 @@ use Rattle.reg_publish.proofs.registries.put_records.Goals as goal
 
 pub returns : goal.returns
 returns g c =
-    summed_if g.F.Folder.Puts c.put_portions.result c.args.folder.now c.put_portions.new.folder
-    c.args.sums.now c.put_portions.new.sums _ _
-    (ap (one_file (RegistryRecords c.args.page.now.name)) c.in_ok-xml.ensures) c.put_portions.ensures
+    summed_if g.F.Folder.Puts c.put.result c.args.folder.now c.put.new.folder
+    c.args.sums.now c.put.new.sums _ _
+    (ap (one_file (RegistryRecords c.args.page.now.name)) c.in_ok-xml.ensures) c.put.ensures

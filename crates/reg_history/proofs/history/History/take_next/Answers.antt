@@ -37,7 +37,7 @@ returns-clause-wrong c = λ before is here.
       wrong_after c.args.self.now before is,
       other_line c.args.self.now before is c.wrong-wrong.ensures.counts c.args.records.now text here
           c.in-Some.next c.in_ok-line.line.items (rw c.in-Some.is at c.in_ok-next.ensures.reads) adds.line
-          (λ rest e. c.in-None.ensures rest (e ∙ ap (λ l. l ++ rest) (sym c.as_slice.ensures.value))),
+          (λ rest e. c.in-None.ensures.leaves rest (e ∙ ap (λ l. l ++ rest) (sym c.as_slice.ensures.value))),
     )
 
 pub returns-in-Some-behind-clause-takes : goal.returns-in-Some-behind-clause-takes
@@ -46,7 +46,7 @@ returns-in-Some-behind-clause-takes c = λ before is.
     let adds = c.in_ok-line.ensures.adds before is ordered in
     takes_record c.add.new.self before (record_of c.in-Some.next.moment c.in-Some.next.change)
     c.in_ok-line.line.items c.args.text.now c.in-Some-behind.rest.now adds
-    (c.in-Some-behind.ensures ∙ ap (λ l. l ++ c.in-Some-behind.rest.now) c.as_slice.ensures.value)
+    (c.in-Some-behind.ensures.leaves ∙ ap (λ l. l ++ c.in-Some-behind.rest.now) c.as_slice.ensures.value)
 
 pub returns-in-Some-behind-clause-goes_on : goal.returns-in-Some-behind-clause-goes_on
 returns-in-Some-behind-clause-goes_on c = λ before is here.
@@ -57,4 +57,4 @@ returns-in-Some-behind-clause-goes_on c = λ before is here.
     c.in_ok-next.ensures.goes_on c.args.text.now next rest here
     (row_of c.args.self.now before is c.wrong-wrong.ensures.counts c.args.records.now c.args.text.now here
     next rest
-    (c.in-Some-behind.ensures ∙ ap (λ l. l ++ rest) c.as_slice.ensures.value ∙ ap (λ l. l ++ rest) adds.line))
+    (c.in-Some-behind.ensures.leaves ∙ ap (λ l. l ++ rest) c.as_slice.ensures.value ∙ ap (λ l. l ++ rest) adds.line))

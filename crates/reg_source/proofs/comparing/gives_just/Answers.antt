@@ -1,6 +1,6 @@
 use Rattle.std.proofs.Common.{◌++◌, true≢false, sym, ap, ◌∙◌}
-use Rattle.reg_verify.proofs.Portioned.{gives_next, same_front-more, same_front-other}
-use Rattle.reg_verify.proofs.listing.gives_just.Goals as goal
+use Rattle.reg_source.proofs.Portioned.{gives_next, same_front-more, same_front-other}
+use Rattle.reg_source.proofs.comparing.gives_just.Goals as goal
 
 pub loop-portion-preserved : goal.loop-portion-preserved
 loop-portion-preserved g c =
@@ -10,7 +10,7 @@ loop-portion-preserved g c =
     (rest c.loop-portion.printer) left c.if-branch.true c.in_ok-next_portion.ensures in
     same_front-more c.args.bytes.now c.loop-portion.rest.now c.in-Some.more.now
     (rest c.args.printer.now) (rest c.loop-portion.printer) left c.as_slice.result.now
-    c.loop-portion.invariant c.in-Some.ensures
+    c.loop-portion.invariant c.in-Some.ensures.leaves
     (ap (λ p. p ++ left) c.as_slice.ensures.value ∙ sym next)
 
 pub returns-in_default : goal.returns-in_default
@@ -23,5 +23,5 @@ returns-in_default g c =
       λ same. absurd
           (same_front-other c.args.bytes.now c.loop-portion.rest.now (rest c.args.printer.now)
           (rest c.loop-portion.printer) left c.as_slice.result.now c.loop-portion.invariant
-          c.in_default.ensures (ap (λ p. p ++ left) c.as_slice.ensures.value ∙ sym next) same),
+          c.in_default.ensures.leaves (ap (λ p. p ++ left) c.as_slice.ensures.value ∙ sym next) same),
     )

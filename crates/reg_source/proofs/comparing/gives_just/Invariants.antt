@@ -1,6 +1,6 @@
 use Rattle.std.proofs.Common.{length}
-use Rattle.reg_verify.proofs.Portioned.{IsSameFront}
-use Rattle.reg_verify.proofs.listing.gives_just.Given as goal
+use Rattle.reg_source.proofs.Portioned.{IsSameFront}
+use Rattle.reg_source.proofs.comparing.gives_just.Given as goal
 
 abbrev pub invariant-loop-portion : goal.invariant-loop-portion
 invariant-loop-portion g l =

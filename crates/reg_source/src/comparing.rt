@@ -1,14 +1,14 @@
 //! Bytes that are compared with those that a printer gives.
 ghost use Rattle.std.specs.Prelude.{◌≡◌, ◌↔◌, [], IfOk, IsTrue};
-ghost use Rattle.reg_print.specs.Comparing.{Leaves};
 ghost use Rattle.reg_pages.specs.Portions.{GivesIfMore};
 
 use reg_pages::portions::Portions;
+use reg_print::comparing::behind;
 use std::alloc::{AllocError, Global};
 
 /// Whether a printer gives just these bytes, which are compared a portion at a time. Only want of memory
 /// is an error.
-pub(crate) fn gives_just<P: Portions>(
+pub fn gives_just<P: Portions>(
     alloc: Global,
     printer: &mut P,
     bytes: &[u8],
@@ -33,11 +33,4 @@ fn next_portion<P: Portions>(printer: &mut P, portion: &mut Vec<u8>) -> Result<b
 {
     portion.clear();
     printer.push_next(portion)
-}
-
-// What is left of a text behind this front, where it begins with it.
-fn behind<'a>(front: &[u8], text: &'a [u8]) -> Option<&'a [u8]>
-    ensures { Leaves front.now text.now result }
-{
-    text.strip_prefix(front)
 }
