@@ -24,3 +24,10 @@ loop-reader-preserved g c =
           (rest c.args.bytes.now) (rest c.loop-reader.bytes) (rest c.gather_hashed.new.bytes)
           c.loop-reader.invariant.fed c.in_ok-gather_hashed.ensures.fed;
     }
+
+pub returns-then-not-goes_on-clause-fed : goal.returns-then-not-goes_on-clause-fed
+returns-then-not-goes_on-clause-fed g c =
+    let rest = g.P.Portions.rest in
+    taken_more c.args.hasher.now c.loop-reader.hasher c.gather_hashed.new.hasher
+    (rest c.args.bytes.now) (rest c.loop-reader.bytes) (rest c.gather_hashed.new.bytes)
+    c.loop-reader.invariant.fed c.in_ok-gather_hashed.ensures.fed
