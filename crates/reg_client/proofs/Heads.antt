@@ -1,49 +1,12 @@
 -- Answers of an office, put together from the parts that were read.
-use Rattle.std.proofs.Common.{◌≡◌, ◌+◌, ◌/◌, ◌%◌, ◌<◌, ◌≤◌, ◌++◌, ◌∙◌, ℕ, List, codes, length, drop, take, refl, ap, append_assoc, arith}
-use Rattle.std.proofs.lemmas.Bool.Decides.{nat_tests}
-use Rattle.std.specs.List.{slice_range}
-use Rattle.http.specs.StatusCode.{IsStatusCode, code_digits}
+use Rattle.std.proofs.Common.{◌≡◌, ◌++◌, ◌∙◌, ℕ, List, codes, length, ap, append_assoc}
 use Rattle.std.specs.Prelude.{Some}
 use Rattle.std.specs.Fmt.{decimal}
-use Rattle.reg_wire.specs.Response.{field_line, head_text, line_end, media_type, reason, status_line}
-use Rattle.reg_wire.proofs.StatusDigits.{decimal_code}
+use Rattle.reg_wire.specs.Response.{field_line, head_text, line_end, media_type, status_line}
 use Rattle.reg_print.specs.declared.answer.Format.{Format}
 use Rattle.reg_ranges.specs.Numbers.{read_number}
 use Rattle.reg_ranges.proofs.Numerals.{reads_decimals}
 use Rattle.reg_client.specs.Answers.{answer_text, end_of_head}
-
--- ---- Statuses
-
--- a status that an office gives has three digits
-given_code : (n : ℕ) → 0 < length (reason n) → IsStatusCode n
-given_code n h = grind (arith, nat_tests)
-
--- which tell it
-same_code : (m n : ℕ) → code_digits m ≡ code_digits n → m ≡ n
-same_code m n e =
-    let first : 48 + m / 100 ≡ 48 + n / 100 = cc in
-    let second : 48 + m / 10 % 10 ≡ 48 + n / 10 % 10 = cc in
-    let third : 48 + m % 10 ≡ 48 + n % 10 = cc in
-    let of_m : m / 10 / 10 ≡ m / 100 = omega arith in
-    let of_n : n / 10 / 10 ≡ n / 100 = omega arith in
-    omega arith
-
--- and stand in the first line
-digits_there : (n : ℕ) (rest : List ℕ) → IsStatusCode n
-    → take 3 (drop 9 (status_line n ++ rest)) ≡ code_digits n
-digits_there n rest code = rw (decimal_code n code) refl
-
-pub long_enough : (n : ℕ) (rest : List ℕ) → 0 < length (reason n)
-    → 12 ≤ length (status_line n ++ rest)
-long_enough n rest given = rw (decimal_code n (given_code n given)) (omega arith)
-
--- the bytes from the ninth on are those digits
-pub code_there : (n : ℕ) (rest answer : List ℕ) → 0 < length (reason n)
-    → answer ≡ status_line n ++ rest → slice_range answer 9 12 ≡ code_digits n
-code_there n rest answer given is =
-    ap (λ t. take 3 (drop 9 t)) is ∙ digits_there n rest (given_code n given)
-
--- ---- What was read, put together
 
 regroup : (a b c d : List ℕ) → a ++ (b ++ (c ++ d)) ≡ ((a ++ b) ++ c) ++ d
 regroup a b c d = simp append_assoc

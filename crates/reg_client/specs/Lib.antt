@@ -1,4 +1,3 @@
-pub mod Answered
 pub mod Answers
 pub mod Reading
 pub mod Allocation
