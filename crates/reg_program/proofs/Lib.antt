@@ -3,6 +3,7 @@ mod Asked
 pub mod Carried
 pub mod Checked
 pub mod Did
+mod Flushed
 pub mod Founded
 pub mod Gotten
 pub mod InMemory

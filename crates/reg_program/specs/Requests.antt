@@ -53,11 +53,11 @@ pub record IsDefinition (order : OfRegistry) (request : JobRequest) : Type 0 whe
       ≡ definition_at (string_bytes order.name) (string_bytes order.max)
 
 -- it has no body, and just these other parts
-pub record IsBodiless (token : Option (List ℕ)) (method path : List ℕ) (request : JobRequest) : Type 0
+pub record IsBodiless (known : Option (List ℕ)) (word place : List ℕ) (request : JobRequest) : Type 0
   where
-    pub token : token_bytes request ≡ token
-    pub method : string_bytes request.method ≡ method
-    pub path : string_bytes request.path ≡ path
+    pub token : token_bytes request ≡ known
+    pub method : string_bytes request.method ≡ word
+    pub path : string_bytes request.path ≡ place
     pub body : request.body.items ≡ []
 
 -- the same of the token that a word says

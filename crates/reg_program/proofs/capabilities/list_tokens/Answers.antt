@@ -20,7 +20,7 @@ returns-in-Some g c =
     let had = g.W.Write.contents console.output.now in
     let has = g.W.Write.contents c.list_served.new.output in
     let now = g.D.Dates.readings c.args.dates.now in
-    let io = streams console.is_watched unread unread had has now now in
+    let io = streams unread unread had has now now in
     let Of : List ℕ → Type 0 = λ bytes. PrintsListedOf bytes had has in
     served_tells (c.args.offices.now ≡ c.args.offices.now) source
     (PrintsListed (IsAnsweredAt Answered source Asks) had has)

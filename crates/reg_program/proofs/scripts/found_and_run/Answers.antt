@@ -15,17 +15,19 @@ returns-in_err-found-clause-err g c =
       refl,
     ))
 
-pub returns-in_err-run-clause-err : goal.returns-in_err-run-clause-err
-returns-in_err-run-clause-err g c =
+pub returns-in_err-run_flushed-clause-err : goal.returns-in_err-run_flushed-clause-err
+returns-in_err-run_flushed-clause-err g c =
     let given = c.in_ok-found.ensures in
-    let p = err_from_is_err_and c.from_residual-in_err-run.result c.from_residual-in_err-run.ensures.1 in
+    let p =
+    err_from_is_err_and c.from_residual-in_err-run_flushed.result
+    c.from_residual-in_err-run_flushed.ensures.1 in
     rw (p.1, p.2)
     (inr (
-      c.in_err-run.field-0.0,
+      c.in_err-run_flushed.field-0.0,
       refl,
       c.found.new.self,
       record { founded = given.founded; premise = given.premise },
-      c.in_err-run.ensures.err,
+      c.in_err-run_flushed.ensures.err,
     ))
 
 pub returns-clause-ok : goal.returns-clause-ok
@@ -34,5 +36,5 @@ returns-clause-ok g c =
     record {
       office = c.found.new.self;
       founds = record { founded = given.founded; premise = given.premise };
-      answers = c.in_ok-run.ensures.ok;
+      answers = c.in_ok-run_flushed.ensures.ok;
     }
