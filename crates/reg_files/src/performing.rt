@@ -20,11 +20,31 @@ pub fn perform<R: Read, W: Write, E: Write>(
 ) -> u8
     ensures status { (result ≡ 0) ⊎ (result ≡ 1) }
 {
-    let mut dates = ClockDates { clock: rt };
-    let mut console = Console {
+    let mut console = console_of(input, output, errors);
+    perform_at(rt, job, &mut console)
+}
+
+// A console of these.
+fn console_of<'a, R: Read, W: Write, E: Write>(
+    input: &'a mut R,
+    output: &'a mut W,
+    errors: &'a mut E,
+) -> Console<'a, R, W, E> {
+    Console {
         input,
         output,
         errors,
-    };
-    performing::perform(rt, &mut dates, &mut Files, &FileCopies, job, &mut console)
+    }
+}
+
+// The same at a console.
+fn perform_at<R: Read, W: Write, E: Write>(
+    rt: &HostRuntime,
+    job: Job,
+    console: &mut Console<'_, R, W, E>,
+) -> u8
+    ensures status { (result ≡ 0) ⊎ (result ≡ 1) }
+{
+    let mut dates = ClockDates { clock: rt };
+    performing::perform(rt, &mut dates, &mut Files, &FileCopies, job, console)
 }
