@@ -75,7 +75,9 @@ def request_of(client):
 
 
 def met(case, words, answer, run=None, is_endless=False):
-    """What the program sends to a peer that gives this answer, or gives it without end, at PORT of its words, and what the program gives."""
+    """What the program sends to a peer that gives this answer, or gives it without end, at PORT of its words, and what the program gives. It
+    asks the peer once, whatever the answer is.
+    """
     run = run or case.run
 
     def meet(held):
@@ -91,7 +93,12 @@ def met(case, words, answer, run=None, is_endless=False):
 
     with listener() as held, ThreadPoolExecutor(1) as peers:
         meeting = peers.submit(meet, held)
-        return run(words.replace('PORT', str(held.getsockname()[1]))), meeting.result()
+        told, heard = run(words.replace('PORT', str(held.getsockname()[1]))), meeting.result()
+        held.setblocking(False)
+        with contextlib.suppress(BlockingIOError):
+            held.accept()[0].close()
+            raise Differs(f'{words}: the peer is asked once more')
+        return told, heard
 
 
 def is_misled(case, words, given, wanted):
