@@ -2,20 +2,20 @@
 use reg_source::disk::{Disk, SystemDisk};
 use reg_source::modes::{OWNER_ALONE, create_file};
 use reg_source::unpublished::{Unpublished, unwritten};
-use std::fs;
+use std::fs::{File, Files};
 
-/// The file system. Nothing is known of it.
+/// The file system of a machine. Nothing is known of it.
 #[derive(Drop)]
-pub struct PrivateDisk<'a> {
-    rt: &'a HostRuntime,
-    disk: SystemDisk<'a, HostRuntime>,
+pub struct PrivateDisk<'a, H> {
+    rt: &'a H,
+    disk: SystemDisk<'a, H>,
     /// A folder, which is locked until this is dropped.
-    lock: fs::File,
+    lock: File,
 }
 
-impl<'a> PrivateDisk<'a> {
+impl<'a, H: Files> PrivateDisk<'a, H> {
     /// That of a runtime, where a folder is locked.
-    pub fn of(rt: &'a HostRuntime, lock: fs::File) -> Self {
+    pub fn of(rt: &'a H, lock: File) -> Self {
         PrivateDisk {
             rt,
             disk: SystemDisk { rt },
@@ -24,28 +24,28 @@ impl<'a> PrivateDisk<'a> {
     }
 }
 
-impl Disk for PrivateDisk<'_> {
-    type Reader = fs::File;
+impl<H: Files> Disk for PrivateDisk<'_, H> {
+    type Reader = H::File;
 
-    type Draft = fs::File;
+    type Draft = H::File;
 
-    fn open(&self, name: &str) -> Option<fs::File> {
+    fn open(&self, name: &str) -> Option<H::File> {
         self.disk.open(name)
     }
 
-    fn find(&self, name: &str) -> Result<Option<fs::File>, Unpublished> {
+    fn find(&self, name: &str) -> Result<Option<H::File>, Unpublished> {
         self.disk.find(name)
     }
 
-    fn create(&mut self, name: &str) -> Result<fs::File, Unpublished> {
+    fn create(&mut self, name: &str) -> Result<H::File, Unpublished> {
         create_file(self.rt, name, OWNER_ALONE).map_err(unwritten)
     }
 
-    fn add(&self, draft: &mut fs::File, bytes: &[u8]) -> Result<(), Unpublished> {
+    fn add(&self, draft: &mut H::File, bytes: &[u8]) -> Result<(), Unpublished> {
         self.disk.add(draft, bytes)
     }
 
-    fn keep(&mut self, draft: fs::File) -> Result<(), Unpublished> {
+    fn keep(&mut self, draft: H::File) -> Result<(), Unpublished> {
         self.disk.keep(draft)
     }
 

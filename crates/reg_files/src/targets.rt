@@ -59,11 +59,11 @@ pub struct SystemPlaces<'a> {
 }
 
 impl<'a> Targets for SystemPlaces<'a> {
-    type Given = PrivateDisk<'a>;
+    type Given = PrivateDisk<'a, HostRuntime>;
 
     ghost Opened = { λ _ _ folder names _. AreNamesIn folder names };
 
-    fn open(&self, path: &str, folder: &str) -> Result<Target<PrivateDisk<'a>>, Undone> {
+    fn open(&self, path: &str, folder: &str) -> Result<Target<PrivateDisk<'a, HostRuntime>>, Undone> {
         target_of(self.rt, path, folder)
     }
 }
@@ -73,7 +73,7 @@ fn target_of<'a>(
     rt: &'a HostRuntime,
     path: &str,
     folder: &str,
-) -> Result<Target<PrivateDisk<'a>>, Undone>
+) -> Result<Target<PrivateDisk<'a, HostRuntime>>, Undone>
     ensures { IfOk result (λ target. AreNamesIn folder.now (names_by target.names)) }
 {
     let alloc = rt.alloc();

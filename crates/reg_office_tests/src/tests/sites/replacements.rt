@@ -54,7 +54,8 @@ fn publish(rt: &HostRuntime, folder: &str, bytes: &[u8]) -> Result<(), Unpublish
     let Some(name) = Name::read(b"a") else {
         return Err(Unpublished::Read);
     };
-    directory.publish(File::RegistryCsv(name), &mut Whole::of(bytes))
+    directory.publish(File::RegistryCsv(name), &mut Whole::of(bytes))?;
+    Ok(())
 }
 
 // The file has these bytes.

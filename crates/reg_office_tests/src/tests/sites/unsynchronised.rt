@@ -1,10 +1,13 @@
-//! Files that are published where the system cannot synchronise them, or their folder.
+//! Files that are published, and copies that are put, where the system cannot synchronise them, or their folder.
 use crate::tests::facts::ensure;
 use crate::tests::folders::folder_for;
+use reg_files::private_disk::PrivateDisk;
 use reg_pages::portions::Whole;
 use reg_site::files::File;
 use reg_source::directory::Directory;
 use reg_source::folder::Folder;
+use reg_source::lock::locked;
+use reg_source::replacement::{Names, replace};
 use reg_source::unpublished::Unpublished;
 use std::alloc::{Allocator, Global};
 use std::fs::{Files, Metadata, OpenFile, OpenOptions, Permissions};
@@ -126,14 +129,28 @@ impl Files for Unkept<'_> {
 // How a file is published there.
 fn publish<H: Files>(rt: &H, alloc: Global, folder: &str, bytes: &[u8]) -> Result<(), Unpublished> {
     let mut directory = Directory::open(rt, alloc, folder)?;
-    directory.publish(File::Index, &mut Whole::of(bytes))
+    directory.publish(File::Index, &mut Whole::of(bytes))?;
+    Ok(())
 }
 
-// The first page has these bytes.
-fn assert_there(rt: &HostRuntime, folder: &str, bytes: &[u8]) -> Result<(), Fail> {
-    let place = format!(in rt.alloc(); "{folder}/index.html")?;
+// How a copy takes its place there.
+fn put<H: Files>(
+    host: &HostRuntime,
+    rt: &H,
+    folder: &str,
+    bytes: &[u8],
+) -> Result<(), Unpublished> {
+    let alloc = host.alloc();
+    let names = Names::within(alloc, folder, "o.db")?;
+    let mut disk = PrivateDisk::of(rt, locked(host, alloc, folder)?);
+    replace(&mut disk, alloc, &names, &mut Whole::of(bytes))
+}
+
+// The file of this name has these bytes.
+fn assert_there(rt: &HostRuntime, folder: &str, name: &str, bytes: &[u8]) -> Result<(), Fail> {
+    let place = format!(in rt.alloc(); "{folder}/{name}")?;
     let there = fs::read(rt, place.as_str())?;
-    ensure(there.as_slice() == bytes, "the first page")
+    ensure(there.as_slice() == bytes, name)
 }
 
 #[test]
@@ -147,13 +164,36 @@ fn files_that_are_not_synchronised(rt: HostRuntime) -> Result<(), Fail> {
     };
     let refused = publish(&files, alloc, folder, b"two");
     ensure(refused == Err(Unpublished::Write), "a file is not kept")?;
-    assert_there(&rt, folder, b"one")?;
+    assert_there(&rt, folder, "index.html", b"one")?;
     let folders = Unkept {
         rt: &rt,
         folders: true,
     };
     let refused = publish(&folders, alloc, folder, b"two");
     ensure(refused == Err(Unpublished::Write), "a folder is not kept")?;
-    assert_there(&rt, folder, b"two")?;
+    assert_there(&rt, folder, "index.html", b"two")?;
+    Ok(fs::remove_dir_all(&rt, folder)?)
+}
+
+#[test]
+fn copies_that_are_not_synchronised(rt: HostRuntime) -> Result<(), Fail> {
+    let folder = folder_for(&rt, "unsynchronised_copies")?;
+    let folder = folder.as_str();
+    fs::create_dir_all(&rt, folder)?;
+    ensure(put(&rt, &rt, folder, b"one") == Ok(()), "put")?;
+    let files = Unkept {
+        rt: &rt,
+        folders: false,
+    };
+    let refused = put(&rt, &files, folder, b"two");
+    ensure(refused == Err(Unpublished::Write), "a copy is not kept")?;
+    assert_there(&rt, folder, "o.db", b"one")?;
+    let folders = Unkept {
+        rt: &rt,
+        folders: true,
+    };
+    let refused = put(&rt, &folders, folder, b"two");
+    ensure(refused == Err(Unpublished::Write), "a folder is not kept")?;
+    assert_there(&rt, folder, "o.db", b"two")?;
     Ok(fs::remove_dir_all(&rt, folder)?)
 }
