@@ -4,3 +4,4 @@ pub mod Asked
 mod DueEntries
 pub mod Growing
 pub mod Ordered
+pub mod Servers

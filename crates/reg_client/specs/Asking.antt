@@ -2,11 +2,14 @@
 use Rattle.std.specs.Prelude.{◌≡◌, ℕ, List, [], ◌++◌, Option, Some, None}
 use Rattle.std.specs.List.{flat_map}
 use Rattle.reg_core.specs.View.{Published}
+use Rattle.reg_core.specs.declared.command.PublicCommand.{PublicCommand}
 use Rattle.reg_core.specs.declared.command.PublicCommand.TheVariants.{Registries, Registry}
 use Rattle.reg_core.specs.declared.page.Page.{Page}
 use Rattle.reg_core.specs.declared.told.Told.{Told}
 use Rattle.reg_core.specs.declared.told.Told.TheVariants as tells
+use Rattle.reg_core.specs.declared.reply.Reply.TheVariants.{Accepted}
 use Rattle.reg_site.specs.Site.{names_in, page_in, told_to_all}
+use Rattle.reg_source.specs.Source.{AsksEach}
 use Rattle.reg_client.specs.Allocation.{due_on}
 use Rattle.reg_client.specs.declared.allocation.DueAllocation.{DueAllocation}
 
@@ -34,3 +37,23 @@ pub record AppendsTold (today days : ℕ) (told : Told) (old new : List DueAlloc
   pub page : Page
   pub told_page : told ≡ tells.Page page
   pub appended : new ≡ old ++ due_on today days page
+
+-- what is due of what was told
+abbrev pub due_among : ℕ → ℕ → List Told → List DueAllocation
+due_among today days tolds = flat_map (λ told. due_told today days (page_in (Accepted told))) tolds
+
+-- a source was asked for the registries of these names, each once, and just this is due of what it told
+pub record FindsDue {S : Type 0} (Asked : S → S → PublicCommand → Told → Type 0) (source source' : S)
+    (names : List (List ℕ)) (today days : ℕ) (due : List DueAllocation) : Type 0 where
+  pub tolds : List Told
+  pub each : AsksEach Asked source source' names tolds
+  pub found : due ≡ due_among today days tolds
+
+-- A source was asked for the names of its registries, and then for each of them once; and just this is due
+-- of what it told.
+pub record AsksDue {S : Type 0} (Asked : S → S → PublicCommand → Told → Type 0) (source source' : S)
+    (today days : ℕ) (due : List DueAllocation) : Type 0 where
+  pub names : List (List ℕ)
+  pub next : S
+  pub named : Asked source next Registries (tells.Names names)
+  pub finds : FindsDue Asked next source' names today days due

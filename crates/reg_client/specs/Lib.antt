@@ -1,5 +1,6 @@
 pub mod Answers
 pub mod Reading
+pub mod Server
 pub mod Allocation
 pub mod Asking
 pub mod Laws

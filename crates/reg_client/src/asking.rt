@@ -1,6 +1,6 @@
 //! What is due of what an office tells anybody.
 ghost use Rattle.std.specs.Prelude.{◌≡◌, IfOk, OnOk};
-ghost use Rattle.reg_client.specs.Asking.{AppendsTold, due_by, due_of};
+ghost use Rattle.reg_client.specs.Asking.{AppendsTold, AsksDue, FindsDue, due_by, due_of};
 ghost use Rattle.reg_source.specs.Source.{Asks};
 
 use crate::allocation::{DueAllocation, push_due};
@@ -22,8 +22,10 @@ pub fn due_in<S: Source>(
     today: Day,
     days: u32,
 ) -> Result<Vec<DueAllocation>, Unpublished>
-    ensures { IfOk result (λ due. Asks S.published S.Holds source.old source.new
+    ensures told { IfOk result (λ due. Asks S.published S.Holds source.old source.new
         (λ p. due.items ≡ due_by p moment today days)) }
+    ensures asked { IfOk result
+        (λ due. AsksDue S.Asked source.old source.new today days due.items) }
 {
     let names = source.ask(moment, &PublicCommand::Registries)?;
     due_of(alloc, source, moment, names_in(&names)?, today, days)
@@ -38,8 +40,10 @@ fn due_of<S: Source>(
     today: Day,
     days: u32,
 ) -> Result<Vec<DueAllocation>, Unpublished>
-    ensures { IfOk result (λ due. Asks S.published S.Holds source.old source.new
+    ensures told { IfOk result (λ due. Asks S.published S.Holds source.old source.new
         (λ p. due.items ≡ due_of p moment today days names.now)) }
+    ensures asked { IfOk result
+        (λ due. FindsDue S.Asked source.old source.new names.now today days due.items) }
 {
     let mut due = Vec::new(alloc);
     for name in names {

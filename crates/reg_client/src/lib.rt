@@ -8,5 +8,6 @@ pub mod asking;
 pub mod laws;
 pub mod peer;
 pub mod reading;
+pub mod server;
 pub mod table;
 mod timed;

@@ -5,9 +5,11 @@ ghost use Rattle.std.specs.String.{string_bytes};
 ghost use Rattle.reg_core.specs.View.{published as shown};
 ghost use Rattle.reg_core.specs.World.{empty_world};
 ghost use Rattle.reg_client.specs.Reading.{asking_text, format_of, path_of};
+ghost use Rattle.reg_client.specs.Server.{AsksServer, SendsAtMost, TellsCommand};
 
 use crate::answers::{body_of, read_answer};
 use crate::reading::told_of;
+use crate::server::Server;
 use crate::timed::{Timed, left};
 use http::Method;
 use reg_core::command::PublicCommand;
@@ -24,41 +26,56 @@ use std::time::{Clock, Duration};
 /// How many seconds an office that is served has for each answer.
 pub const PATIENCE_SECONDS: u64 = 10;
 
-/// An office that is served over HTTP on a port of loopback.
+/// An office that is served, as a source: the bytes of a request are sent to what answers them.
 #[derive(Drop)]
-pub struct Peer<'a, H> {
-    rt: &'a H,
-    port: u16,
+pub struct Peer<V> {
+    alloc: Global,
+    server: V,
 }
 
-impl<'a, H> Peer<'a, H> {
-    /// The office that is served on this port.
-    pub fn new(rt: &'a H, port: u16) -> Self {
-        Peer { rt, port }
+impl<V: Server> Peer<V> {
+    /// The office that answers there.
+    pub fn new(alloc: Global, server: V) -> Self
+        ensures { result.server ≡ server }
+    {
+        Peer { alloc, server }
     }
 }
 
-impl<H: AllocGlobal + Clock + Net<Listener = TcpListener, Stream = TcpStream>> Source
-    for Peer<'_, H> {
+impl<V: Server> Source for Peer<V> {
     ghost published = { λ _. shown empty_world };
 
     ghost Holds = { λ _. ⊥ };
 
+    ghost Asked = { λ old new. AsksServer V.Tells V.sent V.Answered old.server new.server };
+
     fn ask(&mut self, _moment: u64, command: &PublicCommand) -> Result<Told, Unpublished> {
-        ask_served(self.rt, self.port, command)
+        ask_server(self.alloc, &mut self.server, command)
     }
 }
 
-// What is told by the office that is served on this port.
-fn ask_served<H: AllocGlobal + Clock + Net<Listener = TcpListener, Stream = TcpStream>>(
-    rt: &H,
-    port: u16,
+/// What is told by the office that answers there. `Read` where its answer is none to this command. The
+/// request is sent at most once, whatever becomes of it.
+pub fn ask_server<V: Server>(
+    alloc: Global,
+    server: &mut V,
     command: &PublicCommand,
-) -> Result<Told, Unpublished> {
-    let alloc = rt.alloc();
+) -> Result<Told, Unpublished>
+    ensures asked { IfOk result
+        (AsksServer V.Tells V.sent V.Answered server.old server.new command.now) }
+    ensures at_most { V.Tells
+        → SendsAtMost (asking_text command.now) (V.sent server.old) (V.sent server.new) }
+{
     let request = request(alloc, command)?;
-    let answer = exchange(rt, port, request.as_bytes())?;
-    match body_of(format_of(command), answer.as_slice()) {
+    let answer = server.exchange(request.as_bytes())?;
+    told_in(alloc, command, answer.as_slice())
+}
+
+// What the bytes of an answer to a command tell.
+fn told_in(alloc: Global, command: &PublicCommand, answer: &[u8]) -> Result<Told, Unpublished>
+    ensures { IfOk result (TellsCommand command.now answer.now) }
+{
+    match body_of(format_of(command), answer) {
         Some(body) => told_of(alloc, command, body),
         None => Err(Unpublished::Read),
     }

@@ -3,6 +3,7 @@ mod Asked
 pub mod Carried
 pub mod Checked
 pub mod Did
+mod DueServed
 mod Flushed
 pub mod Founded
 pub mod Gotten
@@ -11,4 +12,5 @@ pub mod Listed
 pub mod Questions
 pub mod Results
 pub mod Revoked
+mod SiteServed
 pub mod Taken

@@ -23,14 +23,15 @@ use Rattle.reg_core.specs.declared.journal.Act.{Act}
 use Rattle.reg_program.specs.Asking.{definition_at, listing_at}
 use Rattle.reg_program.specs.Capabilities.{AsksRevocation, AsksTokens, PrintsListed, PrintsRevoked}
 use Rattle.reg_program.specs.Copying.{PrintsCopied}
-use Rattle.reg_program.specs.Expiring.{PrintsTable}
+use Rattle.reg_program.specs.Expiring.{PrintsServedDue}
 use Rattle.reg_program.specs.Founding.{RunsAll}
 use Rattle.reg_program.specs.Importing.{IsImported}
 use Rattle.reg_program.specs.Inputs.{AreKnown, IsTokenOf, body_in, token_in}
 use Rattle.reg_program.specs.Journal.{TellsActs}
+use Rattle.reg_program.specs.Publishing.{IsPortOf}
 use Rattle.reg_program.specs.Requests.{IsAnsweredAt, IsDefinition, IsListing, IsWorded}
 use Rattle.reg_program.specs.Served.{PrintsAnswer}
-use Rattle.reg_program.specs.Tasks.{Streams}
+use Rattle.reg_program.specs.Tasks.{IsMoment, Streams}
 use Rattle.reg_program.specs.Verifying.{IsVerifiedBy}
 use Rattle.reg_program.specs.Version.{version_line}
 use Rattle.reg_program.specs.declared.asking.AnswerForm.{AnswerForm}
@@ -214,10 +215,17 @@ PublishesFrom order Carried Untouched io done =
     × ((IsAddress (string_bytes order.source) → ⊥)
     → Carries Carried (string_bytes order.source) Is io done)
 
+-- just what is due is printed of what the office at an address tells, at the moment that the clock said
+abbrev pub PrintsDueAt : ToldOfServed → List ℕ → ℕ → Streams → Type 0
+PrintsDueAt Answered source days io =
+    (port : ℕ) × IsPortOf source port × (moment : ℕ) × IsMoment io moment
+    × PrintsServedDue (Answered port) moment days io.had io.has
+
 -- what is due is printed
-abbrev pub TellsDue : List ℕ → ℕ → ToldOfTasks → Type 0 → Streams → Result ⊤ Undone → Type 0
-TellsDue source days Carried Untouched io done =
-    TellsFrom Untouched source (PrintsTable io.had io.has)
+abbrev pub TellsDue : ToldOfServed → List ℕ → ℕ → ToldOfTasks → Type 0 → Streams → Result ⊤ Undone
+    → Type 0
+TellsDue Answered source days Carried Untouched io done =
+    TellsFrom Untouched source (PrintsDueAt Answered source days io)
     (Carries Carried source (λ task. task ≡ Due days) io) done
 
 -- all capabilities are printed, with the token that a word says where the office is served
@@ -260,7 +268,7 @@ module _ (Carried : ToldOfTasks) (Checked : List ℕ → Streams → Result ⊤ 
   DoesJob io (job.Verify folder digest) done =
       Untouched × IsVerifiedBy (option_map string_bytes digest) io.had io.has done
   DoesJob io (job.Due source within) done =
-      TellsDue (string_bytes source) within Carried Untouched io done
+      TellsDue Answered (string_bytes source) within Carried Untouched io done
   DoesJob io (job.Check file) done = Checked (string_bytes file) io done
   DoesJob io (job.Copy file folder) done =
       Untouched

@@ -16,7 +16,7 @@ use crate::importing::import;
 use crate::inputs::token_of;
 use crate::listening::Serving;
 use crate::noting::notes_at;
-use crate::publishing::{port_of, publish_served};
+use crate::publishing::{Directories, port_of, publish_served};
 use crate::requesting::ask;
 use crate::requests::JobQuestion;
 use crate::scripts::run_in;
@@ -235,7 +235,10 @@ fn publish_at<D: Dates, O: Offices, R: Read, W: Write, E: Write>(
     let read = notes_at(rt, rt.alloc(), &order.notes)?;
     match port {
         Some(port) => {
-            publish_served(rt, port, moment_now(dates), folder, read.as_ref(), console)
+            let folders = Directories { rt };
+            let now = moment_now(dates);
+            let notes = read.as_ref();
+            publish_served(rt, offices, &folders, port, now, folder, notes, console)
         }
         None => publish_noted(rt, dates, offices, source, folder, read.as_ref(), console),
     }
@@ -252,10 +255,14 @@ fn due_at<D: Dates, O: Offices, R: Read, W: Write, E: Write>(
 ) -> Result<(), Undone>
     ensures { let io = streams_by R.remaining W.contents D.readings console.old console.new dates.old
         dates.new in
-        TriesIn O.Carried offices.old offices.new (TellsDue source.now days) io result }
+        TriesIn O.Carried offices.old offices.new (TellsDue (O.Answered offices.old) source.now days) io
+        result }
 {
     match port_of(source)? {
-        Some(port) => print_due_served(rt, port, moment_now(dates), days, console.output),
+        Some(port) => {
+            let now = moment_now(dates);
+            print_due_served(rt, offices, port, now, days, console.output)
+        }
         None => carry_out(rt, dates, offices, source, Task::Due(days), console),
     }
 }

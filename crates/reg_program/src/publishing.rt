@@ -2,11 +2,13 @@
 ghost use Rattle.std.specs.Prelude.{◌<◌, IfOk, OnOk, IfSome, MatchOption};
 ghost use Rattle.std.specs.Option.{option_copied};
 ghost use Rattle.reg_jobs.specs.Asking.{IsAddress};
-ghost use Rattle.reg_program.specs.Publishing.{IsPortOf, PublishesIn};
+ghost use Rattle.reg_program.specs.Publishing.{IsPortOf, MakesIn, PublishesIn, PublishesServed};
 
 use crate::asking::{print, refusal_line};
 use crate::console::Console;
 use crate::faults::{JobFailure, Undone};
+use crate::served::ServedOffice;
+use crate::tasks::Offices;
 use reg_changes::change::{Class, Subject};
 use reg_client::peer::Peer;
 use reg_jobs::jobs::SERVED;
@@ -94,20 +96,25 @@ impl Folder for LockedDirectory<'_> {
     }
 }
 
-/// Publishes the office that is served on a port of loopback, in the folder at a path, with these notes.
-pub fn publish_served<R: Read, W: Write, E: Write>(
+/// Publishes the office that is served on a port of loopback, in the folder at a path, with these notes. As
+/// `publish_in`.
+pub fn publish_served<O: Offices, F: Folders, R: Read, W: Write, E: Write>(
     rt: &HostRuntime,
+    offices: &O,
+    folders: &F,
     port: u16,
     moment: u64,
     folder: &str,
     notes: Option<&Notes>,
     console: &mut Console<'_, R, W, E>,
-) -> Result<(), Undone> {
-    let mut peer = Peer::new(rt, port);
-    let folders = Directories { rt };
+) -> Result<(), Undone>
+    ensures { OnOk result (PublishesServed (O.Answered offices.now port) F.Given.Tells F.Given.held
+        F.Given.Puts (F.Opened folders.now folder.now) (option_copied notes.entry) moment) }
+{
+    let mut peer = Peer::new(rt.alloc(), ServedOffice { rt, offices, port });
     publish_in(
         rt.alloc(),
-        &folders,
+        folders,
         &mut peer,
         moment,
         folder,
@@ -129,7 +136,9 @@ pub fn publish_in<S: Source, F: Folders, R: Read, W: Write, E: Write>(
     notes: Option<&Notes>,
     console: &mut Console<'_, R, W, E>,
 ) -> Result<(), Undone>
-    ensures { OnOk result (PublishesIn S.published S.Holds F.Given.Tells F.Given.held F.Given.Puts
+    ensures publishes { OnOk result (PublishesIn S.published S.Holds F.Given.Tells F.Given.held F.Given.Puts
+        (F.Opened folders.now folder.now) source.old source.new (option_copied notes.entry) moment) }
+    ensures made { OnOk result (MakesIn S.Asked F.Given.Tells F.Given.held F.Given.Puts
         (F.Opened folders.now folder.now) source.old source.new (option_copied notes.entry) moment) }
 {
     match publish_to(alloc, folders, source, moment, folder, notes) {
@@ -147,7 +156,9 @@ fn publish_to<S: Source, F: Folders>(
     folder: &str,
     notes: Option<&Notes>,
 ) -> Result<Count, PublishFault>
-    ensures { OnOk result (PublishesIn S.published S.Holds F.Given.Tells F.Given.held F.Given.Puts
+    ensures publishes { OnOk result (PublishesIn S.published S.Holds F.Given.Tells F.Given.held F.Given.Puts
+        (F.Opened folders.now folder.now) source.old source.new (option_copied notes.entry) moment) }
+    ensures made { OnOk result (MakesIn S.Asked F.Given.Tells F.Given.held F.Given.Puts
         (F.Opened folders.now folder.now) source.old source.new (option_copied notes.entry) moment) }
 {
     let mut given = folders.open(alloc, folder)?;

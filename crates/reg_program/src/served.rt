@@ -14,9 +14,30 @@ use crate::requests::JobRequest;
 use crate::tasks::Offices;
 use http::StatusCode;
 use reg_client::answers::{Answered, answer_in};
+use reg_client::server::Server;
 use reg_core::text::Token;
+use reg_source::unpublished::Unpublished;
 use std::alloc::{AllocError, Global};
 use std::io::Write;
+
+/// The office that is served on a port of loopback.
+#[derive(Drop)]
+pub struct ServedOffice<'a, O> {
+    /// The runtime.
+    pub rt: &'a HostRuntime,
+    /// What has the offices.
+    pub offices: &'a O,
+    /// The port.
+    pub port: u16,
+}
+
+impl<O: Offices> Server for ServedOffice<'_, O> {
+    ghost Answered = { λ served. O.Answered served.offices.now served.port };
+
+    fn exchange(&mut self, request: &[u8]) -> Result<Vec<u8>, Unpublished> {
+        self.offices.exchange(self.rt, self.port, request)
+    }
+}
 
 /// Has the office that is served on a port of loopback answer a request, and prints its answer. `Refused` where
 /// it refuses it.

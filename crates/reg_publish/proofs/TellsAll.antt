@@ -19,7 +19,7 @@ use Rattle.reg_publish.specs.declared.told.AllTold.{AllTold}
 
 -- ---- Lists
 
-one_more : {X : Type 0} (xs : List X) (i : ℕ) (x : X) → i < length xs → x ≡ get_or xs i x
+pub one_more : {X : Type 0} (xs : List X) (i : ℕ) (x : X) → i < length xs → x ≡ get_or xs i x
     → take i xs ++ x ∷ [] ≡ take (i + 1) xs
 one_more xs i x h is = ap (λ y. take i xs ++ y ∷ []) is ∙ sym (take_more xs i x h)
 

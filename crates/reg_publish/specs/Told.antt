@@ -1,6 +1,7 @@
 -- All that anybody is told by an office.
 use Rattle.std.specs.Prelude.{◌≡◌, ℕ, List, [], map, filter_map, unwrap_or, Option}
 use Rattle.reg_core.specs.View.{Published}
+use Rattle.reg_core.specs.declared.command.PublicCommand.{PublicCommand}
 use Rattle.reg_core.specs.declared.command.PublicCommand.TheVariants.{Registries, Registry, PoolList, BlocksCsv}
 use Rattle.reg_core.specs.declared.holding.Listed.{Listed}
 use Rattle.reg_core.specs.declared.page.Page.{Page}
@@ -16,8 +17,9 @@ use Rattle.reg_pages.specs.Notes.{authority}
 use Rattle.reg_pages.specs.declared.notes.Notes.{Notes}
 use Rattle.reg_publish.specs.declared.told.AllTold.{AllTold}
 use Rattle.reg_site.specs.IndexTree.{IndexRow}
-use Rattle.reg_site.specs.Site.{blocks_at, blocks_in, change_files, index_files, page_in, pages_at, pool_in, prefixes_at, rows_by, shown_files, told_to_all}
+use Rattle.reg_site.specs.Site.{blocks_at, blocks_in, change_files, index_files, page_in, pages_at, pool_in, prefixes_at, rows_by, shown_files, site_files, told_to_all}
 use Rattle.reg_site.specs.Sums.{Files}
+use Rattle.reg_source.specs.Source.{AsksEach}
 
 -- the registries among what is told
 abbrev pub pages_of : List Told → List Page
@@ -63,7 +65,26 @@ shown_of notes records all =
     shown_files notes records (chained records).digests (pages_of all.pages.items)
     (prefixes_of all.pool) (blocks_of all.blocks)
 
+-- all files of the site of all that is told, with notes and after these records
+abbrev pub site_of : Option Notes → List HistoryRecord → AllTold → ℕ → Files
+site_of notes records all moment =
+    site_files notes records (pages_of all.pages.items) (prefixes_of all.pool) (blocks_of all.blocks)
+    moment
+
 -- ---- What is told
+
+-- A source was asked for the names of its registries, for each of these, for the blocks and for the pool, in
+-- this order and each once, and told all this.
+pub record AsksAll {S : Type 0} (Asked : S → S → PublicCommand → Told → Type 0) (source source' : S)
+    (all : AllTold) : Type 0 where
+  pub names : List (List ℕ)
+  pub first : S
+  pub named : Asked source first Registries (tells.Names names)
+  pub second : S
+  pub shown : AsksEach Asked first second names all.pages.items
+  pub third : S
+  pub given : Asked second third BlocksCsv all.blocks
+  pub pooled : Asked third source' PoolList all.pool
 
 -- these are told of registries by these names
 abbrev pub AreTold : Published → ℕ → List (List ℕ) → List Told → Type 0

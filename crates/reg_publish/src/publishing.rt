@@ -7,7 +7,7 @@ ghost use Rattle.reg_history.specs.Overview.{IsOverview};
 ghost use Rattle.reg_history.specs.Recording.{Ends, IsRecorded};
 ghost use Rattle.reg_publish.specs.Faults.{IsLostBy, IsOfHistory, TellsWhyUnpublished};
 ghost use Rattle.reg_publish.specs.Folder.{Places, PlacesSummed};
-ghost use Rattle.reg_publish.specs.Publishing.{PublishesSite};
+ghost use Rattle.reg_publish.specs.Publishing.{MakesSite, PublishesSite};
 ghost use Rattle.reg_publish.specs.Told.{blocks_of, facts_at, facts_told, indexes_of, pages_of, prefixes_of, shown_of};
 ghost use Rattle.reg_site.specs.Files.{path_of};
 ghost use Rattle.reg_site.specs.Site.{site_files};
@@ -61,6 +61,8 @@ pub fn publish<S: Source, F: Folder>(
 ) -> Result<Count, PublishFault>
     ensures done { OnOk result (PublishesSite S.published S.Holds F.Tells F.held F.Puts source.old source.new
         folder.old folder.new (option_copied notes.entry) moment) }
+    ensures made { OnOk result (MakesSite S.Asked F.Tells F.held F.Puts source.old source.new folder.old
+        folder.new (option_copied notes.entry) moment) }
     ensures history { IfErr result (λ why. IsOfHistory why → folder.new ≡ folder.old) }
     ensures why { F.Tells → IfErr result (TellsWhyUnpublished (F.held folder.old (path_of file.Changes))
         (F.held folder.old (path_of file.IndexTree)) (S.Holds source.new)

@@ -3,8 +3,8 @@ ghost use Rattle.std.specs.Prelude.{IfOk, OnOk};
 ghost use Rattle.std.specs.List.{flat_map};
 ghost use Rattle.reg_history.specs.Published.{page_facts};
 ghost use Rattle.reg_history.specs.Recording.{Took};
-ghost use Rattle.reg_source.specs.Source.{Asks};
-ghost use Rattle.reg_publish.specs.Told.{AreTold, IsTold, facts_told, pages_of};
+ghost use Rattle.reg_source.specs.Source.{Asks, AsksEach};
+ghost use Rattle.reg_publish.specs.Told.{AreTold, AsksAll, IsTold, facts_told, pages_of};
 
 use reg_core::command::PublicCommand;
 use reg_core::text::Name;
@@ -31,8 +31,9 @@ pub fn ask_all<S: Source>(
     source: &mut S,
     moment: u64,
 ) -> Result<AllTold, Unpublished>
-    ensures { IfOk result (λ all. Asks S.published S.Holds source.old source.new
+    ensures told { IfOk result (λ all. Asks S.published S.Holds source.old source.new
         (λ p. IsTold p moment all)) }
+    ensures asked { IfOk result (AsksAll S.Asked source.old source.new) }
 {
     let names = source.ask(moment, &PublicCommand::Registries)?;
     let pages = ask_pages(alloc, source, moment, names_in(&names)?)?;
@@ -51,8 +52,10 @@ fn ask_pages<S: Source>(
     moment: u64,
     names: &[Name],
 ) -> Result<Vec<Told>, Unpublished>
-    ensures { IfOk result (λ pages. Asks S.published S.Holds source.old source.new
+    ensures told { IfOk result (λ pages. Asks S.published S.Holds source.old source.new
         (λ p. AreTold p moment names.now pages.items)) }
+    ensures asked { IfOk result
+        (λ pages. AsksEach S.Asked source.old source.new names.now pages.items) }
 {
     let mut pages = Vec::new(alloc);
     for name in names {

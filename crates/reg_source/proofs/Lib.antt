@@ -1,5 +1,6 @@
 pub mod Asked
 pub mod Copying
+pub mod Each
 pub mod Feeding
 mod Portioned
 pub mod Steps

@@ -37,19 +37,40 @@ returns-clause-done g c =
       digests = digests;
       continues = λ holds.
           subst (λ fs. Continues records moment fs ends.more digests)
-          (facts_are_told (published c.args.source.now) moment told (c.in_ok-told.ensures.told holds))
+          (facts_are_told (published c.args.source.now) moment told (c.in_ok-told.ensures.told.told holds))
           ends.continues;
       publishes = publishes_told published Holds Puts c.args.source.now c.ask_all.new.source
           c.args.folder.now c.publish_told.new.folder (λ p. IsTold p moment told)
           (site_files notes now (pages_of told.pages.items) (prefixes_of told.pool)
           (blocks_of told.blocks) moment)
           (λ p. site notes (records ++ news records moment (facts_at p moment)) p moment)
-          c.in_ok-told.ensures
+          c.in_ok-told.ensures.told
           (λ p here.
           site_is_told p moment told here notes now
           ∙ ap (λ fs. site notes (records ++ news records moment fs) p moment)
           (facts_are_told p moment told here))
           (c.in_ok-publish_told.ensures now ends.whole);
+    }
+
+pub returns-clause-made : goal.returns-clause-made
+returns-clause-made g c =
+    let told = c.in_ok-told.told in
+    let history = c.in_ok-text.ensures.history in
+    let records : List HistoryRecord = history.0 in
+    let ends = c.in_ok-recorded.ensures.goes_on records history.2 history.1 in
+    let now : List HistoryRecord = records ++ news records c.args.moment (facts_told told) in
+    record {
+      all = told;
+      asked = c.in_ok-told.ensures.asked;
+      records = records;
+      earlier = λ tells. record {
+        text = history.1 ∙ c.in_ok-text.ensures.there tells;
+        tied = subst (IsTied _) history.2.digests (c.in_ok-text.ensures.tied tells);
+      };
+      more = ends.more;
+      digests = (chained now).digests;
+      continues = ends.continues;
+      placed = c.in_ok-publish_told.ensures now ends.whole;
     }
 
 pub returns-in_err-text-clause-why : goal.returns-in_err-text-clause-why
@@ -82,5 +103,5 @@ returns-in_err-recorded-clause-why g c = λ tells.
       text = history.1 ∙ c.in_ok-text.ensures.there tells;
       tied = subst (IsTied _) history.2.digests (c.in_ok-text.ensures.tied tells);
     })
-    (λ holds. facts_are_told published c.args.moment told (c.in_ok-told.ensures.told holds))
+    (λ holds. facts_are_told published c.args.moment told (c.in_ok-told.ensures.told.told holds))
     (c.in_err-recorded.ensures.lost history.0 history.2 history.1))

@@ -22,4 +22,4 @@ pub returns-in-Publish-clause-publishes : goal.returns-in-Publish-clause-publish
 returns-in-Publish-clause-publishes g c =
     rw c.in-Publish.is
     (ok_as c.publish_in.result
-    (λ placed. (c.moment_now-now.result, c.moment_now-now.ensures, placed)) c.publish_in.ensures)
+    (λ placed. (c.moment_now-now.result, c.moment_now-now.ensures, placed)) c.publish_in.ensures.publishes)
