@@ -5,6 +5,7 @@ use Rattle.std.specs.declared.time.Duration.{Duration}
 use Rattle.reg_wire.specs.Exchange.{Call}
 use Rattle.reg_wire.specs.declared.wire_fault.WireFault.{WireFault}
 use Rattle.reg_http.specs.Listening.{count_of, moment_by}
+use Rattle.reg_http.specs.declared.log.LogLine.{LogLine}
 use Rattle.reg_wire.specs.Serving.{IsServed, FailsBy}
 use Rattle.reg_wire.specs.declared.log.Sent.{Sent}
 use Rattle.reg_wire.specs.declared.response.Response.{Response}
@@ -82,6 +83,10 @@ pub record Exchanges {S : Type 0} (Serves : S → Call → Response → S → Ty
       after outcome
   pub counted : count_of sent ≡ wholes outcome
   pub ends : EndsOneMore had has wrote
+
+-- it was ended so, and such a line is to be told of it
+abbrev pub EndsWithLine : {P : Type 0} → (P → P → LogLine → Type 0) → P → (LogLine → Type 0) → Type 0
+EndsWithLine {P} Ends peers Is = (before : P) × (line : LogLine) × Ends before peers line × Is line
 
 -- ---- Turns, each with a connection that came, or with none
 

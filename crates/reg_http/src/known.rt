@@ -1,5 +1,5 @@
 //! One connection of which all bytes are known, and a clock that is read once, for tests.
-ghost use Rattle.std.specs.Prelude.{[], ◌∷◌, Some};
+ghost use Rattle.std.specs.Prelude.{◌≡◌, [], ◌∷◌, Some};
 ghost use Rattle.std.specs.Option.{option_map_or};
 
 use crate::dates::Dates;
@@ -31,6 +31,8 @@ impl<'a> Peers for OneCaller<'a> {
     ghost coming = { λ s. Some (option_map_or (λ b. Some b.now ∷ []) s.bytes []) };
 
     ghost blank = { Some [] };
+
+    ghost Ends = { λ _ ended line. ended.sent ≡ line.sent };
 
     fn next<L: LineLog>(&mut self, _log: &mut L) -> Option<&'a [u8]> {
         match self.bytes {

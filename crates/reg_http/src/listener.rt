@@ -1,7 +1,7 @@
 //! Serves connections, one after the other.
 ghost use Rattle.std.specs.Prelude.{◌≡◌, ◌+◌, ◌≤◌};
 ghost use Rattle.reg_http.specs.Listening.{ChangesByTurns, count_of};
-ghost use Rattle.reg_http.specs.Meeting.{Exchanges, ServesInTurn};
+ghost use Rattle.reg_http.specs.Meeting.{EndsWithLine, Exchanges, ServesInTurn};
 ghost use Rattle.reg_wire.specs.Serving.{AnswersOver};
 
 use crate::dates::{Dates, moment_now};
@@ -105,6 +105,7 @@ fn exchange<K: Keeper, P: Peers, L: LineLog>(
         (P.Reader.remaining reader) (P.written peers.old) (P.written peers.new) office.old
         office.new result }
     ensures coming { P.coming peers.new ≡ P.coming peers.old }
+    ensures line { EndsWithLine P.Ends peers.new (λ line. (line.moment ≡ moment) × (line.sent ≡ result)) }
 {
     let mut reader = reader;
     let mut watch = Watch::new();

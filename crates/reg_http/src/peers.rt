@@ -13,6 +13,7 @@ use std::time::Duration;
 /// What gives connections, one after the other. A connection is read first, and written then.
 pub trait Peers {
     ghost use Rattle.std.specs.Prelude.{ℕ, List, Option, None};
+    ghost use Rattle.reg_http.specs.declared.log.LogLine.{LogLine as OfConnection};
 
     /// A connection that is read.
     type Reader: Read + Drop;
@@ -30,6 +31,9 @@ pub trait Peers {
     /// What is known of what was written over a connection over which nothing was.
     ghost blank: { Option (List ℕ) } = { None };
 
+    /// A connection was ended, of which this line is to be told, from before to after.
+    ghost Ends: { Self → Self → OfConnection → Type 0 } = { λ _ _ _. Unit {0} };
+
     /// The next connection, unless it cannot be had. The log is told of those that end meanwhile.
     fn next<L: LineLog>(&mut self, log: &mut L) -> Option<Self::Reader>
         ensures comes { Comes (coming self.old) (coming self.new)
@@ -46,6 +50,7 @@ pub trait Peers {
     /// with no answer in it where the peer does not.
     fn end<L: LineLog>(&mut self, writer: Self::Writer, line: LogLine, log: &mut L)
         ensures ends { EndsOneMore (written self.old) (written self.new) (Self.Writer.contents writer) }
+        ensures line { Ends self.old self.new line }
         ensures coming { coming self.new ≡ coming self.old };
 
     /// Waits until the peers have taken all that was written, or have had their time.

@@ -8,6 +8,7 @@ pub mod Founding
 pub mod Importing
 pub mod Inputs
 pub mod Journal
+pub mod Log
 pub mod Looking
 pub mod Performing
 pub mod Printing

@@ -176,7 +176,7 @@ fn shown_digits(digest: &Digest) -> &[u8]
 }
 
 /// The end of a capability in UTC (RFC 3339), as `2027-01-15T08:00:00Z`.
-fn end_text(alloc: Global, until: Until) -> Result<String, AllocError>
+pub(crate) fn end_text(alloc: Global, until: Until) -> Result<String, AllocError>
     ensures { IfOk result (λ text. IsEnd until (string_bytes text)) }
 {
     let shown = Offset::UTC.to_datetime(instant_of(until));

@@ -1,4 +1,5 @@
 pub mod Exchange
+pub mod Heard
 pub mod Laws
 pub mod RequestLaws
 pub mod Responding

@@ -1,5 +1,6 @@
 //! Serves one request.
-ghost use Rattle.std.specs.Prelude.{IfOk, IfErr};
+ghost use Rattle.std.specs.Prelude.{◌≡◌, IfOk, IfErr};
+ghost use Rattle.reg_wire.specs.Heard.{AnswersHeard, HearsAsked, ServesHeard};
 ghost use Rattle.reg_wire.specs.Serving.{AnswersOver, IsAnswered, IsServed, FailsBy, call_at};
 ghost use Rattle.reg_wire.specs.Sending.{IsSentBy};
 ghost use Rattle.reg_wire.specs.Responding.{IsUnanswered};
@@ -96,6 +97,10 @@ pub fn respond<K: Keeper, R: Read, L: Log>(
     ensures err { IfErr result (λ fault. IsUnanswered fault office.old office.new
         (R.remaining reader.old) (R.remaining reader.new)) }
     ensures watched { IsWatchedOver watch.old watch.new result }
+    ensures heard { IfOk result (λ told. IsAnswered (ServesHeard L.Hears K.world K.Holds K.Sound K.FAILS
+        L.IS_KEPT log.old log.new) moment office.old office.new (R.remaining reader.old)
+        (R.remaining reader.new) told) }
+    ensures unheard { IfErr result (λ _. log.new ≡ log.old) }
 {
     match read_request(alloc, reader, watch) {
         Ok(message) => {
@@ -113,6 +118,8 @@ pub fn respond<K: Keeper, R: Read, L: Log>(
 // Tells a log that is kept what a request asks, and of its path what may be shown.
 fn tell<L: Log>(routes: &Routes, message: &Message, log: &mut L)
     requires { LiesInBytes message.now }
+    ensures { (request : Request) → IsMessage message.now request
+        → HearsAsked L.Hears L.IS_KEPT request.method request.path log.old log.new }
 {
     if L::IS_KEPT {
         let parts = message.parts();
@@ -130,9 +137,12 @@ fn respond_to<K: Keeper, L: Log>(
     log: &mut L,
 ) -> Response
     requires { LiesInBytes message.now }
-    ensures { (request : Request) → IsMessage message.now request
+    ensures answers { (request : Request) → IsMessage message.now request
         → AnswersOver K.world K.Holds K.Sound K.FAILS office.old (call_at moment request) result
         office.new }
+    ensures heard { (request : Request) → IsMessage message.now request
+        → AnswersHeard L.Hears K.world K.Holds K.Sound K.FAILS log.old log.new office.old
+        (call_at moment request) result office.new }
 {
     let parts = message.parts();
     let call = Call {

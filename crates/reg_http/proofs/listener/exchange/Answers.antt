@@ -34,3 +34,11 @@ returns-clause-exchanges g c =
           ap count_of c.ok-sent.ensures.value ∙ count_is c.send_told.result;
       ends = subst EndsOf c.turned-writer.ensures.ended c.end.ensures.ends;
     }
+
+pub returns-clause-line : goal.returns-clause-line
+returns-clause-line g c = (
+  c.turned-writer.new.self,
+  c.line-line.result,
+  c.end.ensures.line,
+  (c.line-line.ensures.moment, c.line-line.ensures.sent ∙ c.same.ensures),
+)

@@ -53,6 +53,10 @@ struct Ends {
 }
 
 impl Log for Ends {
+    ghost use Rattle.std.specs.Prelude.{false};
+
+    ghost IS_KEPT = { false };
+
     const IS_KEPT: bool = false;
 
     fn asked(&mut self, _method: &[u8], _path: Shown<'_>) {}
