@@ -1,10 +1,11 @@
 -- Copies of which less is told, or more.
 use Rattle.std.proofs.Common.{◌≡◌, ℕ, ℤ, List, Option, Result, Ok, Err, refl, to_z, of_z, w64}
 use Rattle.std.specs.Prelude.{⊤, IfErr, OnOk}
+use Rattle.std.specs.Io.KnownBytes.{Appends}
 use Rattle.reg_tables.specs.Version.{number_of}
 use Rattle.reg_tables.specs.declared.version.Version.{Version}
 use Rattle.reg_tables.specs.declared.version.Version.TheVariants.{First, Second, Third, Fourth}
-use Rattle.reg_program.specs.Copying.{PrintsCopied}
+use Rattle.reg_program.specs.Copying.{PrintsCopied, copied_line}
 use Rattle.reg_program.specs.declared.faults.Undone.{Undone}
 
 -- the number of a version is the same once it was a word of 64 bits
@@ -23,14 +24,13 @@ told_less (Ok u) P Q had has less (version, requests, is, wrote) =
 told_less (Err why) P Q had has less h = tt
 
 -- the line of a copy that was put, where that is known
-pub told_put : (done : Result ⊤ Undone) (Tells Put : Type 0) (P Q : ℤ → ℕ → Type 0)
-    (had has : Option (List ℕ))
-    → ((version : ℤ) (requests : ℕ) → P version requests → (Tells → Put) → Q version requests)
-    → OnOk done (PrintsCopied P had has) → (Tells → OnOk done Put)
-    → OnOk done (PrintsCopied Q had has)
-told_put (Ok u) Tells Put P Q had has more (version, requests, is, wrote) put =
-    (version, requests, more version requests is put, wrote)
-told_put (Err why) Tells Put P Q had has more h put = tt
+pub told_put : (done : Result ⊤ Undone) (version : ℤ) (requests : ℕ) (Tells Put : Type 0)
+    (P : ℤ → ℕ → Type 0) (had has : Option (List ℕ)) → ((Tells → Put) → P version requests)
+    → OnOk done (Appends had has (copied_line version requests)) → (Tells → OnOk done Put)
+    → OnOk done (PrintsCopied P had has)
+told_put (Ok u) version requests Tells Put P had has is wrote put =
+    (version, requests, is put, wrote)
+told_put (Err why) version requests Tells Put P had has is wrote put = tt
 
 -- why there is no copy, where what was done is known
 pub left_open : (done : Result ⊤ Undone) (Tells : Type 0) (P Q : Undone → Type 0)

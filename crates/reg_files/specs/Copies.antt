@@ -2,10 +2,8 @@
 use Rattle.std.specs.Prelude.{◌≡◌, ◌⊎◌, ◌++◌, ℕ, ℤ, List}
 use Rattle.std.specs.Path.{HasNoSlash}
 use Rattle.sqlite.specs.Files.{file_state}
-use Rattle.sqlite.specs.State.{State}
 use Rattle.reg_tables.specs.Connection.{Holds}
 use Rattle.reg_tables.specs.Version.{number_of}
-use Rattle.reg_tables.specs.declared.version.Version.{Version}
 use Rattle.reg_statements.specs.Content.{world_in}
 use Rattle.reg_sql.specs.Looking.{IsSeenIn}
 use Rattle.reg_sql.specs.Snapshots.{ReadsFiles, alone}
@@ -21,24 +19,23 @@ abbrev pub IsSeenAlone : Snapshot → Type 0
 IsSeenAlone copy =
     IsSeenIn file_state (ReadsFiles (alone copy.bytes.items)) copy.look.version copy.look.keeper.tables
 
--- The line tells this version, and how many requests there are in a store. The number is known if the
--- store still held after the count.
-abbrev pub TellsCount : Version → State → State → ℤ → ℕ → Type 0
-TellsCount given old new version requests =
-    (version ≡ number_of given) × (Holds new → requests ≡ requests_in (world_in old))
+-- That office has so many requests. The number is known if the store of the copy still held after the count.
+abbrev pub IsCountOfCopy : Snapshot → ℕ → Type 0
+IsCountOfCopy copy requests =
+    (counted : Snapshot)
+    × (Holds (file_state counted.look.keeper.tables)
+    → requests ≡ requests_in (world_in (file_state copy.look.keeper.tables)))
 
--- That office is of this version, and has so many requests. The number is known if the store of the copy
--- still held after the count.
-pub record IsToldOf (copy : Snapshot) (version : ℤ) (requests : ℕ) : Type 0 where
+-- it is of this version, and so many requests were counted in this very copy
+pub record IsToldOf (Counted : Snapshot → ℕ → Type 0) (copy : Snapshot) (version : ℤ) (requests : ℕ) :
+    Type 0 where
   pub seen : IsSeenAlone copy
   pub of_version : version ≡ number_of copy.look.version
-  pub counted : Snapshot
-  pub has_requests : Holds (file_state counted.look.keeper.tables)
-      → requests ≡ requests_in (world_in (file_state copy.look.keeper.tables))
+  pub counted : Counted copy requests
 
 -- the same of some copy
 abbrev pub IsToldOfSome : ℤ → ℕ → Type 0
-IsToldOfSome version requests = (copy : Snapshot) × IsToldOf copy version requests
+IsToldOfSome version requests = (copy : Snapshot) × IsToldOf IsCountOfCopy copy version requests
 
 -- ---- Where it was put
 
@@ -49,8 +46,9 @@ AreNamesIn folder names = (name : List ℕ) × HasNoSlash name × (names ≡ nam
 -- on disks that were opened as `Opened` says, and of which `done` tells the steps
 module _ {D : Type 0} (Opened : FileNames → D → Type 0) (Tells : Type 0) (done : D → List DiskStep) where
   -- exactly the bytes of a copy took the place that was opened, and the office in it was told
-  pub record CopyIsPut (copy : Snapshot) (version : ℤ) (requests : ℕ) : Type 0 where
-    pub told : IsToldOf copy version requests
+  pub record CopyIsPut (Counted : Snapshot → ℕ → Type 0) (copy : Snapshot) (version : ℤ) (requests : ℕ) :
+      Type 0 where
+    pub told : IsToldOf Counted copy version requests
     pub names : FileNames
     pub first : D
     pub last : D
@@ -66,9 +64,9 @@ module _ {D : Type 0} (Opened : FileNames → D → Type 0) (Tells : Type 0) (do
     pub steps : Tells → IsUncopied names copy.bytes.items (done first) (done last) why
 
   -- a copy that was taken was put
-  abbrev pub CopyIsTold : (Snapshot → Type 0) → ℤ → ℕ → Type 0
-  CopyIsTold Taken version requests =
-      (copy : Snapshot) × Taken copy × CopyIsPut copy version requests
+  abbrev pub CopyIsTold : (Snapshot → Type 0) → (Snapshot → ℕ → Type 0) → ℤ → ℕ → Type 0
+  CopyIsTold Taken Counted version requests =
+      (copy : Snapshot) × Taken copy × CopyIsPut Counted copy version requests
 
   -- or no place was opened for it
   abbrev pub IsUnput : (Undone → Type 0) → Snapshot → Undone → Type 0

@@ -1,5 +1,6 @@
 //! The job that copies an office, and what copies offices.
-ghost use Rattle.std.specs.Prelude.{◌≡◌, ◌++◌, ℕ, IfErr, IfOk, OnErr, OnOk, option_map};
+ghost use Rattle.std.specs.Prelude.{◌≡◌, ◌++◌, IfErr, IfOk, OnErr, OnOk, option_map};
+ghost use Rattle.std.specs.Io.KnownBytes.{Appends};
 ghost use Rattle.std.specs.String.{string_bytes};
 ghost use Rattle.reg_source.specs.Disk.{IsLeft, replaces};
 ghost use Rattle.reg_source.specs.Names.{names_by};
@@ -13,7 +14,7 @@ use reg_keeper::keeper::Keeper;
 use reg_pages::portions::Whole;
 use reg_source::disk::Disk;
 use reg_source::replacement::{Names, replace};
-use std::alloc::Global;
+use std::alloc::{AllocError, Global};
 use std::io::Write;
 
 /// What copies the offices in files.
@@ -58,43 +59,45 @@ pub trait Copies {
             (W.contents output.old) (W.contents output.new) result };
 }
 
-/// Lets the bytes of a copy of this version take their place on a disk, and prints the version and how many
-/// requests the office has that was seen in them.
-pub fn copy_in<K: Keeper, D: Disk, W: Write>(
+/// How many requests an office has.
+pub fn count_in<K: Keeper>(keeper: &mut K) -> Result<usize, Undone>
+    ensures count { IfOk result
+        (λ count. K.Holds keeper.new → count ≡ requests_in (K.world keeper.old)) }
+    ensures same { K.Holds keeper.new → K.world keeper.new ≡ K.world keeper.old }
+    ensures premise { K.Holds keeper.new → K.Holds keeper.old }
+{
+    let requests = keeper.all()?;
+    Ok(requests.as_slice().len())
+}
+
+/// Lets the bytes of a copy take their place on a disk, and prints that it is of this version and has so many
+/// requests.
+pub fn copy_in<D: Disk, W: Write>(
     alloc: Global,
-    keeper: &mut K,
     version: i64,
+    requests: usize,
     disk: &mut D,
     names: &Names,
     bytes: &[u8],
     output: &mut W,
 ) -> Result<(), Undone>
-    ensures printed { OnOk result (PrintsCopied (λ told requests. (told ≡ version)
-        × (K.Holds keeper.new → requests ≡ requests_in (K.world keeper.old)))
-        (W.contents output.old) (W.contents output.new)) }
+    ensures printed { OnOk result (Appends (W.contents output.old) (W.contents output.new)
+        (copied_line version requests)) }
     ensures put { D.Tells → OnOk result (D.done disk.new
         ≡ D.done disk.old ++ replaces (names_by names.now) bytes.now) }
     ensures failed { D.Tells → IfErr result (IsUncopied (names_by names.now) bytes.now
         (D.done disk.old) (D.done disk.new)) }
-    ensures same { K.Holds keeper.new → K.world keeper.new ≡ K.world keeper.old }
-    ensures premise { K.Holds keeper.new → K.Holds keeper.old }
 {
-    let line = line_of(alloc, keeper, version)?;
+    let line = line_of(alloc, version, requests)?;
     place(alloc, disk, names, bytes)?;
     print(output, line.as_bytes())
 }
 
-// The line of a copy of this version.
-fn line_of<K: Keeper>(alloc: Global, keeper: &mut K, version: i64) -> Result<String, Undone>
-    ensures line { IfOk result (λ line. (requests : ℕ)
-        × (K.Holds keeper.new → requests ≡ requests_in (K.world keeper.old))
-        × (string_bytes line ≡ copied_line version requests)) }
-    ensures same { K.Holds keeper.new → K.world keeper.new ≡ K.world keeper.old }
-    ensures premise { K.Holds keeper.new → K.Holds keeper.old }
+// The line of a copy of this version, which has so many requests.
+fn line_of(alloc: Global, version: i64, requests: usize) -> Result<String, AllocError>
+    ensures { IfOk result (λ line. string_bytes line ≡ copied_line version requests) }
 {
-    let requests = keeper.all()?;
-    let count = requests.as_slice().len();
-    Ok(format!(in alloc; "copied version {version}, {count} requests\n")?)
+    format!(in alloc; "copied version {version}, {requests} requests\n")
 }
 
 // Lets these bytes take their place.
