@@ -18,8 +18,8 @@ pub record IsRead (digits : List ℕ) (i value : ℕ) : Type 0 where
   pub value_is : value ≡ digits_value 16 (take i digits)
   pub fits : value < 16 ^ i
 
-pub room : (i value : ℕ) → value < 16 ^ i → i < 9 → value < 16 ^ 9
-room i value h le = let p = pow-le-pow_right {n = 16} (lit< tt) {i = i} {j = 9} (omega arith) in
+pub room : (i value : ℕ) → value < 16 ^ i → i < 12 → value < 16 ^ 12
+room i value h le = let p = pow-le-pow_right {n = 16} (lit< tt) {i = i} {j = 12} (omega arith) in
     omega arith
 
 fits_more : (i value digit : ℕ) → value < 16 ^ i → digit < 16 → value * 16 + digit < 16 ^ (i + 1)

@@ -46,6 +46,10 @@ make_block size prefix =
     let block : SizedPrefix = record { size = size; prefix = prefix } in
     (if is_block block then Some block else None)
 
+-- the block of this size that has an address, if there is one
+abbrev pub block_with : ℕ → Size → Option SizedPrefix
+block_with address size = make_block size (address / address_count size)
+
 -- blocks by their first addresses; of those that begin together the larger first
 abbrev pub block_cmp : SizedPrefix → SizedPrefix → Ordering
 block_cmp = then_cmp (on first_address nat_cmp) (on (λ block. prefix_bits block.size) nat_cmp)

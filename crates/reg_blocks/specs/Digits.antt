@@ -16,6 +16,10 @@ hex_value_of digits =
 abbrev pub read_prefix : List ℕ → Option ℕ
 read_prefix digits = (if length digits == 6 then hex_value_of digits else None)
 
+-- the address that exactly 12 digits write
+abbrev pub read_address : List ℕ → Option ℕ
+read_address digits = (if length digits == 12 then hex_value_of digits else None)
+
 -- the block whose prefix the digits write: 6 digits for MA-L, 7 for MA-M and 9 for MA-S
 abbrev pub read_block : List ℕ → Option SizedPrefix
 read_block digits =

@@ -4,7 +4,7 @@ ghost use Rattle.std.proofs.Common.{rules};
 ghost use Rattle.std.specs.Cmp.{partial_order_from_own_ties};
 ghost use Rattle.std.specs.Cmp.Rules.{comparing};
 ghost use Rattle.std.specs.Ordering.{as_partial_cmp};
-ghost use Rattle.reg_blocks.specs.Block.{first_address, last_address, is_block, make_block, Clash, ends_meet, block_cmp};
+ghost use Rattle.reg_blocks.specs.Block.{first_address, last_address, leading_24, is_block, make_block, block_with, Clash, ends_meet, block_cmp};
 ghost use Rattle.reg_blocks.specs.Digits.{read_block, block_text};
 
 use crate::digits::{hex_text, hex_value};
@@ -51,6 +51,14 @@ impl Block {
         }
     }
 
+    /// The block of this size that has an address, or none where the address has more than 48 bits or
+    /// its I/G or U/L bit is set.
+    pub fn with_address(size: Size, address: u64) -> Option<Block>
+        ensures { result ≡ block_with address size }
+    {
+        Block::make(size, address / size.address_count())
+    }
+
     /// Whether the block is an MA-L, an MA-M or an MA-S.
     pub fn size(&self) -> Size
         ensures { result ≡ self.now.size }
@@ -64,6 +72,13 @@ impl Block {
         ensures block { IsTrue (is_block self.now) }
     {
         self.prefix
+    }
+
+    /// The 24 bits with which all addresses of the block begin.
+    pub fn leading(&self) -> u32
+        ensures { result ≡ leading_24 self.now }
+    {
+        (self.first() >> 24) as u32
     }
 
     /// The first address of the block, as a number of 48 bits.

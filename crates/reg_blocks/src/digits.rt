@@ -8,7 +8,7 @@ use std::alloc::{AllocError, Global};
 /// The number that hexadecimal digits of either case write, or none where one of them is no such
 /// digit.
 pub(crate) fn hex_value(digits: &[u8]) -> Option<u64>
-    requires { length digits.now ≤ 9 }
+    requires { length digits.now ≤ 12 }
     ensures value { result ≡ hex_value_of digits.now }
     ensures fits { IfSome result (λ value. value < 16 ^ length digits.now) }
 {

@@ -3,6 +3,7 @@
 //! next.
 #![tactic(auto)]
 
+pub mod address;
 pub mod block;
 pub mod block_digits;
 mod digits;

@@ -10,7 +10,7 @@ ghost use Rattle.reg_vacancies.specs.Vacancies.{MayBeOf};
 ghost use Rattle.reg_opening.specs.Rows.{with_row, seat_of, IsNew, IsInTurn, Fits, MayBePooled};
 ghost use Rattle.reg_opening.specs.declared.row.Row.TheVariants as row;
 
-use crate::blocks::{Holders, is_apart, leading_bits};
+use crate::blocks::{Holders, is_apart};
 use crate::free::{with_block, with_prefix, with_value};
 use crate::grows::Grows;
 use crate::marks::{can_be_held, lacks_minute, may_be_held};
@@ -163,7 +163,7 @@ impl Audit {
             }
             Row::Prefix(prefix) => is_pool_prefix(*prefix),
             Row::Block(holding) => {
-                self.prefixes.contains(&leading_bits(&holding.block))
+                self.prefixes.contains(&holding.block.leading())
                     && is_apart(&self.holders, &holding.block)
             }
             Row::Request(request) => stands(&self.standings, &self.holders, request),

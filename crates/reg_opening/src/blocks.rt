@@ -1,6 +1,6 @@
 //! Blocks that share no address.
 ghost use Rattle.std.specs.Prelude.{◌≡◌, ◌↔◌, IsTrue};
-ghost use Rattle.reg_blocks.specs.Block.{SizedPrefix, Clash, leading_24};
+ghost use Rattle.reg_blocks.specs.Block.{SizedPrefix, Clash};
 ghost use Rattle.reg_opening.specs.Blocks.{HoldersAreApart, BeginsBefore, IsClearOf, IsFrom, IsHeld};
 
 use reg_blocks::block::Block;
@@ -42,12 +42,4 @@ fn is_beside(neighbour: Option<Block>, block: &Block) -> bool
         Some(neighbour) => !block.overlaps(&neighbour),
         None => true,
     }
-}
-
-/// The 24 bits that the addresses of a block begin with.
-pub fn leading_bits(block: &Block) -> u32
-    ensures { result ≡ leading_24 block.now }
-{
-    let _prefix = block.prefix();
-    (block.first() >> 24) as u32
 }

@@ -6,8 +6,8 @@ use Rattle.reg_opening.proofs.audit.Audit.fits.Goals as goal
 pub returns-then-contains-clause-world : goal.returns-then-contains-clause-world
 returns-then-contains-clause-world c = λ w keeps kept.
     rw c.in-Block.is
-    (block_fits c.args.self.now w keeps kept c.in-Block.holding c.leading_bits.result
-    c.is_apart.result c.leading_bits.ensures (sym c.contains.ensures ∙ c.if-contains.true)
+    (block_fits c.args.self.now w keeps kept c.in-Block.holding c.leading.result
+    c.is_apart.result c.leading.ensures (sym c.contains.ensures ∙ c.if-contains.true)
     c.is_apart.ensures)
 
 pub returns-in-Request-clause-world : goal.returns-in-Request-clause-world
