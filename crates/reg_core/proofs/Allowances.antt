@@ -303,7 +303,7 @@ module _ (w : World) (kept : WellKept w) (registry : List ℕ) (table : Table)
       record { table = table; is_there = is_there; range = is.0; one_by_one = is.1 }
 
   -- a value that is chosen lies under the policy, is wanted, and has no entry
-  chosen_under : (want : Want) (policy : Policy) (v : ℕ) → policy_for table want ≡ Ok policy
+  pub chosen_under : (want : Want) (policy : Policy) (v : ℕ) → policy_for table want ≡ Ok policy
       → value_for (value_ground (published w) registry want) table want ≡ Ok v
       → IsUnder w registry v policy × IsWanted w registry want policy v
       × (get w.entries (registry, v) ≡ None)

@@ -1,16 +1,19 @@
 -- The block due in a world, and the blocks that an account holds.
-use Rattle.std.proofs.Common.{◌≡◌, ℕ, true, List, [], ◌∷◌, map, refl, sym, ap, subst, ◌∙◌, arith}
+use Rattle.std.proofs.Common.{◌≡◌, ℕ, true, false, List, [], ◌∷◌, map, refl, sym, ap, subst, ◌∙◌, arith}
 use Rattle.std.specs.Prelude.{Option, Some, None, IsSome, IfSome, is_some, option_and_then, filter_map}
 use Rattle.reg_core.proofs.Common.{FinMap, get, keys, contains_key, entries, bytes_eq-Decides, same_text}
 use Rattle.reg_core.proofs.Common.{only_if, keyed, SizedPrefix, Clash, block_cmp, leading_24, Size}
 use Rattle.reg_core.proofs.Common.{masked, masked_blocks, published, holdings_of, World, Holder}
+use Rattle.reg_core.proofs.Common.{ends_meet, is_taken_in}
 use Rattle.reg_core.proofs.Common.{block_keys, get-chosen}
 use Rattle.std.proofs.lemmas.List.Elements.{All-contains}
+use Rattle.std.proofs.lemmas.List.Folds.{Any-from_list_any, list_any_at}
 use Rattle.std.proofs.lemmas.Map.Keys.{IsStrictlyIncreasing-from_sorted}
+use Rattle.reg_maps.proofs.KeyLists.{contains_at}
 use Rattle.reg_maps.proofs.MapLaws.{get-select, entries-select, ascending-keys, Contains-keys, has_row, number_keys}
 use Rattle.reg_blocks.specs.Due.{block_due}
 use Rattle.reg_blocks.proofs.EndsDecideClash.{clash_by_ends}
-use Rattle.reg_blocks.proofs.TrialFindsTheBlockDue.{block_due-IsAnswer}
+use Rattle.reg_blocks.proofs.TrialFindsTheBlockDue.{block_due-IsAnswer, ends_meet-Decides}
 use Rattle.reg_core.specs.BlockDue.{due_in}
 use Rattle.reg_core.specs.BlocksGiven.{IsDueIn, BlocksDueAreLeast}
 
@@ -70,6 +73,30 @@ module _ (w : World) (size : Size) (block : SizedPrefix) (due : IsDueIn w size b
       by : (o : Option Holder) → get w.blocks block ≡ o → get w.blocks block ≡ None
       by None is = is
       by (Some h) is = absurd (due_apart block (ap is_some is) (with_itself block))
+
+-- ---- Blocks that share an address with one that was given
+
+module _ (w : World) (block : SizedPrefix) where
+  -- a block that is not taken shares none
+  pub shares_none : is_taken_in w.blocks block ≡ false → (other : SizedPrefix)
+      → IsSome (get w.blocks other) → ¬ Clash block other
+  shares_none free other there clash =
+      let has = contains_at block_keys w.blocks other there in
+      let meets = (ends_meet-Decides block other).1 clash in
+      let taken : is_taken_in w.blocks block ≡ true =
+      list_any_at (ends_meet block) (keys w.blocks) has.0 other has.1
+      (ap (ends_meet block) has.2 ∙ meets) in
+      absurd (cc)
+
+  -- and one that is taken shares one
+  pub shares_one : is_taken_in w.blocks block ≡ true
+      → (other : SizedPrefix) × IsSome (get w.blocks other) × Clash block other
+  shares_one taken =
+      let any = Any-from_list_any (ends_meet block) (keys w.blocks) taken in (
+        any.1,
+        has_row block_keys w.blocks any.1 (any.0, any.2, any.3),
+        (ends_meet-Decides block any.1).0 any.4,
+      )
 
 -- ---- The blocks of an account
 

@@ -1,7 +1,7 @@
 -- The words and lemmas that most proofs about commands cite, passed on from one place. Declares
 -- nothing.
 pub use Rattle.std.specs.FinMap.{FinMap, contains_key, entries, get, keys}
-pub use Rattle.reg_core.proofs.SamenessIsDecided.{is_given-is, same_advice-itself, same_ask-is, same_ask-itself, same_cap-is, same_cap-itself, same_kind-decides, same_kind-is, same_size-is, same_size-itself, same_table-is, same_table-itself, same_text-itself}
+pub use Rattle.reg_core.proofs.SamenessIsDecided.{is_given-is, same_advice-itself, same_ask-is, same_ask-itself, same_cap-is, same_cap-itself, same_holder-is, same_holder-itself, same_kind-decides, same_kind-is, same_size-is, same_size-itself, same_table-is, same_table-itself, same_text-itself}
 pub use Rattle.std.specs.Cmp.{eq_by_cmp_equiv, first_so, second_so}
 pub use Rattle.std.proofs.lemmas.Slice.Eq.{bytes_eq-Decides}
 pub use Rattle.std.proofs.lemmas.Bool.{and_left, and_parts, and_right, both_ways, cases_Bool, cases_lt, false_from_ne_true, not-false, not-true, or_cases, or_parts}
@@ -29,7 +29,7 @@ pub use Rattle.reg_ranges.specs.declared.evidence.Item.{Item as EvidenceItem}
 pub use Rattle.reg_ranges.specs.declared.evidence.Stream.{Stream}
 pub use Rattle.reg_ranges.specs.declared.evidence.Track.{Track}
 pub use Rattle.reg_ranges.specs.declared.policy.Policy.{Policy}
-pub use Rattle.reg_blocks.specs.Block.{Clash, SizedPrefix, block_cmp, first_address, is_block, leading_24, make_block}
+pub use Rattle.reg_blocks.specs.Block.{Clash, IsAddressOf, SizedPrefix, block_cmp, block_with, ends_meet, first_address, is_block, leading_24, make_block}
 pub use Rattle.reg_blocks.specs.Pool.{is_pool_prefix}
 pub use Rattle.reg_blocks.specs.Size.{prefix_bits, word_of}
 pub use Rattle.reg_blocks.specs.declared.size.Size.{Size}
@@ -43,10 +43,11 @@ pub use Rattle.reg_early.specs.declared.term.Term.{Term}
 pub use Rattle.reg_core.proofs.KeyOrders.{block_keys, link_keys, name_keys, place_keys, seat_keys}
 pub use Rattle.reg_core.proofs.Arrivals.{arrival_keys, find-arrived, get-by_arrival}
 pub use Rattle.reg_core.specs.Advice.{has_advice_form, is_advised, is_among, is_given, verdict_word}
-pub use Rattle.reg_core.specs.Allowance.{Ground, allowance_on, allowed, allowed_on, entry_asked, entry_asked_early, entry_kept, ground_of, holding_asked, is_met, is_met_early, may_renew, may_settle, needs_advice, open_policy, or_refusal, own_entry, policy_for, value_for, value_ground}
-pub use Rattle.reg_core.specs.Answer.{Answer, Outcome, admitted, answer, answer_at, as_kind, by_rule, case_by, change_by, change_of, desk_row, expert_answer, item, made_row, own_answer, own_row, public_answer, reply_of, times_answer, token_answer, unchanged}
+pub use Rattle.reg_core.specs.Allowance.{Ground, allowance_on, allowed, allowed_on, entry_asked, entry_asked_early, entry_kept, ground_of, holding_asked, is_met, is_met_early, least_allowed, may_renew, may_settle, needs_advice, open_policy, or_refusal, own_entry, policy_for, value_for, value_ground}
+pub use Rattle.reg_core.specs.Answer.{Answer, Outcome, admitted, answer, answer_at, as_kind, by_rule, case_by, change_by, change_of, desk_row, expert_answer, item, look_up_answer, made_row, own_answer, own_row, public_answer, reply_of, times_answer, token_answer, unchanged}
 pub use Rattle.reg_core.specs.Ask.{has_ask_form, has_block_form, has_code_form, has_early_ask_form, has_evidence_form, has_note_form, has_permanence_form, has_renewal_form, has_rfc_form, has_want_form, registry_of, same_ask, same_size}
 pub use Rattle.reg_core.specs.Award.{Allowance, Award, AwardedEntry, awarded_entry, entry_on, given_in, holding_from, new_holding, renewed}
+pub use Rattle.reg_core.specs.BlockDue.{is_taken_in}
 pub use Rattle.reg_core.specs.BlocksGiven.{IsDueIn}
 pub use Rattle.reg_core.specs.CapRows.{CapPlace, begins_with, by_account, cap_list, cap_place, cap_place_cmp, cap_row, cap_rows, caps_that, is_of}
 pub use Rattle.reg_core.specs.Capability.{has_cap_form, last_until, same_cap, same_kind}
@@ -57,13 +58,14 @@ pub use Rattle.reg_core.specs.EarlyAllocations.{MovesTerm}
 pub use Rattle.reg_core.specs.Entry.{entry_row, has_day_form, page_entry, registration_in, with_hold}
 pub use Rattle.reg_core.specs.File.{experts_of, file, name_of, opinions_of, same_name, seats_of, waiting, waiting_files, was_advised}
 pub use Rattle.reg_core.specs.FirstRefusals.{Applies, IsAbove, IsNotEarly, IsShut, Lacks, UnderPolicy, line_of, want_of}
-pub use Rattle.reg_core.specs.Holding.{ShownHolding, holder_in, holding_row, holding_rows, listed_rows, masked, masked_blocks, with_mark}
+pub use Rattle.reg_core.specs.Holding.{ShownHolding, has_row_form, holder_in, holding_row, holding_rows, listed_row, listed_rows, masked, masked_blocks, same_holder, with_mark}
 pub use Rattle.reg_core.specs.Item.{item_name}
 pub use Rattle.reg_core.specs.Journal.{act_by, acts_if, acts_in_order, acts_of, acts_where, deed_about, is_about, is_by, is_name_of, is_on, deeds_of, recorded, recorded_if, stamp_of, with_acts}
 pub use Rattle.reg_core.specs.Laws.{GivesDigests, IsAdvised, IsApproved, IsDone, IsOfAsk, IsRenewedIn, StillAsks, StillGiven, StillStands, TakesJust, TwoWorlds, clerk_cap, founded_world, is_refused}
 pub use Rattle.reg_core.specs.LeastFree.{values_in}
 pub use Rattle.reg_core.specs.Link.{agent_rows, has_link_form, principal_names}
-pub use Rattle.reg_core.specs.Lists.{HaveGone, IsOwnRow, IsRow}
+pub use Rattle.reg_core.specs.Lists.{FindsBlock, HasAddress, HaveGone, IsOwnRow, IsRow, ShowsValue}
+pub use Rattle.reg_core.specs.LookUps.{listed_at, listed_in, listed_with, value_row}
 pub use Rattle.reg_core.specs.MayBeGiven.{IsDuly, IsEntry, IsOwnEntry, IsUnder, place_of}
 pub use Rattle.reg_core.specs.Minutes.{ask_with, is_bare, with_minute}
 pub use Rattle.reg_core.specs.Names.{is_digest, is_name, is_token}
@@ -71,7 +73,7 @@ pub use Rattle.reg_core.specs.Page.{entry_rows, page}
 pub use Rattle.reg_core.specs.Queue.{queue_row, queue_rows, with_advice}
 pub use Rattle.reg_core.specs.Registry.{has_table_form}
 pub use Rattle.reg_core.specs.Request.{case_of, has_state_form, is_pending, read_state, request_row, request_rows, state_word}
-pub use Rattle.reg_core.specs.Rules.{advise_rule, agent_rule, all_rule, approve_rule, assign_rule, change_to_give, decline_rule, define_rule, give_rule, grant_rule, has_token, hold_rule, link_rule, mark_rule, new_advice_rule, new_hold_rule, one_rule, pool_rule, private_rule, revoke_account_rule, revoke_digits_rule, revoke_rule, submit_rule, withdraw_rule}
+pub use Rattle.reg_core.specs.Rules.{advise_rule, agent_rule, all_rule, approve_rule, assign_rule, change_to_give, decline_rule, define_rule, give_rule, grant_rule, has_token, hold_rule, link_rule, mark_rule, new_advice_rule, new_hold_rule, one_rule, place_rule, pool_rule, private_rule, revoke_account_rule, revoke_digits_rule, revoke_rule, submit_rule, withdraw_rule}
 pub use Rattle.reg_core.specs.Run.{Event, have_forms, run, step_of, world_after}
 pub use Rattle.reg_core.specs.Step.{Stepped, acts_as_clerk, answer_to, carried, clerk_answer, desk_by, is_clerk, stamp_in, step}
 pub use Rattle.reg_core.specs.Striking.{AreAlikeTo, HasNoneUnseen, ShowSame, StagesAreOfRun, UnseenLeaveNoTrace, HasNoneUnseenActs, acts_without, is_seen, lists_acts, reply_without}
@@ -97,6 +99,7 @@ pub use Rattle.reg_core.specs.declared.command.ApplicantCommand.{ApplicantComman
 pub use Rattle.reg_core.specs.declared.command.ClerkCommand.{ClerkCommand}
 pub use Rattle.reg_core.specs.declared.command.Command.{Command}
 pub use Rattle.reg_core.specs.declared.command.ExpertCommand.{ExpertCommand}
+pub use Rattle.reg_core.specs.declared.command.LookUpCommand.{LookUpCommand}
 pub use Rattle.reg_core.specs.declared.command.PublicCommand.{PublicCommand}
 pub use Rattle.reg_core.specs.declared.command.TimesCommand.{TimesCommand}
 pub use Rattle.reg_core.specs.declared.decide.Decision.{Decision}

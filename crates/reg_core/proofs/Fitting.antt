@@ -7,7 +7,8 @@ use Rattle.reg_core.proofs.Common.{ground_of, holding_asked, Award, awarded_entr
 use Rattle.reg_core.proofs.Common.{holding_from, has_ask_form, last_until, has_cap_form, has_day_form}
 use Rattle.reg_core.proofs.Common.{is_name, is_digest, withdraw_rule, private_rule, agent_rule}
 use Rattle.reg_core.proofs.Common.{decline_rule, hold_rule, assign_rule, advise_rule, change_to_give}
-use Rattle.reg_core.proofs.Common.{approve_rule, define_rule, pool_rule, grant_rule, revoke_rule}
+use Rattle.reg_core.proofs.Common.{approve_rule, define_rule, pool_rule, place_rule, grant_rule}
+use Rattle.reg_core.proofs.Common.{revoke_rule, has_row_form, is_taken_in, leading_24, Holding}
 use Rattle.reg_core.proofs.Common.{revoke_digits_rule, revoke_account_rule, submit_rule, Queued}
 use Rattle.reg_core.proofs.Common.{published, cap_at, WellKept, CanApply, has_grant_form}
 use Rattle.reg_core.proofs.Common.{has_registry_form, has_request_form, World, Link, Place, RequestName}
@@ -18,12 +19,12 @@ use Rattle.std.specs.Prelude.{Option, Some, None, Result, Ok, nat_le, not}
 use Rattle.reg_early.proofs.MomentsHaveDays.{IsDay-utc_day}
 use Rattle.reg_core.specs.Laws.{GivesDigests, ChangesFit, IsOfAsk}
 use Rattle.reg_core.specs.declared.ask.Ask.TheVariants.{Block}
-use Rattle.reg_core.specs.declared.change.Change.TheVariants.{Grant, Revoke, RevokeAll, Define, AddPool, Submit, Close, Assign, Advise, GiveValue, GiveBlock, SetPrivate, SetHold, SetAgent}
+use Rattle.reg_core.specs.declared.change.Change.TheVariants.{Grant, Revoke, RevokeAll, Define, AddPool, Submit, Close, Assign, Advise, GiveValue, GiveBlock, PlaceBlock, SetPrivate, SetHold, SetAgent}
 use Rattle.reg_core.proofs.Allowances.{allowed_duly, allowed_of_ask, allows_block}
 use Rattle.reg_core.proofs.Blocks.{due_is_due}
 use Rattle.reg_core.proofs.Keeping.Changes.{can_grant, can_revoke, can_revoke_all, can_define, can_add_pool, can_submit, can_close, can_assign, can_advise, can_give, can_hold, can_link}
-use Rattle.reg_core.proofs.Keeping.Blocks.{can_give_block, can_mark}
-use Rattle.reg_core.proofs.Outcomes.Deciding.{where_made, Defines, Pools, Grants, Revokes, RevokesOne, RevokesAll, Submits, Withdraws, Lists, Links, Declines, HoldsEntry, Assigns, Advises, Approves, define_decides, pool_decides, grant_decides, revoke_decides, revoke_digits_decides, revoke_account_decides, submit_decides, withdraw_decides, listing_decides, agent_decides, decline_decides, hold_decides, assign_decides, advise_decides, approve_decides}
+use Rattle.reg_core.proofs.Keeping.Blocks.{can_give_block, can_place_block, can_mark}
+use Rattle.reg_core.proofs.Outcomes.Deciding.{where_made, Defines, Pools, PlacesBlock, Grants, Revokes, RevokesOne, RevokesAll, Submits, Withdraws, Lists, Links, Declines, HoldsEntry, Assigns, Advises, Approves, define_decides, pool_decides, place_decides, grant_decides, revoke_decides, revoke_digits_decides, revoke_account_decides, submit_decides, withdraw_decides, listing_decides, agent_decides, decline_decides, hold_decides, assign_decides, advise_decides, approve_decides}
 use Rattle.reg_core.proofs.Outcomes.Dues.{Due, has_change_form, changes_due}
 
 -- a definition that is to be made fits the world that has this registry, or none, under the name
@@ -42,6 +43,20 @@ pool_fits w prefix change kept made =
     where_made (Pools (contains_key w.pool prefix) prefix) _ change
     (pool_decides (contains_key w.pool prefix) prefix) made (CanApply w)
     (λ facts. can_add_pool w prefix kept facts.0 facts.1)
+
+-- a block that is to be given without a request fits the world that has it not, nor one that shares an
+-- address with it, and has its prefix
+pub place_fits : (w : World) (holding : Holding) (change : Change) → WellKept w
+    → has_row_form holding ≡ true
+    → place_rule (get w.blocks holding.block) (is_taken_in w.blocks holding.block)
+    (contains_key w.pool (leading_24 holding.block)) holding ≡ Ok (Make change) → CanApply w change
+place_fits w holding change kept form made =
+    let there = get w.blocks holding.block in
+    let taken = is_taken_in w.blocks holding.block in
+    let pooled = contains_key w.pool (leading_24 holding.block) in
+    where_made (PlacesBlock there taken pooled holding) _ change
+    (place_decides there taken pooled holding) made (CanApply w)
+    (λ facts. can_place_block w holding kept form facts.0 facts.1 facts.2)
 
 -- a grant that is to be made fits the world that has this capability, or none, at the digest
 pub grant_fits : (w : World) (digest : List ℕ) (cap : Cap) (change : Change) → WellKept w
@@ -249,6 +264,8 @@ module _ (w : World) (kept : WellKept w) (caller : Option (List ℕ)) (moment : 
       subst (λ h. CanApply w (GiveBlock account reference h)) is.is
       (can_give_block w (account, reference) is.pending.case is.ask holding.block kept
       is.pending.is_there is.asks is.due)
+  due_fits (PlaceBlock holding) due form =
+      can_place_block w holding kept form due.1 due.2 due.3
   due_fits (SetPrivate block private) due form =
       can_mark w block private due.holder kept due.is_there
   due_fits (SetHold name value held) due form =

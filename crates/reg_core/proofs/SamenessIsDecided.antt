@@ -12,6 +12,7 @@ use Rattle.reg_core.specs.Ask.{same_want, same_code, same_early, same_renewal, s
 use Rattle.reg_core.specs.declared.ask.Want.{Want}
 use Rattle.reg_core.specs.declared.ask.Want.TheVariants.{Value, Least}
 use Rattle.reg_core.specs.Capability.{same_cap, same_kind}
+use Rattle.reg_core.specs.Holding.{same_holder}
 use Rattle.reg_core.specs.Laws.{DecidesSame}
 use Rattle.reg_ranges.specs.Sameness.{same_evidence, same_table}
 use Rattle.reg_ranges.specs.Tables.{Table}
@@ -30,6 +31,7 @@ use Rattle.reg_early.specs.Sameness.{same_early_evidence}
 use Rattle.reg_early.specs.declared.evidence.EarlyEvidence.{EarlyEvidence}
 use Rattle.reg_core.specs.declared.capability.Cap.{Cap}
 use Rattle.reg_core.specs.declared.capability.Kind.{Kind}
+use Rattle.reg_core.specs.declared.holding.Holder.{Holder}
 
 pub same_text-itself : (x : List ℕ) → same_text x x ≡ true
 same_text-itself x = (bytes_eq-Decides x x).1 refl
@@ -60,6 +62,17 @@ same_cap-itself cap = search rules
 
 pub same_cap-decides : DecidesSame same_cap
 same_cap-decides = from_both same_cap same_cap-is same_cap-itself
+
+-- ---- Holders
+
+pub same_holder-is : (a b : Holder) → same_holder a b ≡ true → a ≡ b
+same_holder-is a b = search rules
+
+pub same_holder-itself : (h : Holder) → same_holder h h ≡ true
+same_holder-itself h = search rules
+
+pub same_holder-decides : DecidesSame same_holder
+same_holder-decides = from_both same_holder same_holder-is same_holder-itself
 
 -- ---- Advice
 

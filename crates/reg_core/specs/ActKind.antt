@@ -2,7 +2,7 @@
 use Rattle.std.specs.Prelude.{ℕ, true, false, List, [], ◌∷◌, Option, codes}
 use Rattle.reg_ranges.specs.Words.{read_among}
 use Rattle.reg_core.specs.declared.journal.ActKind.{ActKind}
-use Rattle.reg_core.specs.declared.journal.ActKind.TheVariants.{Grant, Revoke, Define, Pool, Submit, Withdraw, Decline, Assign, Advise, Approve, Private, Public, Hold, Release, Appoint, Dismiss}
+use Rattle.reg_core.specs.declared.journal.ActKind.TheVariants.{Grant, Revoke, Define, Pool, Submit, Withdraw, Decline, Assign, Advise, Approve, Place, Private, Public, Hold, Release, Appoint, Dismiss}
 use Rattle.reg_core.specs.declared.journal.Deed.{Deed}
 use Rattle.reg_core.specs.declared.journal.Deed.TheVariants as did
 
@@ -19,6 +19,7 @@ act_kind_of (did.Assign account reference expert) = Assign
 act_kind_of (did.Advise account reference expert verdict) = Advise
 act_kind_of (did.GiveValue account reference registry value) = Approve
 act_kind_of (did.GiveBlock account reference block) = Approve
+act_kind_of (did.Place holder block) = Place
 act_kind_of (did.Private holder block true) = Private
 act_kind_of (did.Private holder block false) = Public
 act_kind_of (did.Hold name value true) = Hold
@@ -26,11 +27,11 @@ act_kind_of (did.Hold name value false) = Release
 act_kind_of (did.Appoint principal agent true) = Appoint
 act_kind_of (did.Appoint principal agent false) = Dismiss
 
--- all sixteen
+-- all seventeen
 abbrev pub act_kinds : List ActKind
 act_kinds =
     Grant ∷ Revoke ∷ Define ∷ Pool ∷ Submit ∷ Withdraw ∷ Decline ∷ Assign ∷ Advise ∷ Approve
-    ∷ Private ∷ Public ∷ Hold ∷ Release ∷ Appoint ∷ Dismiss ∷ []
+    ∷ Place ∷ Private ∷ Public ∷ Hold ∷ Release ∷ Appoint ∷ Dismiss ∷ []
 
 abbrev pub act_kind_word : ActKind → List ℕ
 act_kind_word Grant = codes "grant"
@@ -43,6 +44,7 @@ act_kind_word Decline = codes "decline"
 act_kind_word Assign = codes "assign"
 act_kind_word Advise = codes "advise"
 act_kind_word Approve = codes "approve"
+act_kind_word Place = codes "place"
 act_kind_word Private = codes "private"
 act_kind_word Public = codes "public"
 act_kind_word Hold = codes "hold"

@@ -211,6 +211,13 @@ block_allowance due account ask = do
   block ← or_refusal no.Exhausted due
   Ok (record { award = new_holding (holding_asked account ask block); needs_advice = false })
 
+-- the least value under a policy, as an ask for it is given it that meets all else
+abbrev pub least_allowed : Ground → Policy → Result ℕ Refusal
+least_allowed rows policy = do
+  table ← or_refusal no.Registry rows.table
+  opened ← policy_for table (Least policy)
+  value_for rows table (Least policy)
+
 -- what an ask is allowed by these rows, its Allowance; or the first refusal that it meets. It has a
 -- line for each kind of ask, and each kind its checks in turn: code_allowance, early_allowance,
 -- renewal_allowance, permanence_allowance, block_allowance

@@ -2,10 +2,12 @@
 use Rattle.std.specs.Prelude.{ℕ, nat_le, List, Option, Some, None, Result, Ok, Err, if◌then◌else◌, option_map}
 use Rattle.std.specs.FinMap.{get, contains_key, keys}
 use Rattle.reg_early.specs.Moment.{is_in_clock, utc_day}
-use Rattle.reg_core.specs.Allowance.{◌>>=◌, or_refusal, allowed}
+use Rattle.reg_ranges.specs.Tables.{treatment_of}
+use Rattle.reg_core.specs.Allowance.{◌>>=◌, or_refusal, allowed, least_allowed, value_ground}
 use Rattle.reg_core.specs.Capability.{same_kind}
 use Rattle.reg_core.specs.Link.{agent_rows, principal_names}
 use Rattle.reg_core.specs.Holding.{holding_row, holding_rows, listed_rows, with_mark}
+use Rattle.reg_core.specs.LookUps.{listed_with, value_row}
 use Rattle.reg_core.specs.Page.{page}
 use Rattle.reg_core.specs.Queue.{queue_row, queue_rows, with_advice}
 use Rattle.reg_core.specs.Request.{request_row, request_rows, after}
@@ -14,18 +16,21 @@ use Rattle.reg_core.specs.Times.{times_of_requests_by, times_rows}
 use Rattle.reg_core.specs.View.{OwnTimes, Published, Queued, Personal, View, requests_by}
 use Rattle.reg_core.specs.World.{RequestName, pending}
 use Rattle.reg_core.specs.declared.ask.Ask.{Ask}
+use Rattle.reg_core.specs.declared.ask.Want.TheVariants as want
 use Rattle.reg_core.specs.declared.capability.Cap.{Cap}
 use Rattle.reg_core.specs.declared.capability.Kind.{Kind}
 use Rattle.reg_core.specs.declared.capability.Kind.TheVariants as kind
 use Rattle.reg_core.specs.declared.change.Change.{Change}
 use Rattle.reg_core.specs.declared.command.Command.{Command}
-use Rattle.reg_core.specs.declared.command.Command.TheVariants.{Public, Token, Applicant, Times, Expert, Clerk}
+use Rattle.reg_core.specs.declared.command.Command.TheVariants.{Public, LookUp, Token, Applicant, Times, Expert, Clerk}
 use Rattle.reg_core.specs.declared.command.ApplicantCommand.{ApplicantCommand}
 use Rattle.reg_core.specs.declared.command.ApplicantCommand.TheVariants.{Own, OwnOne, Submit, Withdraw, Holdings, SetListing, SetAgent, Agents, Principals, PrincipalRows}
 use Rattle.reg_core.specs.declared.command.ExpertCommand.{ExpertCommand}
 use Rattle.reg_core.specs.declared.command.ExpertCommand.TheVariants.{Queue, Advise}
 use Rattle.reg_core.specs.declared.command.PublicCommand.{PublicCommand}
 use Rattle.reg_core.specs.declared.command.PublicCommand.TheVariants.{Registries, Registry, RegistryCsv, PoolList, BlocksCsv}
+use Rattle.reg_core.specs.declared.command.LookUpCommand.{LookUpCommand}
+use Rattle.reg_core.specs.declared.command.LookUpCommand.TheVariants as look
 use Rattle.reg_core.specs.declared.command.TimesCommand.{TimesCommand}
 use Rattle.reg_core.specs.declared.command.TimesCommand.TheVariants as times
 use Rattle.reg_core.specs.declared.told.Told.{Told}
@@ -98,6 +103,19 @@ public_answer p today (RegistryCsv name) = do
   unchanged (tells.Sheet (page p name table today))
 public_answer p today PoolList = unchanged (tells.Pool (keys p.pool))
 public_answer p today BlocksCsv = unchanged (tells.Blocks (listed_rows p.blocks))
+
+-- the answer to what anybody looks up on a day
+abbrev pub look_up_answer : Published → ℕ → LookUpCommand → Answer
+look_up_answer p today (look.Block address) = do
+  row ← or_refusal no.Block (listed_with p.blocks address)
+  unchanged (tells.Block row)
+look_up_answer p today (look.Value name value) = do
+  table ← or_refusal no.Registry (get p.registries name)
+  treatment ← or_refusal no.Range (treatment_of table value)
+  unchanged (tells.Value (value_row today value treatment (get p.entries (name, value))))
+look_up_answer p today (look.Least name policy) = do
+  value ← least_allowed (value_ground p name (want.Least policy)) policy
+  unchanged (tells.Least value)
 
 -- ---- Admission
 
@@ -189,6 +207,7 @@ expert_answer account my (Advise applicant reference advice) = do
 -- kind there, since a clerk is answered over the whole world; told is its reply
 abbrev pub answer_at : View → ℕ → Command → Answer
 answer_at v moment (Public command) = public_answer v.published (utc_day moment) command
+answer_at v moment (LookUp command) = look_up_answer v.published (utc_day moment) command
 answer_at v moment Token = token_answer v.me moment
 answer_at v moment (Applicant command) =
     as_kind kind.Applicant v.me moment (λ account my. own_answer v.published account my command)

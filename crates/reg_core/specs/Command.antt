@@ -8,22 +8,25 @@ use Rattle.reg_core.specs.Names.{is_name, is_token, is_digits}
 use Rattle.reg_core.specs.Advice.{has_advice_form}
 use Rattle.reg_core.specs.Ask.{has_ask_form}
 use Rattle.reg_core.specs.Capability.{has_cap_form}
+use Rattle.reg_core.specs.Holding.{has_row_form}
 use Rattle.reg_core.specs.Registry.{has_table_form}
 use Rattle.reg_core.specs.World.{RequestName}
 use Rattle.reg_core.specs.declared.capability.Cap.{Cap}
 use Rattle.reg_core.specs.declared.capability.Kind.{Kind}
 use Rattle.reg_core.specs.declared.capability.Kind.TheVariants as kind
 use Rattle.reg_core.specs.declared.command.Command.{Command}
-use Rattle.reg_core.specs.declared.command.Command.TheVariants.{Public, Token, Applicant, Times, Expert, Clerk}
+use Rattle.reg_core.specs.declared.command.Command.TheVariants.{Public, LookUp, Token, Applicant, Times, Expert, Clerk}
 use Rattle.reg_core.specs.declared.command.PublicCommand.TheVariants.{Registries, Registry, RegistryCsv, PoolList, BlocksCsv}
+use Rattle.reg_core.specs.declared.command.LookUpCommand.TheVariants as look
 use Rattle.reg_core.specs.declared.command.ApplicantCommand.TheVariants.{Own, OwnOne, Submit, Withdraw, Holdings, SetListing, SetAgent, Agents, Principals, PrincipalRows}
 use Rattle.reg_core.specs.declared.command.ExpertCommand.TheVariants.{Queue, Advise}
 use Rattle.reg_core.specs.declared.command.TimesCommand.TheVariants as times
-use Rattle.reg_core.specs.declared.command.ClerkCommand.TheVariants.{AllRequests, OneRequest, AssignExpert, Approve, Decline, SetHold, Define, AddPool, Grant, Revoke, PendingRequests, AllCapabilities, RevokeDigits, RevokeAccount, CountRows, ActsOn, ActsBy, ActsAbout}
+use Rattle.reg_core.specs.declared.command.ClerkCommand.TheVariants.{AllRequests, OneRequest, AssignExpert, Approve, Decline, SetHold, Define, AddPool, PlaceBlock, Grant, Revoke, PendingRequests, AllCapabilities, RevokeDigits, RevokeAccount, CountRows, ActsOn, ActsBy, ActsAbout}
 
 -- the kind of capability that a command needs; none where it needs none, or any will do
 abbrev pub kind_of : Command → Option Kind
 kind_of (Public command) = None
+kind_of (LookUp command) = None
 kind_of Token = None
 kind_of (Applicant command) = Some kind.Applicant
 kind_of (Times command) = Some kind.Applicant
@@ -33,6 +36,7 @@ kind_of (Clerk command) = Some kind.Clerk
 -- whether it needs a capability
 abbrev pub needs_capability : Command → Bool
 needs_capability (Public command) = false
+needs_capability (LookUp command) = false
 needs_capability command = true
 
 -- whether it asks when requests came
@@ -52,6 +56,7 @@ about by (Public (Registry name)) = None
 about by (Public (RegistryCsv name)) = None
 about by (Public PoolList) = None
 about by (Public BlocksCsv) = None
+about by (LookUp command) = None
 about by Token = None
 about by (Applicant Own) = None
 about by (Applicant (OwnOne reference)) = own_name by reference
@@ -74,6 +79,7 @@ about by (Clerk (Decline account reference reason)) = Some (account, reference)
 about by (Clerk (SetHold name value held)) = None
 about by (Clerk (Define name table)) = None
 about by (Clerk (AddPool prefix)) = None
+about by (Clerk (PlaceBlock holding)) = None
 about by (Clerk (Grant token cap)) = None
 about by (Clerk (Revoke token)) = None
 about by (Clerk PendingRequests) = None
@@ -93,6 +99,9 @@ has_command_form (Public (Registry name)) = is_name name
 has_command_form (Public (RegistryCsv name)) = is_name name
 has_command_form (Public PoolList) = true
 has_command_form (Public BlocksCsv) = true
+has_command_form (LookUp (look.Block address)) = true
+has_command_form (LookUp (look.Value name value)) = is_name name && nat_lt value (2 ^ 32)
+has_command_form (LookUp (look.Least name policy)) = is_name name
 has_command_form Token = true
 has_command_form (Applicant Own) = true
 has_command_form (Applicant (OwnOne reference)) = is_name reference
@@ -119,6 +128,7 @@ has_command_form (Clerk (Decline account reference reason)) =
 has_command_form (Clerk (SetHold name value held)) = is_name name && nat_lt value (2 ^ 32)
 has_command_form (Clerk (Define name table)) = is_name name && has_table_form table
 has_command_form (Clerk (AddPool prefix)) = true
+has_command_form (Clerk (PlaceBlock holding)) = has_row_form holding
 has_command_form (Clerk (Grant token cap)) = is_token token && has_cap_form cap
 has_command_form (Clerk (Revoke token)) = is_token token
 has_command_form (Clerk PendingRequests) = true

@@ -28,6 +28,7 @@ deed_account (did.Assign account reference expert) = Some account
 deed_account (did.Advise account reference expert verdict) = Some account
 deed_account (did.GiveValue account reference registry value) = Some account
 deed_account (did.GiveBlock account reference block) = Some account
+deed_account (did.Place holder block) = Some holder
 deed_account (did.Private holder block private) = Some holder
 deed_account (did.Hold name value held) = None
 deed_account (did.Appoint principal agent reads) = Some principal
@@ -55,6 +56,7 @@ deed_value deed = None
 
 abbrev pub deed_block : Deed → Option SizedPrefix
 deed_block (did.GiveBlock account reference block) = Some block
+deed_block (did.Place holder block) = Some block
 deed_block (did.Private holder block private) = Some block
 deed_block deed = None
 

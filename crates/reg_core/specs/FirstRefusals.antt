@@ -140,8 +140,10 @@ line_of no.Advice = 18
 line_of no.Own = 19
 line_of no.Several = 20
 line_of no.Holding = 21
-line_of no.Exists = 22
-line_of no.Bits = 23
+line_of no.Block = 22
+line_of no.Exists = 23
+line_of no.Pool = 24
+line_of no.Bits = 25
 
 -- the refusal applies, and none that applies stands in an earlier line
 pub record IsFirstRefusal (rows : Ground) (account : List ℕ) (ask : Ask) (refusal : Refusal) :

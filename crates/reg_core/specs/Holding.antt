@@ -1,8 +1,9 @@
 -- Blocks that were given with their holders, and what the public sees of them.
-use Rattle.std.specs.Prelude.{ℕ, Bool, ◌&&◌, not, List, map, Option, Some}
+use Rattle.std.specs.Prelude.{ℕ, Bool, ◌&&◌, not, bytes_eq, List, map, Option, Some}
+use Rattle.std.specs.Bool.{beq}
 use Rattle.std.specs.FinMap.{FinMap, entries}
 use Rattle.reg_maps.specs.Maps.{only_if, select}
-use Rattle.reg_blocks.specs.Block.{SizedPrefix, block_cmp}
+use Rattle.reg_blocks.specs.Block.{SizedPrefix, block_cmp, is_block}
 use Rattle.reg_ranges.specs.Texts.{is_text}
 use Rattle.reg_core.specs.Names.{is_name}
 use Rattle.reg_core.specs.declared.holding.Holder.{Holder}
@@ -34,11 +35,25 @@ holding_rows m = map (λ e. holding_row e.0 e.1) (entries m)
 abbrev pub with_mark : Bool → Holder → Holder
 with_mark private h = record h { private = private }
 
+-- two holders are the same
+abbrev pub same_holder : Holder → Holder → Bool
+same_holder a b =
+    bytes_eq a.account b.account
+    && (bytes_eq a.organization b.organization
+    && (bytes_eq a.address b.address && beq a.private b.private))
+
 -- ---- Forms
 
 -- the account, the organization and the address of a holder have their forms
 abbrev pub has_holder_form : Holder → Bool
 has_holder_form h = is_name h.account && is_text h.organization && is_text h.address
+
+-- a block and its holder have their forms
+abbrev pub has_holding_form : SizedPrefix → Holder → Bool
+has_holding_form block h = is_block block && has_holder_form h
+
+abbrev pub has_row_form : Holding → Bool
+has_row_form row = has_holding_form row.block (holder_in row)
 
 -- ---- What the public sees
 

@@ -12,7 +12,7 @@ use Rattle.reg_core.specs.World.{World, RequestName, applied}
 use Rattle.reg_core.specs.declared.capability.Cap.{Cap}
 use Rattle.reg_core.specs.declared.capability.CapRow.{CapRow}
 use Rattle.reg_core.specs.declared.change.Change.{Change}
-use Rattle.reg_core.specs.declared.change.Change.TheVariants.{Grant, Revoke, RevokeAll, Define, AddPool, Submit, Close, Assign, Advise, GiveValue, GiveBlock, SetPrivate, SetHold, SetAgent}
+use Rattle.reg_core.specs.declared.change.Change.TheVariants.{Grant, Revoke, RevokeAll, Define, AddPool, Submit, Close, Assign, Advise, GiveValue, GiveBlock, PlaceBlock, SetPrivate, SetHold, SetAgent}
 use Rattle.reg_core.specs.declared.holding.Holder.{Holder}
 use Rattle.reg_core.specs.declared.journal.Act.{Act}
 use Rattle.reg_core.specs.declared.journal.Actor.{Actor}
@@ -79,6 +79,7 @@ deeds_of caps blocks (GiveValue account reference entry) =
     did.GiveValue account reference entry.registry entry.value ∷ []
 deeds_of caps blocks (GiveBlock account reference holding) =
     did.GiveBlock account reference holding.block ∷ []
+deeds_of caps blocks (PlaceBlock holding) = did.Place holding.holder holding.block ∷ []
 deeds_of caps blocks (SetPrivate block private) = marked block private (get blocks block)
 deeds_of caps blocks (SetHold name value held) = did.Hold name value held ∷ []
 deeds_of caps blocks (SetAgent principal agent reads) = did.Appoint principal agent reads ∷ []
@@ -126,6 +127,7 @@ deed_about (did.Assign account reference expert) = Some (account, reference)
 deed_about (did.Advise account reference expert verdict) = Some (account, reference)
 deed_about (did.GiveValue account reference registry value) = Some (account, reference)
 deed_about (did.GiveBlock account reference block) = Some (account, reference)
+deed_about (did.Place holder block) = None
 deed_about (did.Private holder block private) = None
 deed_about (did.Hold name value held) = None
 deed_about (did.Appoint principal agent reads) = None

@@ -7,7 +7,7 @@ use Rattle.reg_blocks.specs.Pool.{is_pool_prefix}
 use Rattle.reg_early.specs.Calendar.{IsDay, year_after}
 use Rattle.reg_early.specs.declared.term.Term.{Term}
 use Rattle.reg_early.specs.Moment.{is_in_clock, utc_day}
-use Rattle.reg_core.specs.Allowance.{allowance_on, allowed, ground_of, needs_advice}
+use Rattle.reg_core.specs.Allowance.{allowance_on, allowed, ground_of, least_allowed, needs_advice, value_ground}
 use Rattle.reg_core.specs.Answer.{change_of}
 use Rattle.reg_core.specs.Award.{Award, for_good, early, renewed, settled, awarded_entry, new_holding, Allowance, given_in}
 use Rattle.reg_ranges.specs.Tables.{Table}
@@ -15,7 +15,7 @@ use Rattle.reg_core.specs.CapRows.{begins_with, is_of, cap_row, caps_that}
 use Rattle.reg_core.specs.Capability.{last_until}
 use Rattle.reg_core.specs.Counting.{counts}
 use Rattle.reg_core.specs.Command.{asks_for_times, needs_capability, has_command_form}
-use Rattle.reg_core.specs.Lists.{CapList, HaveGone, WaitingList, TimesList, Shows, BlockList, IsRow, IsOwnRow, IsFile, IsItem, OwnList, HasHoldingOf, HoldingList, QueueList, AccountList, ShowsMark, SaidOfAgent}
+use Rattle.reg_core.specs.Lists.{CapList, FindsBlock, HaveGone, HasHolding, ShowsValue, WaitingList, TimesList, Shows, BlockList, IsRow, IsOwnRow, IsFile, IsItem, OwnList, HasHoldingOf, HoldingList, QueueList, AccountList, ShowsMark, SaidOfAgent}
 use Rattle.reg_core.specs.Journal.{acts_where, is_about, is_by, is_on, recorded, stamp_of_job}
 use Rattle.reg_core.specs.Names.{is_token, is_digest}
 use Rattle.reg_core.specs.Request.{is_pending, request_rows}
@@ -29,6 +29,7 @@ use Rattle.reg_core.specs.declared.advice.Advice.{Advice}
 use Rattle.reg_core.specs.declared.advice.Verdict.TheVariants.{For}
 use Rattle.reg_core.specs.declared.ask.Ask.{Ask}
 use Rattle.reg_core.specs.declared.ask.Ask.TheVariants.{Code, Early, Renew, Permanent, Block}
+use Rattle.reg_core.specs.declared.ask.Want.TheVariants as want
 use Rattle.reg_core.specs.declared.capability.Cap.{Cap}
 use Rattle.reg_core.specs.declared.capability.CapRow.{CapRow}
 use Rattle.reg_core.specs.declared.capability.Kind.TheVariants as kind
@@ -36,14 +37,15 @@ use Rattle.reg_core.specs.declared.change.Change.{Change}
 use Rattle.reg_core.specs.declared.change.Change.TheVariants.{Grant as GrantIt}
 use Rattle.reg_core.specs.declared.command.ClerkCommand.{ClerkCommand}
 use Rattle.reg_core.specs.declared.command.Command.{Command}
-use Rattle.reg_core.specs.declared.command.Command.TheVariants.{Public, Token, Applicant, Times, Expert, Clerk}
+use Rattle.reg_core.specs.declared.command.Command.TheVariants.{Public, LookUp, Token, Applicant, Times, Expert, Clerk}
+use Rattle.reg_core.specs.declared.command.LookUpCommand.TheVariants as look
 use Rattle.reg_core.specs.declared.command.TimesCommand.TheVariants as times
 use Rattle.reg_core.specs.declared.command.ApplicantCommand.TheVariants.{Own, OwnOne, Submit, Withdraw, Holdings as OwnHoldings, SetListing, SetAgent, Agents, Principals, PrincipalRows}
 use Rattle.reg_core.specs.declared.command.ExpertCommand.TheVariants.{Queue, Advise}
-use Rattle.reg_core.specs.declared.command.ClerkCommand.TheVariants.{AllRequests, OneRequest, AssignExpert, Approve, Decline, SetHold, Define, AddPool, Grant, Revoke, PendingRequests, AllCapabilities, RevokeDigits, RevokeAccount, CountRows, ActsOn, ActsBy, ActsAbout}
+use Rattle.reg_core.specs.declared.command.ClerkCommand.TheVariants.{AllRequests, OneRequest, AssignExpert, Approve, Decline, SetHold, Define, AddPool, PlaceBlock, Grant, Revoke, PendingRequests, AllCapabilities, RevokeDigits, RevokeAccount, CountRows, ActsOn, ActsBy, ActsAbout}
 use Rattle.reg_core.specs.declared.command.PublicCommand.TheVariants.{Registries, Registry, RegistryCsv, PoolList, BlocksCsv}
 use Rattle.reg_core.specs.declared.told.Told.{Told}
-use Rattle.reg_core.specs.declared.told.Told.TheVariants.{Names, Page, Sheet, Pool, Blocks, Made, Row, Rows, Times as TimesOf, Held, Holdings, Agent, Accounts, Item, Items, Desk, Desks, Filed, Marked, Defined, Pooled, Granted, InUse, Revoked, Waiting, Capabilities, Counts, Acts, ActsAbout as ActsOf}
+use Rattle.reg_core.specs.declared.told.Told.TheVariants.{Names, Page, Sheet, Pool, Blocks, Block as BlockOf, Value as ValueOf, Least as LeastOf, Made, Row, Rows, Times as TimesOf, Held, Holdings, Agent, Accounts, Item, Items, Desk, Desks, Filed, Marked, Defined, Pooled, Placed, Granted, InUse, Revoked, Waiting, Capabilities, Counts, Acts, ActsAbout as ActsOf}
 use Rattle.reg_core.specs.declared.holding.Holder.{Holder}
 use Rattle.reg_core.specs.declared.refusal.Refusal.{Refusal}
 use Rattle.reg_core.specs.declared.reply.Reply.{Reply}
@@ -131,6 +133,11 @@ IsDone digest_of w by moment (Public (RegistryCsv name)) (Sheet page) =
 IsDone digest_of w by moment (Public PoolList) (Pool prefixes) = prefixes ≡ keys w.pool
 IsDone digest_of w by moment (Public BlocksCsv) (Blocks rows) =
     BlockList w rows
+IsDone digest_of w by moment (LookUp (look.Block address)) (BlockOf row) = FindsBlock w address row
+IsDone digest_of w by moment (LookUp (look.Value name value)) (ValueOf row) =
+    ShowsValue w name value (utc_day moment) row
+IsDone digest_of w by moment (LookUp (look.Least name policy)) (LeastOf value) =
+    least_allowed (value_ground (published w) name (want.Least policy)) policy ≡ Ok value
 IsDone digest_of w by moment Token (InUse cap) = by ≡ Some cap
 IsDone digest_of w by moment (Applicant Own) (Rows rows) =
     (cap : Cap) × (by ≡ Some cap) × OwnList w cap.account rows
@@ -182,6 +189,8 @@ IsDone digest_of w by moment (Clerk (Define name table)) (Defined given) =
     (given ≡ name) × (get w.registries name ≡ Some table)
 IsDone digest_of w by moment (Clerk (AddPool prefix)) (Pooled given) =
     (given ≡ prefix) × (is_pool_prefix prefix ≡ true) × (contains_key w.pool prefix ≡ true)
+IsDone digest_of w by moment (Clerk (PlaceBlock holding)) (Placed given) =
+    (given ≡ holding) × HasHolding w holding
 IsDone digest_of w by moment (Clerk (Grant token cap)) (Granted given) =
     (given ≡ cap) × (get w.caps (digest_of token) ≡ Some cap)
 IsDone digest_of w by moment (Clerk (Revoke token)) Revoked = get w.caps (digest_of token) ≡ None

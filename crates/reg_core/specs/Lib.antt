@@ -22,6 +22,7 @@ pub mod Counting
 pub mod Page
 pub mod FirstRefusals
 pub mod LeastFree
+pub mod LookUps
 pub mod Lists
 pub mod BlockDue
 pub mod Award
@@ -36,6 +37,7 @@ pub mod Striking
 pub mod Laws
 pub mod JournalLaws
 pub mod MayBeGiven
+pub mod LookUpLaws
 pub mod BlocksGiven
 pub mod EarlyAllocations
 pub mod Agents

@@ -1,15 +1,17 @@
 -- What an office lists and shows, row by row.
-use Rattle.std.specs.Prelude.{◌≡◌, ◌<◌, ◌≤◌, ℕ, Bool, true, false, List, map, Option, Some, None, IsSome, All, Contains}
+use Rattle.std.specs.Prelude.{◌≡◌, ◌<◌, ◌≤◌, ℕ, Bool, true, false, List, map, Option, Some, None, IsSome, option_map, All, Contains}
 use Rattle.std.specs.FinMap.{get, contains_key}
 use Rattle.std.specs.List.Sorted.{IsStrictlySortedBy, IsStrictlyIncreasing}
 use Rattle.reg_maps.specs.Maps.{text_cmp}
-use Rattle.reg_blocks.specs.Block.{SizedPrefix, block_cmp}
+use Rattle.reg_blocks.specs.Block.{SizedPrefix, IsAddressOf, block_cmp}
 use Rattle.reg_early.specs.declared.term.Status.TheVariants as status
+use Rattle.reg_ranges.specs.Tables.{Table, treatment_of}
 use Rattle.reg_core.specs.Arrivals.{arrival_cmp}
 use Rattle.reg_core.specs.CapRows.{cap_place, cap_place_cmp, cap_row}
 use Rattle.reg_core.specs.Entry.{page_entry}
 use Rattle.reg_core.specs.File.{experts_of, name_of, opinions_of}
-use Rattle.reg_core.specs.Holding.{holder_in, holding_row, holding_rows, listed_rows}
+use Rattle.reg_core.specs.Holding.{holder_in, holding_row, holding_rows, listed_row, listed_rows, masked}
+use Rattle.reg_core.specs.LookUps.{listed_with}
 use Rattle.reg_core.specs.Page.{page_entries}
 use Rattle.reg_core.specs.Queue.{queue_rows}
 use Rattle.reg_core.specs.Request.{case_of, is_pending, request_rows, word_of}
@@ -20,6 +22,7 @@ use Rattle.reg_core.specs.declared.capability.Cap.{Cap}
 use Rattle.reg_core.specs.declared.capability.CapRow.{CapRow}
 use Rattle.reg_core.specs.declared.entry.PageEntry.{PageEntry}
 use Rattle.reg_core.specs.declared.entry.Registration.{Registration}
+use Rattle.reg_core.specs.declared.entry.ValueRow.{ValueRow}
 use Rattle.reg_core.specs.declared.case_file.CaseFile.{CaseFile}
 use Rattle.reg_core.specs.declared.case_file.WaitingFile.{WaitingFile}
 use Rattle.reg_core.specs.declared.holding.Holder.{Holder}
@@ -103,6 +106,29 @@ pub record BlockList (w : World) (rows : List Listed) : Type 0 where
       → (row : Listed) × Contains rows row × (row.block ≡ block) × ShowsHolder h row
   -- they ascend by first address, so no block has two
   pub ascending : IsStrictlySortedBy block_cmp (map (λ row. row.block) rows)
+
+-- ---- Look-ups
+
+-- the row is of a block that was given and has this address, as the public sees it
+pub record HasAddress (w : World) (address : ℕ) (row : Listed) : Type 0 where
+  pub address_of : IsAddressOf address row.block
+  pub holder : Holder
+  pub given : get w.blocks row.block ≡ Some holder
+  pub shown : row ≡ listed_row row.block (masked holder)
+
+-- and it is the one that is found among the published ones
+pub record FindsBlock (w : World) (address : ℕ) (row : Listed) : Type 0 where
+  pub viewed : listed_with (published w).blocks address ≡ Some row
+  pub has : HasAddress w address row
+
+-- the row is of this value of the registry: as its range is treated, and with its entry as it is on the
+-- day, if it has one
+pub record ShowsValue (w : World) (name : List ℕ) (value today : ℕ) (row : ValueRow) : Type 0 where
+  pub table : Table
+  pub registry : get w.registries name ≡ Some table
+  pub range : treatment_of table value ≡ Some row.treatment
+  pub value_is : row.value ≡ value
+  pub entry : row.entry ≡ option_map (page_entry today value) (get w.entries (name, value))
 
 -- ---- Requests
 

@@ -6,7 +6,7 @@ use Rattle.reg_ranges.specs.Texts.{is_text}
 use Rattle.reg_ranges.specs.Words.{read_among}
 use Rattle.reg_core.specs.World.{RequestName, name_cmp, in_state}
 use Rattle.reg_core.specs.declared.change.Change.{Change}
-use Rattle.reg_core.specs.declared.change.Change.TheVariants.{Grant, Revoke, RevokeAll, Define, AddPool, Submit, Close, Assign, Advise, GiveValue, GiveBlock, SetPrivate, SetHold, SetAgent}
+use Rattle.reg_core.specs.declared.change.Change.TheVariants.{Grant, Revoke, RevokeAll, Define, AddPool, Submit, Close, Assign, Advise, GiveValue, GiveBlock, PlaceBlock, SetPrivate, SetHold, SetAgent}
 use Rattle.reg_core.specs.declared.request.Case.{Case}
 use Rattle.reg_core.specs.declared.request.Given.{Given}
 use Rattle.reg_core.specs.declared.request.Given.TheVariants.{Value, Block}
@@ -84,6 +84,7 @@ state_by (Assign account reference expert) = None
 state_by (Advise account reference expert advice) = None
 state_by (GiveValue account reference entry) = Some (Approved (Value entry.value))
 state_by (GiveBlock account reference holding) = Some (Approved (Block holding.block))
+state_by (PlaceBlock holding) = None
 state_by (SetPrivate block private) = None
 state_by (SetHold name value held) = None
 state_by (SetAgent principal agent reads) = None

@@ -15,19 +15,22 @@ use Rattle.reg_core.specs.Allowance.{Ground, allowance_on}
 use Rattle.reg_core.specs.Ask.{same_ask}
 use Rattle.reg_core.specs.Award.{Award, awarded_entry, new_holding, Allowance, entry_on, holding_from}
 use Rattle.reg_core.specs.Capability.{same_cap}
+use Rattle.reg_core.specs.Holding.{holder_in, same_holder}
 use Rattle.reg_core.specs.World.{RequestName, Place, Link}
 use Rattle.reg_core.specs.declared.advice.Advice.{Advice as AdviceOf}
 use Rattle.reg_core.specs.declared.ask.Ask.{Ask}
 use Rattle.reg_core.specs.declared.capability.Cap.{Cap}
 use Rattle.reg_core.specs.declared.capability.CapRow.{CapRow}
 use Rattle.reg_core.specs.declared.change.Change.{Change}
-use Rattle.reg_core.specs.declared.change.Change.TheVariants.{Grant, Revoke, RevokeAll, Define, AddPool, Submit, Close, Assign, Advise, GiveValue, GiveBlock, SetPrivate, SetHold, SetAgent}
+use Rattle.reg_core.specs.declared.change.Change.TheVariants.{Grant, Revoke, RevokeAll, Define, AddPool, Submit, Close, Assign, Advise, GiveValue, GiveBlock, PlaceBlock, SetPrivate, SetHold, SetAgent}
 use Rattle.reg_core.specs.declared.decide.Decision.{Decision}
 use Rattle.reg_core.specs.declared.decide.Decision.TheVariants.{Make, Same}
 use Rattle.reg_core.specs.declared.decide.Deny.{Deny}
 use Rattle.reg_core.specs.declared.decide.Deny.TheVariants.{Refused, Memory}
+use Rattle.reg_core.specs.declared.holding.Holder.{Holder}
+use Rattle.reg_core.specs.declared.holding.Holding.{Holding}
 use Rattle.reg_core.specs.declared.refusal.Refusal.{Refusal}
-use Rattle.reg_core.specs.declared.refusal.Refusal.TheVariants.{Ref, Closed, Permanent, Expired, Advice, Own, Several, Exists, Bits}
+use Rattle.reg_core.specs.declared.refusal.Refusal.TheVariants.{Ref, Closed, Permanent, Expired, Taken, Advice, Own, Several, Exists, Pool, Bits}
 use Rattle.reg_core.specs.declared.request.Case.{Case}
 use Rattle.reg_core.specs.declared.request.Given.{Given}
 use Rattle.reg_core.specs.declared.request.State.{State}
@@ -151,6 +154,15 @@ pool_rule there prefix =
     if not (is_pool_prefix prefix) then Err Bits
     else if there then Ok Same
     else Ok (Make (AddPool prefix))
+
+-- a block is given to a holder at its place, which is free and of the pool; one that is there keeps
+-- its holder
+abbrev pub place_rule : Option Holder → Bool → Bool → Holding → Result Decision Refusal
+place_rule (Some old) taken pooled holding =
+    if same_holder old (holder_in holding) then Ok Same else Err Exists
+place_rule None true pooled holding = Err Taken
+place_rule None false false holding = Err Pool
+place_rule None false true holding = Ok (Make (PlaceBlock holding))
 
 abbrev pub grant_rule : Option Cap → List ℕ → Cap → Result Decision Refusal
 grant_rule None digest cap = Ok (Make (Grant digest cap))

@@ -3,11 +3,13 @@ use Rattle.std.specs.Prelude.{ℕ, Bool, false, ◌&&◌, nat_lt, List, Option, 
 use Rattle.std.specs.FinMap.{get, contains_key}
 use Rattle.reg_core.specs.Allowance.{◌>>=◌, or_refusal, ground_of}
 use Rattle.reg_core.specs.Answer.{Answer, reply_of, change_of, unchanged, by_rule, case_by, desk_row, answer}
+use Rattle.reg_blocks.specs.Block.{leading_24}
+use Rattle.reg_core.specs.BlockDue.{is_taken_in}
 use Rattle.reg_core.specs.CapRows.{begins_with, is_of, cap_list, caps_that}
 use Rattle.reg_core.specs.Capability.{same_kind}
 use Rattle.reg_core.specs.Counting.{counts}
 use Rattle.reg_core.specs.Entry.{page_entry, with_hold}
-use Rattle.reg_core.specs.Rules.{assign_rule, approve_rule, decline_rule, hold_rule, define_rule, pool_rule, grant_rule, revoke_rule, revoke_digits_rule, revoke_account_rule}
+use Rattle.reg_core.specs.Rules.{assign_rule, approve_rule, decline_rule, hold_rule, define_rule, pool_rule, place_rule, grant_rule, revoke_rule, revoke_digits_rule, revoke_account_rule}
 use Rattle.reg_core.specs.Arrivals.{waiting_list}
 use Rattle.reg_core.specs.Journal.{acts_where, is_about, is_by, is_on, stamp_of, recorded_if}
 use Rattle.reg_core.specs.View.{published, view_of, cap_at}
@@ -21,7 +23,7 @@ use Rattle.reg_core.specs.declared.change.Change.{Change}
 use Rattle.reg_core.specs.declared.command.Command.{Command}
 use Rattle.reg_core.specs.declared.command.Command.TheVariants as command
 use Rattle.reg_core.specs.declared.command.ClerkCommand.{ClerkCommand}
-use Rattle.reg_core.specs.declared.command.ClerkCommand.TheVariants.{AllRequests, OneRequest, AssignExpert, Approve, Decline, SetHold, Define, AddPool, Grant, Revoke, PendingRequests, AllCapabilities, RevokeDigits, RevokeAccount, CountRows, ActsOn, ActsBy, ActsAbout}
+use Rattle.reg_core.specs.declared.command.ClerkCommand.TheVariants.{AllRequests, OneRequest, AssignExpert, Approve, Decline, SetHold, Define, AddPool, PlaceBlock, Grant, Revoke, PendingRequests, AllCapabilities, RevokeDigits, RevokeAccount, CountRows, ActsOn, ActsBy, ActsAbout}
 use Rattle.reg_core.specs.declared.told.Told.{Told}
 use Rattle.reg_core.specs.declared.told.Told.TheVariants as tells
 use Rattle.reg_core.specs.declared.decide.Decision.{Decision}
@@ -91,6 +93,9 @@ module _ (digest_of : List ℕ → List ℕ) where
       by_rule (define_rule (get w.registries name) name table) (λ decision. tells.Defined name)
   clerk_answer w in_use moment today (AddPool prefix) =
       by_rule (pool_rule (contains_key w.pool prefix) prefix) (λ decision. tells.Pooled prefix)
+  clerk_answer w in_use moment today (PlaceBlock holding) =
+      by_rule (place_rule (get w.blocks holding.block) (is_taken_in w.blocks holding.block)
+      (contains_key w.pool (leading_24 holding.block)) holding) (λ decision. tells.Placed holding)
   clerk_answer w in_use moment today (Grant token cap) =
       by_rule (grant_rule (get w.caps (digest_of token)) (digest_of token) cap)
       (λ decision. tells.Granted cap)
@@ -125,6 +130,8 @@ module _ (digest_of : List ℕ → List ℕ) where
   abbrev pub answer_to : World → Option (List ℕ) → ℕ → Command → Answer
   answer_to w caller moment (command.Public given) =
       answer (view_of w caller) moment (command.Public given)
+  answer_to w caller moment (command.LookUp given) =
+      answer (view_of w caller) moment (command.LookUp given)
   answer_to w caller moment command.Token = answer (view_of w caller) moment command.Token
   answer_to w caller moment (command.Applicant given) =
       answer (view_of w caller) moment (command.Applicant given)

@@ -67,6 +67,7 @@ reveals account name (change.GiveValue applicant reference entry) =
     same_name (applicant, reference) name
 reveals account name (change.GiveBlock applicant reference holding) =
     same_name (applicant, reference) name
+reveals account name (change.PlaceBlock holding) = false
 reveals account name (change.SetPrivate block private) = false
 reveals account name (change.SetHold registry value held) = false
 reveals account name (change.SetAgent principal agent reads) =

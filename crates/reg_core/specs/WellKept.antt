@@ -2,7 +2,7 @@
 use Rattle.std.specs.Prelude.{◌≡◌, ◌^◌, Bool, true, false, ◌&&◌, not, nat_lt, List, ℕ, Option, Some, None, IsSome, is_ok}
 use Rattle.std.specs.FinMap.{FinMap, get, contains_key}
 use Rattle.reg_maps.specs.Maps.{same_text}
-use Rattle.reg_blocks.specs.Block.{SizedPrefix, Clash, block_cmp, is_block, leading_24}
+use Rattle.reg_blocks.specs.Block.{SizedPrefix, Clash, block_cmp, leading_24}
 use Rattle.reg_blocks.specs.Pool.{is_pool_prefix}
 use Rattle.reg_blocks.specs.declared.size.Size.{Size}
 use Rattle.reg_early.specs.Terms.{may_be_held}
@@ -13,7 +13,7 @@ use Rattle.reg_core.specs.Capability.{has_cap_form}
 use Rattle.reg_core.specs.Allowance.{open_policy}
 use Rattle.reg_core.specs.Entry.{has_registration_form}
 use Rattle.reg_core.specs.Link.{has_link_form}
-use Rattle.reg_core.specs.Holding.{has_holder_form}
+pub use Rattle.reg_core.specs.Holding.{has_holding_form}
 use Rattle.reg_core.specs.Request.{has_state_form}
 use Rattle.reg_core.specs.Names.{is_name, is_digest}
 use Rattle.reg_core.specs.Registry.{has_table_form}
@@ -21,7 +21,7 @@ use Rattle.reg_core.specs.World.{World, RequestName, Place, place_cmp, Seat, Lin
 use Rattle.reg_core.specs.declared.advice.Advice.{Advice}
 use Rattle.reg_core.specs.declared.capability.Cap.{Cap}
 use Rattle.reg_core.specs.declared.change.Change.{Change}
-use Rattle.reg_core.specs.declared.change.Change.TheVariants.{Grant, Revoke, RevokeAll, Define, AddPool, Submit, Close, Assign, Advise, GiveValue, GiveBlock, SetPrivate, SetHold, SetAgent}
+use Rattle.reg_core.specs.declared.change.Change.TheVariants.{Grant, Revoke, RevokeAll, Define, AddPool, Submit, Close, Assign, Advise, GiveValue, GiveBlock, PlaceBlock, SetPrivate, SetHold, SetAgent}
 use Rattle.reg_core.specs.declared.request.Case.{Case}
 use Rattle.reg_core.specs.declared.ask.Ask.{Ask}
 use Rattle.reg_core.specs.declared.ask.Ask.TheVariants.{Block}
@@ -31,8 +31,7 @@ use Rattle.reg_core.specs.declared.request.Given.TheVariants as given
 use Rattle.reg_core.specs.declared.request.State.{State}
 use Rattle.reg_core.specs.declared.request.State.TheVariants.{Pending, Approved, Declined, Withdrawn}
 
--- each row has its form: a capability at its digest, a registry, an entry, a block's holder, a
--- request
+-- each row has its form: a capability at its digest, a registry, an entry, a request
 abbrev pub has_grant_form : List ℕ → Cap → Bool
 has_grant_form digest cap = is_digest digest && has_cap_form cap
 
@@ -41,9 +40,6 @@ has_registry_form name table = is_name name && has_table_form table
 
 abbrev pub has_entry_form : Place → Registration → Bool
 has_entry_form place a = is_name place.0 && nat_lt place.1 (2 ^ 32) && has_registration_form a
-
-abbrev pub has_holding_form : SizedPrefix → Holder → Bool
-has_holding_form block h = is_block block && has_holder_form h
 
 abbrev pub has_request_form : RequestName → Case → Bool
 has_request_form name case =
@@ -145,6 +141,7 @@ ChangeIsNew w (Advise account reference expert advice) = Unit {0}
 ChangeIsNew w (GiveValue account reference entry) = IsSome (get w.requests (account, reference))
 ChangeIsNew w (GiveBlock account reference holding) =
     IsSome (get w.requests (account, reference)) × (get w.blocks holding.block ≡ None)
+ChangeIsNew w (PlaceBlock holding) = get w.blocks holding.block ≡ None
 ChangeIsNew w (SetPrivate block private) = IsSome (get w.blocks block)
 ChangeIsNew w (SetHold name value held) =
     (a : Registration) × (get w.entries (name, value) ≡ Some a) × (a.term.held ≡ not held)

@@ -14,7 +14,7 @@ use Rattle.reg_core.specs.declared.advice.Advice.{Advice}
 use Rattle.reg_core.specs.declared.ask.Ask.{Ask}
 use Rattle.reg_core.specs.declared.capability.Cap.{Cap}
 use Rattle.reg_core.specs.declared.change.Change.{Change}
-use Rattle.reg_core.specs.declared.change.Change.TheVariants.{Grant, Revoke, RevokeAll, Define, AddPool, Submit, Close, Assign, Advise, GiveValue, GiveBlock, SetPrivate, SetHold, SetAgent}
+use Rattle.reg_core.specs.declared.change.Change.TheVariants.{Grant, Revoke, RevokeAll, Define, AddPool, Submit, Close, Assign, Advise, GiveValue, GiveBlock, PlaceBlock, SetPrivate, SetHold, SetAgent}
 use Rattle.reg_core.specs.declared.request.Case.{Case}
 use Rattle.reg_core.specs.declared.request.State.{State}
 use Rattle.reg_core.specs.declared.request.State.TheVariants.{Pending, Approved}
@@ -131,6 +131,8 @@ applied w (GiveBlock account reference holding) =
     record (with_state w (account, reference) (Approved (Block holding.block))) {
       blocks = insert w.blocks holding.block (holder_in holding);
     }
+applied w (PlaceBlock holding) =
+    record w { blocks = insert w.blocks holding.block (holder_in holding) }
 applied w (SetPrivate block private) =
     record w { blocks = update w.blocks block (with_mark private) }
 applied w (SetHold name value held) =

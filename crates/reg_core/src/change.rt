@@ -39,6 +39,8 @@ pub enum Change {
     GiveValue(Account, Ref, Entry),
     /// Approves a request and adds the block that it is given, with its holder.
     GiveBlock(Account, Ref, Holding),
+    /// Adds a block with its holder, without a request.
+    PlaceBlock(Holding),
     /// Marks the holder of a block as private, or as not private.
     SetPrivate(Block, bool),
     /// Marks the entry at a value of a registry as held, or as not held.
@@ -66,6 +68,7 @@ impl Change {
             | Change::AddPool(_)
             | Change::Assign(_, _, _)
             | Change::Advise(_, _, _, _)
+            | Change::PlaceBlock(_)
             | Change::SetPrivate(_, _)
             | Change::SetHold(_, _, _)
             | Change::SetAgent(_, _, _) => Ok(None),

@@ -5,9 +5,11 @@ ghost use Rattle.reg_core.specs.Command.{kind_of};
 use crate::advice::Advice;
 use crate::ask::Ask;
 use crate::capability::{Cap, Kind};
+use crate::holding::Holding;
 use crate::text::{Account, Digits, Name, Ref, Text, Token};
 use reg_blocks::block::Block;
 use reg_early::day::Day;
+use reg_ranges::policy::Policy;
 use reg_ranges::table::RangeTable;
 
 /// What a caller asks the office to do, by whose command it is.
@@ -15,6 +17,8 @@ use reg_ranges::table::RangeTable;
 pub enum Command {
     /// Anybody's, with any token or none.
     Public(PublicCommand),
+    /// Anybody's, too: looks up one thing in what is published.
+    LookUp(LookUpCommand),
     /// Looks at the capability of its own token: that of anybody with a valid token.
     Token,
     Applicant(ApplicantCommand),
@@ -37,6 +41,17 @@ pub enum PublicCommand {
     PoolList,
     /// Lists the blocks that were given as a table.
     BlocksCsv,
+}
+
+/// What anybody may look up in what is published.
+#[derive(Clone, Copy)]
+pub enum LookUpCommand {
+    /// The block that has an address. None has a number of more than 48 bits.
+    Block(u64),
+    /// A value of a registry.
+    Value(Name, u32),
+    /// The least value of a registry that an ask for it under a policy would be given.
+    Least(Name, Policy),
 }
 
 /// What an applicant may ask, of its own account.
@@ -104,6 +119,8 @@ pub enum ClerkCommand {
     Define(Name, RangeTable),
     /// Adds a prefix of 24 bits to the pool.
     AddPool(u32),
+    /// Gives a block to a holder, without a request.
+    PlaceBlock(Holding),
     /// Gives a token a capability.
     Grant(Token, Cap),
     /// Takes a token's capability away.
@@ -133,7 +150,7 @@ impl Command {
         ensures { result ≡ kind_of self.now }
     {
         match self {
-            Command::Public(_) | Command::Token => None,
+            Command::Public(_) | Command::LookUp(_) | Command::Token => None,
             Command::Applicant(_) | Command::Times(_) => Some(Kind::Applicant),
             Command::Expert(_) => Some(Kind::Expert),
             Command::Clerk(_) => Some(Kind::Clerk),

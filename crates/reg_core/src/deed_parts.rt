@@ -23,6 +23,7 @@ impl Deed {
             | Deed::Advise(account, _, _, _)
             | Deed::GiveValue(account, _, _, _)
             | Deed::GiveBlock(account, _, _)
+            | Deed::Place(account, _)
             | Deed::Private(account, _, _)
             | Deed::Appoint(account, _, _) => Some(*account),
             Deed::Define(_) | Deed::AddPool(_) | Deed::Hold(_, _, _) => None,
@@ -88,7 +89,8 @@ impl Deed {
         ensures { result ≡ deed_block self.now }
     {
         match self {
-            Deed::GiveBlock(_, _, block) | Deed::Private(_, block, _) => Some(*block),
+            Deed::GiveBlock(_, _, block) | Deed::Place(_, block) | Deed::Private(_, block, _) =>
+                Some(*block),
             _ => None,
         }
     }

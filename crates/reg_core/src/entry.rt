@@ -4,6 +4,7 @@ ghost use Rattle.std.specs.Prelude.{◌≡◌, IfOk};
 use crate::request::{Given, State};
 use crate::text::{Account, Name, Text};
 use reg_early::term::{Status, Term};
+use reg_ranges::policy::Treatment;
 use std::alloc::AllocError;
 
 /// An entry without its place: what the value stands for, for whom, and how long.
@@ -32,6 +33,16 @@ pub struct PageEntry {
     pub term: Term,
     pub assignee: Account,
     pub status: Status,
+}
+
+/// A value of a registry as it stands on a day.
+#[derive(Drop)]
+pub struct ValueRow {
+    pub value: u32,
+    /// That of its range.
+    pub treatment: Treatment,
+    /// None where the value has none.
+    pub entry: Option<PageEntry>,
 }
 
 impl Registration {

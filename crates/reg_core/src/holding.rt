@@ -1,10 +1,11 @@
 //! The blocks that were given: who holds each, and what is shown of that.
 ghost use Rattle.std.specs.Prelude.{◌≡◌, IfOk};
-ghost use Rattle.reg_core.specs.Holding.{holder_in, holding_row, listed_row, masked};
+ghost use Rattle.reg_core.specs.Holding.{holder_in, holding_row, listed_row, masked, same_holder};
 
 use crate::request::{Given, State};
 use crate::text::{Account, Text};
 use reg_blocks::block::Block;
+use reg_ranges::formed::Formed;
 use std::alloc::AllocError;
 
 /// Who holds a block: a holding without its block.
@@ -62,20 +63,7 @@ impl Holder {
     pub fn listed(&self, block: Block) -> Result<Listed, AllocError>
         ensures { IfOk result (λ row. row ≡ listed_row block (masked self.now)) }
     {
-        if self.private {
-            return Ok(Listed {
-                block,
-                organization: None,
-                address: None,
-            });
-        }
-        let organization = self.organization.copy()?;
-        let address = self.address.copy()?;
-        Ok(Listed {
-            block,
-            organization: Some(organization),
-            address: Some(address),
-        })
+        Ok(self.holding(block)?.into_listed())
     }
 }
 
@@ -102,12 +90,55 @@ impl Holding {
         }
     }
 
+    /// The block, as the public sees it.
+    pub fn into_listed(self) -> Listed
+        ensures { result ≡ listed_row self.block (masked (holder_in self)) }
+    {
+        let block = self.block;
+        if self.private {
+            return Listed {
+                block,
+                organization: None,
+                address: None,
+            };
+        }
+        Listed {
+            block,
+            organization: Some(self.organization),
+            address: Some(self.address),
+        }
+    }
+
+    /// Whether another holding has the same holder: the account, the organization, the address and the
+    /// mark.
+    pub fn has_same_holder(&self, other: &Holding) -> bool
+        ensures { result ≡ same_holder (holder_in self.now) (holder_in other.now) }
+    {
+        self.holder == other.holder
+            && self.organization == other.organization
+            && self.address == other.address
+            && self.private == other.private
+    }
+
     /// The state of a request that was given this block.
     pub fn approval(&self) -> State
         ensures { result ≡ Approved (given.Block self.now.block) }
     {
         let block = self.block;
         State::Approved(Given::Block(block))
+    }
+}
+
+impl Formed for Holding {
+    ghost use Rattle.reg_core.specs.Holding.{has_row_form};
+
+    ghost has_form = { has_row_form };
+
+    fn formed(&self) {
+        let _prefix = self.block.prefix();
+        self.holder.formed();
+        self.organization.formed();
+        self.address.formed();
     }
 }
 

@@ -15,6 +15,7 @@ pub enum Item {
     /// A member that the body should not have.
     Extra,
     Held,
+    Holder,
     /// The minute of the IESG by which an entry may be renewed again.
     Iesg,
     Interest,
@@ -59,6 +60,7 @@ impl Item {
             Item::Draft => "draft",
             Item::Extra => "extra",
             Item::Held => "held",
+            Item::Holder => "holder",
             Item::Iesg => "iesg",
             Item::Interest => "interest",
             Item::Kind => "kind",
@@ -92,6 +94,8 @@ impl Item {
 #[derive(Clone, Copy, Debug, PartialEq, Eq)]
 pub enum Segment {
     Account,
+    /// An EUI-48 address, as 12 digits.
+    Address,
     Agent,
     Block,
     /// A day, as `2026-11-30`.
@@ -101,6 +105,7 @@ pub enum Segment {
     Expert,
     Max,
     Name,
+    Policy,
     Prefix,
     Reference,
     Value,
@@ -113,6 +118,7 @@ impl Segment {
     {
         match self {
             Segment::Account => "account",
+            Segment::Address => "address",
             Segment::Agent => "agent",
             Segment::Block => "block",
             Segment::Day => "day",
@@ -120,6 +126,7 @@ impl Segment {
             Segment::Expert => "expert",
             Segment::Max => "max",
             Segment::Name => "name",
+            Segment::Policy => "policy",
             Segment::Prefix => "prefix",
             Segment::Reference => "reference",
             Segment::Value => "value",

@@ -71,6 +71,8 @@ pub enum Deed {
     GiveValue(Account, Ref, Name, u32),
     /// A request was approved, and given a block.
     GiveBlock(Account, Ref, Block),
+    /// A block was given to a holder, without a request.
+    Place(Account, Block),
     /// The holder of a block marked it as private, or as not private.
     Private(Account, Block, bool),
     /// The entry at a value of a registry was marked as held, or as not held.
@@ -108,6 +110,7 @@ pub enum ActKind {
     Assign,
     Advise,
     Approve,
+    Place,
     Private,
     Public,
     Hold,
@@ -117,8 +120,8 @@ pub enum ActKind {
 }
 
 impl ActKind {
-    /// All sixteen.
-    pub const ALL: [ActKind; 16] = [
+    /// All seventeen.
+    pub const ALL: [ActKind; 17] = [
         ActKind::Grant,
         ActKind::Revoke,
         ActKind::Define,
@@ -129,6 +132,7 @@ impl ActKind {
         ActKind::Assign,
         ActKind::Advise,
         ActKind::Approve,
+        ActKind::Place,
         ActKind::Private,
         ActKind::Public,
         ActKind::Hold,
@@ -152,6 +156,7 @@ impl ActKind {
             Deed::Assign(_, _, _) => ActKind::Assign,
             Deed::Advise(_, _, _, _) => ActKind::Advise,
             Deed::GiveValue(_, _, _, _) | Deed::GiveBlock(_, _, _) => ActKind::Approve,
+            Deed::Place(_, _) => ActKind::Place,
             Deed::Private(_, _, true) => ActKind::Private,
             Deed::Private(_, _, false) => ActKind::Public,
             Deed::Hold(_, _, true) => ActKind::Hold,
@@ -176,6 +181,7 @@ impl ActKind {
             ActKind::Assign => "assign",
             ActKind::Advise => "advise",
             ActKind::Approve => "approve",
+            ActKind::Place => "place",
             ActKind::Private => "private",
             ActKind::Public => "public",
             ActKind::Hold => "hold",

@@ -5,6 +5,7 @@ ghost use Rattle.reg_core.specs.Advice.{read_verdict, same_advice, verdict_word}
 ghost use Rattle.reg_core.specs.Ask.{same_ask};
 ghost use Rattle.reg_core.specs.AskKind.{ask_kind_word, read_ask_kind};
 ghost use Rattle.reg_core.specs.Capability.{kind_word, read_kind, same_cap, same_kind};
+ghost use Rattle.reg_core.specs.Holding.{same_holder};
 ghost use Rattle.reg_core.specs.Laws.{DecidesSame};
 ghost use Rattle.reg_core.specs.Request.{read_state, state_word};
 
@@ -24,4 +25,5 @@ pub fn sameness_is_decided()
     ensures advice { DecidesSame same_advice }
     ensures capabilities { DecidesSame same_cap }
     ensures kinds { DecidesSame same_kind }
+    ensures holders { DecidesSame same_holder }
 {}

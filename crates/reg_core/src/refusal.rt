@@ -41,7 +41,7 @@ pub enum Refusal {
     Renewed,
     /// The entry has expired: it cannot be held any more.
     Expired,
-    /// The value has an entry.
+    /// The value has an entry; or another block that was given shares an address with the block.
     Taken,
     /// Each value under the policy has an entry; or no block of the size is free.
     Exhausted,
@@ -54,8 +54,12 @@ pub enum Refusal {
     Several,
     /// The block is none of the caller's.
     Holding,
+    /// No block that was given has the address.
+    Block,
     /// Something else is there already.
     Exists,
+    /// The block lies in no prefix of the pool.
+    Pool,
     /// The prefix is no 24-bit number, or its I/G or U/L bit is set (IEEE Std 802-2014, clause 8).
     Bits,
 }

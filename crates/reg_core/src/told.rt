@@ -2,7 +2,7 @@
 use crate::capability::{Cap, CapRow};
 use crate::case_file::{CaseFile, WaitingFile};
 use crate::counts::Counts;
-use crate::entry::PageEntry;
+use crate::entry::{PageEntry, ValueRow};
 use crate::holding::{Holding, Listed};
 use crate::journal::Act;
 use crate::page::Page;
@@ -24,6 +24,12 @@ pub enum Told {
     Pool(Pool),
     /// The blocks that were given, as the public sees them, by first address.
     Blocks(Rows<Listed>),
+    /// The block that has an address, as the public sees it.
+    Block(Listed),
+    /// A value of a registry.
+    Value(ValueRow),
+    /// The least value of a registry that an ask for it under a policy would be given.
+    Least(u32),
     /// A request was made.
     Made(Request),
     /// A request of the caller's.
@@ -57,6 +63,8 @@ pub enum Told {
     Defined(Name),
     /// The prefix is in the pool.
     Pooled(u32),
+    /// The block was given to this holder.
+    Placed(Holding),
     /// The capability that a token now has.
     Granted(Cap),
     /// The capability of the caller's own token.
@@ -80,6 +88,7 @@ impl Drop for Told {
     fn drop(self) {
         match self {
             Told::Page(_) | Told::Sheet(_) | Told::Pool(_) | Told::Blocks(_) => {}
+            Told::Block(_) | Told::Value(_) | Told::Least(_) | Told::Placed(_) => {}
             Told::Made(_) | Told::Row(_) | Told::Rows(_) | Told::Times(_) => {}
             Told::Held(_) | Told::Holdings(_) => {}
             Told::Agent(_, _) | Told::Names(_) | Told::Accounts(_) => {}

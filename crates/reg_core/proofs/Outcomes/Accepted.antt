@@ -17,20 +17,24 @@ use Rattle.reg_core.proofs.Common.{SizedPrefix, Holder, Case, by_test, queued_fo
 use Rattle.reg_core.proofs.Common.{own_principal, own_principal_rows, own_principal_times}
 use Rattle.reg_core.proofs.Common.{acts_where, is_about, is_by, is_on, own_times, times_answer, times_by}
 use Rattle.reg_core.proofs.Common.{same_text, times_rows, token_answer, unchanged, waiting_list, TimesCommand}
+use Rattle.reg_core.proofs.Common.{is_taken_in, leading_24, least_allowed, listed_with, look_up_answer}
+use Rattle.reg_core.proofs.Common.{treatment_of, value_ground, value_row, LookUpCommand}
 use Rattle.std.proofs.lemmas.Result.{IfOk-at_ok, IfOk-weaker}
 use Rattle.std.specs.Prelude.{Option, Some, None, Result, Ok, Err, IfOk, is_some, option_map, nat_le, nat_lt, if◌then◌else◌}
 use Rattle.reg_core.specs.Allowance.{◌>>=◌, or_refusal, allowed, ground_of}
 use Rattle.reg_core.specs.Request.{request_rows, word_of}
 use Rattle.reg_core.specs.declared.capability.Kind.TheVariants as kind
-use Rattle.reg_core.specs.declared.command.Command.TheVariants.{Public, Token, Applicant, Times, Expert, Clerk}
+use Rattle.reg_core.specs.declared.command.Command.TheVariants.{Public, LookUp, Token, Applicant, Times, Expert, Clerk}
+use Rattle.reg_core.specs.declared.ask.Want.TheVariants as want
+use Rattle.reg_core.specs.declared.command.LookUpCommand.TheVariants as look
 use Rattle.reg_core.specs.declared.command.TimesCommand.TheVariants as times
 use Rattle.reg_core.specs.declared.command.ApplicantCommand.TheVariants.{Own, OwnOne, Submit, Withdraw, Holdings, SetListing, SetAgent, Agents, Principals, PrincipalRows}
 use Rattle.reg_core.specs.declared.command.ExpertCommand.TheVariants.{Queue, Advise}
-use Rattle.reg_core.specs.declared.command.ClerkCommand.TheVariants.{AllRequests, OneRequest, AssignExpert, Approve, Decline, SetHold, Define, AddPool, Grant, Revoke, PendingRequests, AllCapabilities, RevokeDigits, RevokeAccount, CountRows, ActsOn, ActsBy, ActsAbout}
+use Rattle.reg_core.specs.declared.command.ClerkCommand.TheVariants.{AllRequests, OneRequest, AssignExpert, Approve, Decline, SetHold, Define, AddPool, PlaceBlock, Grant, Revoke, PendingRequests, AllCapabilities, RevokeDigits, RevokeAccount, CountRows, ActsOn, ActsBy, ActsAbout}
 use Rattle.reg_core.specs.declared.command.PublicCommand.TheVariants.{Registries, Registry, RegistryCsv, PoolList, BlocksCsv}
 use Rattle.reg_core.specs.declared.told.Told.TheVariants as tells
 use Rattle.reg_core.specs.declared.refusal.Refusal.TheVariants as no
-use Rattle.reg_core.proofs.Outcomes.Deciding.{Rule, Decides, Defines, Pools, Grants, Revokes, RevokesOne, RevokesAll, Submits, Withdraws, Lists, Links, Declines, HoldsEntry, Assigns, Advises, Approves, define_decides, pool_decides, grant_decides, revoke_decides, revoke_digits_decides, revoke_account_decides, submit_decides, withdraw_decides, listing_decides, agent_decides, decline_decides, hold_decides, assign_decides, advise_decides, approve_decides}
+use Rattle.reg_core.proofs.Outcomes.Deciding.{Rule, Decides, Defines, Pools, PlacesBlock, Grants, Revokes, RevokesOne, RevokesAll, Submits, Withdraws, Lists, Links, Declines, HoldsEntry, Assigns, Advises, Approves, define_decides, pool_decides, place_decides, grant_decides, revoke_decides, revoke_digits_decides, revoke_account_decides, submit_decides, withdraw_decides, listing_decides, agent_decides, decline_decides, hold_decides, assign_decides, advise_decides, approve_decides}
 use Rattle.reg_core.proofs.Blocks.{holding_found}
 use Rattle.reg_core.proofs.Stepping.{own_request}
 
@@ -65,6 +69,18 @@ PublicSo w today (RegistryCsv name) o =
     (λ table. Tells (tells.Sheet (page (published w) name table today)) o)
 PublicSo w today PoolList o = Tells (tells.Pool (keys w.pool)) o
 PublicSo w today BlocksCsv o = Tells (tells.Blocks (listed_rows (published w).blocks)) o
+
+abbrev pub LookUpSo : World → ℕ → LookUpCommand → Outcome → Type 0
+LookUpSo w today (look.Block address) o =
+    Row (listed_with (published w).blocks address) (λ row. Tells (tells.Block row) o)
+LookUpSo w today (look.Value name value) o =
+    Row (get w.registries name) (λ table.
+    Row (treatment_of table value) (λ treatment.
+    Tells (tells.Value (value_row today value treatment (get w.entries (name, value)))) o))
+LookUpSo w today (look.Least name policy) o =
+    (value : ℕ)
+    × (least_allowed (value_ground (published w) name (want.Least policy)) policy ≡ Ok value)
+    × Tells (tells.Least value) o
 
 -- the block is there, and the account holds it
 pub record Holds (w : World) (block : SizedPrefix) (account : List ℕ)
@@ -153,6 +169,9 @@ ClerkSo digest_of w in_use moment today (Define name table) o =
     Comes (Defines (get w.registries name) name table) (λ decision. tells.Defined name) o
 ClerkSo digest_of w in_use moment today (AddPool prefix) o =
     Comes (Pools (contains_key w.pool prefix) prefix) (λ decision. tells.Pooled prefix) o
+ClerkSo digest_of w in_use moment today (PlaceBlock holding) o =
+    Comes (PlacesBlock (get w.blocks holding.block) (is_taken_in w.blocks holding.block)
+    (contains_key w.pool (leading_24 holding.block)) holding) (λ decision. tells.Placed holding) o
 ClerkSo digest_of w in_use moment today (Grant token cap) o =
     Comes (Grants (get w.caps (digest_of token)) (digest_of token) cap)
     (λ decision. tells.Granted cap) o
@@ -204,6 +223,7 @@ pub record ClerkServes (w : World) (caller : Option (List ℕ)) (moment : ℕ) :
 module _ (digest_of : List ℕ → List ℕ) (w : World) (caller : Option (List ℕ)) (moment : ℕ) where
   abbrev pub CommandSo : Command → Outcome → Type 0
   CommandSo (Public command) o = PublicSo w (utc_day moment) command o
+  CommandSo (LookUp command) o = LookUpSo w (utc_day moment) command o
   CommandSo Token o = HasValid w caller moment (λ cap. Tells (tells.InUse cap) o)
   CommandSo (Applicant command) o =
       (by : Serves w caller moment kind.Applicant) × OwnSo w by.cap.account command o
@@ -252,6 +272,23 @@ module _ (w : World) (today : ℕ) where
   public_so (RegistryCsv name) =
       row_so no.Registry (get w.registries name) _ _ (λ table is. refl)
   public_so command = refl
+
+  look_up_so : (command : LookUpCommand)
+      → IfOk (look_up_answer (published w) today command) (LookUpSo w today command)
+  look_up_so (look.Block address) =
+      row_so no.Block (listed_with (published w).blocks address) _ _ (λ row is. refl)
+  look_up_so (look.Value name value) =
+      row_so no.Registry (get w.registries name) _ _ (λ table is.
+      row_so no.Range (treatment_of table value) _ _ (λ treatment is. refl))
+  look_up_so (look.Least name policy) =
+      by (least_allowed (value_ground (published w) name (want.Least policy)) policy) refl
+    where
+      by : (r : Result ℕ Refusal)
+          → least_allowed (value_ground (published w) name (want.Least policy)) policy ≡ r
+          → IfOk (r >>= (λ value. unchanged (tells.Least value)))
+          (LookUpSo w today (look.Least name policy))
+      by (Err refusal) is = tt
+      by (Ok value) is = (value, is, refl)
 
   own_so : (account : List ℕ) (command : ApplicantCommand)
       → IfOk (own_answer (published w) account (personal account w) command)
@@ -352,6 +389,10 @@ module _ (w : World) (today : ℕ) where
       rule_so _ _ _ (define_decides (get w.registries name) name table)
   clerk_so digest_of in_use moment (AddPool prefix) =
       rule_so _ _ _ (pool_decides (contains_key w.pool prefix) prefix)
+  clerk_so digest_of in_use moment (PlaceBlock holding) =
+      rule_so _ _ _
+      (place_decides (get w.blocks holding.block) (is_taken_in w.blocks holding.block)
+      (contains_key w.pool (leading_24 holding.block)) holding)
   clerk_so digest_of in_use moment (Grant token cap) =
       rule_so _ _ _ (grant_decides (get w.caps (digest_of token)) (digest_of token) cap)
   clerk_so digest_of in_use moment (Revoke token) =
@@ -437,6 +478,9 @@ module _ (w : World) (caller : Option (List ℕ)) (moment : ℕ) where
     at_so (Public given) now =
         IfOk-weaker _ (PublicSo w (utc_day moment) given) (Accepts (Public given))
         (λ o so. record { is_open = now; so = so }) (public_so w (utc_day moment) given)
+    at_so (LookUp given) now =
+        IfOk-weaker _ (LookUpSo w (utc_day moment) given) (Accepts (LookUp given))
+        (λ o so. record { is_open = now; so = so }) (look_up_so w (utc_day moment) given)
     at_so Token now =
         IfOk-weaker _ _ (Accepts Token) (λ o so. record { is_open = now; so = so }) token_so
     at_so (Applicant given) now =
@@ -483,6 +527,7 @@ module _ (digest_of : List ℕ → List ℕ) (w : World) where
       → IfOk (answer_to digest_of w caller moment command)
       (IsAccepted digest_of w caller moment command)
   answer_to_so caller moment (Public given) = view_so w caller moment digest_of (Public given)
+  answer_to_so caller moment (LookUp given) = view_so w caller moment digest_of (LookUp given)
   answer_to_so caller moment Token = view_so w caller moment digest_of Token
   answer_to_so caller moment (Applicant given) =
       view_so w caller moment digest_of (Applicant given)

@@ -8,17 +8,18 @@ use Rattle.reg_core.proofs.Common.{needs_advice, Allowance, is_given, IsApproved
 use Rattle.reg_core.proofs.Common.{withdraw_rule, private_rule, link_rule, agent_rule, new_hold_rule}
 use Rattle.reg_core.proofs.Common.{mark_rule, hold_rule, decline_rule, assign_rule, new_advice_rule}
 use Rattle.reg_core.proofs.Common.{advise_rule, change_to_give, give_rule, approve_rule, define_rule}
-use Rattle.reg_core.proofs.Common.{pool_rule, grant_rule, revoke_rule, has_token, one_rule}
+use Rattle.reg_core.proofs.Common.{pool_rule, place_rule, grant_rule, revoke_rule, has_token, one_rule}
 use Rattle.reg_core.proofs.Common.{revoke_digits_rule, all_rule, revoke_account_rule, submit_rule}
 use Rattle.reg_core.proofs.Common.{RequestName, Place, Link, Advice as AdviceOf, Ask, Cap, CapRow}
 use Rattle.reg_core.proofs.Common.{Change, Decision, Refusal, Case, Given, State, Pending, Approved}
 use Rattle.reg_core.proofs.Common.{Declined, Withdrawn, Make, Same, by_test, same_cap-is, same_ask-is}
-use Rattle.reg_core.proofs.Common.{same_table-is, is_given-is}
+use Rattle.reg_core.proofs.Common.{same_table-is, is_given-is, holder_in, same_holder, same_holder-is}
+use Rattle.reg_core.proofs.Common.{Holder, Holding}
 use Rattle.std.specs.Prelude.{Option, Some, None, Result, Ok, Err, IfOk, IsSome, is_some, if◌then◌else◌}
 use Rattle.reg_early.specs.declared.term.Status.{Status}
 use Rattle.reg_early.specs.declared.term.Status.TheVariants as status
-use Rattle.reg_core.specs.declared.change.Change.TheVariants.{Grant, Revoke, RevokeAll, Define, AddPool, Submit, Close, Assign, Advise, SetPrivate, SetHold, SetAgent}
-use Rattle.reg_core.specs.declared.refusal.Refusal.TheVariants.{Ref, Closed, Permanent, Own, Exists, Bits, Advice as WithoutAdvice}
+use Rattle.reg_core.specs.declared.change.Change.TheVariants.{Grant, Revoke, RevokeAll, Define, AddPool, Submit, Close, Assign, Advise, PlaceBlock, SetPrivate, SetHold, SetAgent}
+use Rattle.reg_core.specs.declared.refusal.Refusal.TheVariants.{Ref, Closed, Permanent, Taken, Own, Exists, Pool, Bits, Advice as WithoutAdvice}
 use Rattle.reg_core.specs.declared.request.StateWord.{StateWord}
 use Rattle.reg_core.specs.declared.request.StateWord.TheVariants as word
 use Rattle.reg_core.proofs.Allowances.{allowance_needs}
@@ -84,6 +85,28 @@ pool_decides there prefix =
     let form = not-false (is_pool_prefix prefix) clear in
     branches (Pools there prefix) there (Ok Same) (Ok (Make (AddPool prefix)))
     (λ old. (form, old)) (λ new. ((form, new), refl)))
+
+-- ---- Blocks that are given without a request
+
+-- a block is placed only where it is not there, no other shares an address with it, and its prefix is
+-- in the pool; and is there already only with this holder
+abbrev pub PlacesBlock : Option Holder → Bool → Bool → Holding → Rule
+PlacesBlock existing taken pooled holding = record {
+  there = existing ≡ Some (holder_in holding);
+  made = (existing ≡ None) × (taken ≡ false) × (pooled ≡ true);
+  change = λ free. PlaceBlock holding;
+}
+
+pub place_decides : (existing : Option Holder) (taken pooled : Bool) (holding : Holding)
+    → IfOk (place_rule existing taken pooled holding)
+    (Decides (PlacesBlock existing taken pooled holding))
+place_decides (Some old) taken pooled holding =
+    branches (PlacesBlock (Some old) taken pooled holding) (same_holder old (holder_in holding))
+    (Ok Same) (Err Exists) (λ same. ap Some (same_holder-is old (holder_in holding) same))
+    (λ other. tt)
+place_decides None true pooled holding = tt
+place_decides None false false holding = tt
+place_decides None false true holding = ((refl, refl, refl), refl)
 
 -- ---- Grants
 

@@ -12,6 +12,7 @@ use Rattle.reg_core.proofs.Common.{answer_to, published, cap_at, has_grant_form,
 use Rattle.reg_core.proofs.Common.{World, Place, RequestName, Ask, BlockAsk, Cap, CapRow, Change}
 use Rattle.reg_core.proofs.Common.{Command, Told, Decision, Entry, Registration, Holder, Holding, Case}
 use Rattle.reg_core.proofs.Common.{Given, State, Pending, Approved, Declined, Withdrawn, Make, Same}
+use Rattle.reg_core.proofs.Common.{has_row_form, is_taken_in, leading_24}
 use Rattle.std.specs.Prelude.{Option, Some, None, Ok, Err, IsSome, All}
 use Rattle.std.proofs.lemmas.List.Elements.{All-head, All-map}
 use Rattle.reg_early.specs.declared.term.Status.TheVariants as status
@@ -19,8 +20,9 @@ use Rattle.reg_core.specs.Command.{own_name, about, has_command_form}
 use Rattle.reg_core.specs.Request.{word_of}
 use Rattle.reg_core.specs.declared.ask.Ask.TheVariants.{Block}
 use Rattle.reg_core.specs.declared.capability.Kind.TheVariants as kind
-use Rattle.reg_core.specs.declared.change.Change.TheVariants.{Grant, Revoke, RevokeAll, Define, AddPool, Submit, Close, Assign, Advise, GiveValue, GiveBlock, SetPrivate, SetHold, SetAgent}
-use Rattle.reg_core.specs.declared.command.Command.TheVariants.{Public, Token, Applicant, Times, Expert, Clerk}
+use Rattle.reg_core.specs.declared.change.Change.TheVariants.{Grant, Revoke, RevokeAll, Define, AddPool, Submit, Close, Assign, Advise, GiveValue, GiveBlock, PlaceBlock, SetPrivate, SetHold, SetAgent}
+use Rattle.reg_core.specs.declared.command.Command.TheVariants.{Public, LookUp, Token, Applicant, Times, Expert, Clerk}
+use Rattle.reg_core.specs.declared.command.LookUpCommand.TheVariants as look
 use Rattle.reg_core.specs.declared.command.TimesCommand.TheVariants as times
 use Rattle.reg_core.specs.declared.command.ApplicantCommand.TheVariants as applicant
 use Rattle.reg_core.specs.declared.command.ExpertCommand.TheVariants as expert
@@ -123,6 +125,10 @@ Due w caller moment (GiveValue account reference entry) =
     ClerkServes w caller moment × Gives w (utc_day moment) (account, reference) entry
 Due w caller moment (GiveBlock account reference holding) =
     ClerkServes w caller moment × GivesBlock w (account, reference) holding
+Due w caller moment (PlaceBlock holding) =
+    ClerkServes w caller moment × (get w.blocks holding.block ≡ None)
+    × (is_taken_in w.blocks holding.block ≡ false)
+    × (contains_key w.pool (leading_24 holding.block) ≡ true)
 Due w caller moment (SetPrivate block private) = Marks w caller moment block
 Due w caller moment (SetHold name value held) =
     ClerkServes w caller moment × MarksEntry w (utc_day moment) (name, value) held
@@ -145,6 +151,7 @@ change_about (Assign account reference expert) = Some (account, reference)
 change_about (Advise account reference expert advice) = Some (account, reference)
 change_about (GiveValue account reference entry) = Some (account, reference)
 change_about (GiveBlock account reference holding) = Some (account, reference)
+change_about (PlaceBlock holding) = None
 change_about (SetPrivate block private) = None
 change_about (SetHold name value held) = None
 change_about (SetAgent principal agent reads) = None
@@ -168,6 +175,7 @@ has_change_form (Assign account reference expert) = is_name expert
 has_change_form (Advise account reference expert advice) = has_advice_form advice
 has_change_form (GiveValue account reference entry) = true
 has_change_form (GiveBlock account reference holding) = true
+has_change_form (PlaceBlock holding) = has_row_form holding
 has_change_form (SetPrivate block private) = true
 has_change_form (SetHold name value held) = true
 has_change_form (SetAgent principal agent reads) = is_name agent
@@ -322,6 +330,9 @@ module _ (digest_of : List ℕ → List ℕ) (w : World) (caller : Option (List 
   due_so (Public (public.RegistryCsv name)) o change a made =
       absurd (nothing_made a.so.so made)
   due_so (Public command) o change a made = absurd (nothing_made a.so made)
+  due_so (LookUp (look.Block address)) o change a made = absurd (nothing_made a.so.so made)
+  due_so (LookUp (look.Value name value)) o change a made = absurd (nothing_made a.so.so.so made)
+  due_so (LookUp (look.Least name policy)) o change a made = absurd (nothing_made a.so.2 made)
   due_so Token o change a made = absurd (nothing_made a.so.so made)
   due_so (Applicant (applicant.OwnOne reference)) o change a made =
       absurd (nothing_made a.so.1.so made)
@@ -419,6 +430,13 @@ module _ (digest_of : List ℕ → List ℕ) (w : World) (caller : Option (List 
         tt,
         refl,
         λ digests form. refl,
+      ))
+  due_so (Clerk (clerk.PlaceBlock holding)) o change a made =
+      due_by a.is_open a.so.1 made (λ facts. (
+        (a.so.0, facts.0, facts.1, facts.2),
+        tt,
+        refl,
+        λ digests form. form,
       ))
   due_so (Clerk (clerk.Grant token cap)) o change a made =
       due_by a.is_open a.so.1 made (λ free. (
