@@ -19,7 +19,7 @@ use Rattle.reg_early.proofs.MomentsHaveDays.{IsDay-utc_day}
 use Rattle.reg_core.specs.Laws.{GivesDigests, GivenStays, renewed_by, IsRenewedIn, SameReview, StaysGiven, StillGiven, StillHeld, StillStands, StillAsks}
 use Rattle.reg_core.specs.declared.request.Given.TheVariants.{Value, Block}
 use Rattle.reg_core.proofs.Keeping.RunsKeepWell.{step_keeps_well}
-use Rattle.reg_core.specs.declared.change.Change.TheVariants.{Define, AddPool, Submit, Close, Assign, Advise, GiveValue, GiveBlock, SetPrivate, SetHold}
+use Rattle.reg_core.specs.declared.change.Change.TheVariants.{Define, AddPool, Submit, Close, Assign, Advise, GiveValue, GiveBlock, PlaceBlock, SetPrivate, SetHold}
 use Rattle.reg_core.proofs.Blocks.{due_is_new}
 use Rattle.reg_core.proofs.Outcomes.Dues.{WasPending, MarksEntry, Due, each_step}
 use Rattle.reg_laws.proofs.TermsStand.{Renews, GoOn, term_stands, marked_stands, term_stands_on, given_duly, still_given}
@@ -243,19 +243,29 @@ give_stays IsRenewed w kept name today day on ask entry was duly =
             (ap (get w.entries) (sym (tied place_keys place (place_of entry) t)) ∙ is)
         by false t = given_itself IsRenewed old (get w.entries place) is
 
+-- a block is given that has no holder: each that has one keeps it
+holders_stay : (w : World) (holding : Holding) → get w.blocks holding.block ≡ None
+    → (block : SizedPrefix) (old : Holder) → get w.blocks block ≡ Some old
+    → StillHeld old (get (insert w.blocks holding.block (holder_in holding)) block)
+holders_stay w holding free block old is =
+    held_itself old _
+    (stays_there block_keys w.blocks holding.block (holder_in holding) free block old is)
+
 give_block_stays : (IsRenewed : ℕ → ℕ → Type 0) (w : World) (name : RequestName) (holding : Holding) → WasPending w name
     → get w.blocks holding.block ≡ None
     → StaysGiven IsRenewed w (applied w (GiveBlock name.0 name.1 holding))
 give_block_stays IsRenewed w name holding was free =
-    assumption (held, state_stays w name (Approved (Block holding.block)) was, stays_itself IsRenewed w)
-  where
-    h : Holder
-    h = holder_in holding
+    assumption (
+      holders_stay w holding free,
+      state_stays w name (Approved (Block holding.block)) was,
+      stays_itself IsRenewed w,
+    )
 
-    held : (block : SizedPrefix) (old : Holder) → get w.blocks block ≡ Some old
-        → StillHeld old (get (insert w.blocks holding.block h) block)
-    held block old is =
-        held_itself old _ (stays_there block_keys w.blocks holding.block h free block old is)
+place_block_stays : (IsRenewed : ℕ → ℕ → Type 0) (w : World) (holding : Holding)
+    → get w.blocks holding.block ≡ None
+    → StaysGiven IsRenewed w (applied w (PlaceBlock holding))
+place_block_stays IsRenewed w holding free =
+    assumption (holders_stay w holding free, stays_itself IsRenewed w)
 
 -- the mark of a block may change
 mark_stays : (IsRenewed : ℕ → ℕ → Type 0) (w : World) (block : SizedPrefix) (private : Bool)
@@ -304,6 +314,7 @@ module _ (IsRenewed : ℕ → ℕ → Type 0) (w : World) (kept : WellKept w) (c
       let is = due.1 in
       give_block_stays IsRenewed w (account, reference) holding is.pending
       (due_is_new w is.ask.size holding.block is.due)
+  due_stays (PlaceBlock holding) due = place_block_stays IsRenewed w holding due.1
   due_stays (SetPrivate block private) due = mark_stays IsRenewed w block private
   due_stays (SetHold name value held) due = hold_stays IsRenewed w (name, value) held due.1
   -- of capabilities and links nothing is said

@@ -5,11 +5,13 @@ pub mod ClerkLists
 pub mod Counts
 pub mod Outcomes
 pub mod Agents
+pub mod FoundBlocks
 pub mod FirstRefusals
 pub mod Lines
 pub mod TermsStand
 pub mod GivenStays
 pub mod BlocksAreGivenDuly
+pub mod LookUpsAreExact
 pub mod Times
 pub mod TwoWorldsByNow
 pub mod TwoWorlds

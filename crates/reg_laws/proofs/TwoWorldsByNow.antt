@@ -246,6 +246,7 @@ untimed : (n : ViewByNow) (s t : Option OwnTimes) (moment : ℕ) (given : Comman
     → asks_for_times given ≡ false
     → answer_at (timed n s) moment given ≡ answer_at (timed n t) moment given
 untimed n s t moment (command.Public given) apart = refl
+untimed n s t moment (command.LookUp given) apart = refl
 untimed n s t moment command.Token apart = refl
 untimed n s t moment (command.Applicant given) apart = refl
 untimed n s t moment (command.Times given) apart = absurd (cc)

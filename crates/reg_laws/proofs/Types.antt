@@ -19,6 +19,7 @@ pub use Rattle.reg_core.specs.declared.command.ApplicantCommand.{ApplicantComman
 pub use Rattle.reg_core.specs.declared.command.ClerkCommand.{ClerkCommand}
 pub use Rattle.reg_core.specs.declared.command.Command.{Command}
 pub use Rattle.reg_core.specs.declared.command.ExpertCommand.{ExpertCommand}
+pub use Rattle.reg_core.specs.declared.command.LookUpCommand.{LookUpCommand}
 pub use Rattle.reg_core.specs.declared.command.PublicCommand.{PublicCommand}
 pub use Rattle.reg_core.specs.declared.decide.Decision.{Decision}
 pub use Rattle.reg_core.specs.declared.entry.Entry.{Entry}
@@ -26,6 +27,7 @@ pub use Rattle.reg_core.specs.declared.entry.PageEntry.{PageEntry}
 pub use Rattle.reg_core.specs.declared.entry.Registration.{Registration}
 pub use Rattle.reg_core.specs.declared.holding.Holder.{Holder}
 pub use Rattle.reg_core.specs.declared.holding.Holding.{Holding}
+pub use Rattle.reg_core.specs.declared.holding.Listed.{Listed}
 pub use Rattle.reg_core.specs.declared.item.Item.{Item}
 pub use Rattle.reg_core.specs.declared.journal.Act.{Act}
 pub use Rattle.reg_core.specs.declared.journal.Deed.{Deed}

@@ -4,18 +4,21 @@ use Rattle.std.specs.Prelude.{◌≡◌, ◌⊎◌, ◌<◌, ◌≤◌, ◌/◌,
 use Rattle.std.specs.FinMap.{get, contains_key}
 use Rattle.reg_early.specs.Moment.{utc_day}
 use Rattle.reg_early.specs.declared.term.Term.{Term}
+use Rattle.reg_blocks.specs.Block.{SizedPrefix, Clash, IsAddressOf, leading_24}
 use Rattle.reg_core.specs.CapRows.{begins_with, is_of, cap_row}
+use Rattle.reg_core.specs.Holding.{holder_in}
 use Rattle.reg_core.specs.Laws.{IsApproved, IsAdvised}
 use Rattle.reg_core.specs.Step.{step}
 use Rattle.reg_core.specs.View.{cap_at}
 use Rattle.reg_core.specs.WellKept.{WellKept}
 use Rattle.reg_core.specs.World.{World}
+use Rattle.reg_core.specs.declared.ask.Want.TheVariants as want
 use Rattle.reg_core.specs.declared.capability.Cap.{Cap}
 use Rattle.reg_core.specs.declared.capability.CapRow.{CapRow}
 use Rattle.reg_core.specs.declared.capability.Kind.{Kind}
 use Rattle.reg_core.specs.declared.capability.Kind.TheVariants as kind
 use Rattle.reg_core.specs.declared.command.Command.{Command}
-use Rattle.reg_core.specs.declared.command.Command.TheVariants.{Public, Token, Applicant, Times, Expert, Clerk}
+use Rattle.reg_core.specs.declared.command.Command.TheVariants.{Public, LookUp, Token, Applicant, Times, Expert, Clerk}
 use Rattle.reg_core.specs.declared.command.TimesCommand.TheVariants as times
 use Rattle.reg_core.specs.declared.command.TimesCommand.{TimesCommand}
 use Rattle.reg_core.specs.declared.command.ApplicantCommand.{ApplicantCommand}
@@ -23,14 +26,16 @@ use Rattle.reg_core.specs.declared.command.ApplicantCommand.TheVariants.{Own, Ow
 use Rattle.reg_core.specs.declared.command.ExpertCommand.{ExpertCommand}
 use Rattle.reg_core.specs.declared.command.ExpertCommand.TheVariants.{Queue, Advise}
 use Rattle.reg_core.specs.declared.command.ClerkCommand.{ClerkCommand}
-use Rattle.reg_core.specs.declared.command.ClerkCommand.TheVariants.{AllRequests, OneRequest, AssignExpert, Approve, Decline, SetHold, Define, AddPool, Grant, Revoke, PendingRequests, AllCapabilities, RevokeDigits, RevokeAccount, CountRows, ActsOn, ActsBy, ActsAbout}
+use Rattle.reg_core.specs.declared.command.ClerkCommand.TheVariants.{AllRequests, OneRequest, AssignExpert, Approve, Decline, SetHold, Define, AddPool, PlaceBlock, Grant, Revoke, PendingRequests, AllCapabilities, RevokeDigits, RevokeAccount, CountRows, ActsOn, ActsBy, ActsAbout}
+use Rattle.reg_core.specs.declared.command.LookUpCommand.{LookUpCommand}
+use Rattle.reg_core.specs.declared.command.LookUpCommand.TheVariants as look
 use Rattle.reg_core.specs.declared.command.PublicCommand.{PublicCommand}
 use Rattle.reg_core.specs.declared.command.PublicCommand.TheVariants.{Registries, Registry, RegistryCsv, PoolList, BlocksCsv}
 use Rattle.reg_core.specs.declared.refusal.Refusal.TheVariants as no
 use Rattle.reg_core.specs.declared.request.Case.{Case}
 use Rattle.reg_core.specs.declared.request.State.TheVariants.{Pending, Declined, Withdrawn}
 use Rattle.reg_laws.specs.AnswerLines.{Lines, refuses, is_there, ◌or_else◌, accepted, unchanged, of_row, GoesBy}
-use Rattle.reg_laws.specs.AskLines.{ask_lines, IsReviewed}
+use Rattle.reg_laws.specs.AskLines.{ask_lines, free_lines, want_lines, IsReviewed}
 
 -- ---- Anybody
 
@@ -42,6 +47,21 @@ public_lines w (RegistryCsv name) =
     of_row no.Registry (get w.registries name) (λ table. unchanged)
 public_lines w PoolList = unchanged
 public_lines w BlocksCsv = unchanged
+
+-- no block that was given has the address
+abbrev pub IsNobodys : World → ℕ → Type 0
+IsNobodys w address =
+    (block : SizedPrefix) → IsSome (get w.blocks block) → ¬ (IsAddressOf address block)
+
+-- of anybody who looks something up
+abbrev pub look_up_lines : World → LookUpCommand → Lines
+look_up_lines w (look.Block address) = refuses no.Block (IsNobodys w address) or_else unchanged
+look_up_lines w (look.Value name value) =
+    of_row no.Registry (get w.registries name) (λ table.
+    refuses no.Range (table.max < value) or_else unchanged)
+look_up_lines w (look.Least name policy) =
+    of_row no.Registry (get w.registries name) (λ table.
+    want_lines table (want.Least policy) (free_lines w name table (want.Least policy) unchanged))
 
 -- ---- An applicant
 
@@ -125,6 +145,10 @@ AreSeveral w chosen =
 abbrev pub NoneIsChosen : World → (CapRow → Bool) → Type 0
 NoneIsChosen w chosen = (digest : List ℕ) → ¬ (IsChosen w chosen digest)
 
+-- a block that was given shares an address with this one
+abbrev pub SharesOne : World → SizedPrefix → Type 0
+SharesOne w block = (other : SizedPrefix) × IsSome (get w.blocks other) × Clash block other
+
 -- on a day, of one whose token in use has this digest
 abbrev pub clerk_lines : (List ℕ → List ℕ) → World → Option (List ℕ) → ℕ → ClerkCommand → Lines
 clerk_lines digest_of w in_use today AllRequests = unchanged
@@ -158,6 +182,12 @@ clerk_lines digest_of w in_use today (Define name table) =
 clerk_lines digest_of w in_use today (AddPool prefix) =
     refuses no.Bits (IsNoPrefix prefix)
     or_else is_there (contains_key w.pool prefix ≡ true)
+    or_else accepted
+clerk_lines digest_of w in_use today (PlaceBlock holding) =
+    is_there (get w.blocks holding.block ≡ Some (holder_in holding))
+    or_else refuses no.Exists (IsSome (get w.blocks holding.block))
+    or_else refuses no.Taken (SharesOne w holding.block)
+    or_else refuses no.Pool (contains_key w.pool (leading_24 holding.block) ≡ false)
     or_else accepted
 clerk_lines digest_of w in_use today (Grant token cap) =
     is_there (get w.caps (digest_of token) ≡ Some cap)
@@ -206,6 +236,7 @@ kind_lines kind moment by lines =
 
 abbrev pub open_lines : (List ℕ → List ℕ) → World → Option (List ℕ) → ℕ → Command → Lines
 open_lines digest_of w caller moment (Public command) = public_lines w command
+open_lines digest_of w caller moment (LookUp command) = look_up_lines w command
 open_lines digest_of w caller moment Token = token_lines moment (cap_at w caller)
 open_lines digest_of w caller moment (Applicant command) =
     kind_lines kind.Applicant moment (cap_at w caller) (λ account. own_lines w account command)

@@ -9,6 +9,7 @@ ghost use Rattle.reg_core.specs.EarlyAllocations.{ExpiredValuesAreTaken, Foreign
 ghost use Rattle.reg_core.specs.FirstRefusals.{FirstRefusalsAreAnswered};
 ghost use Rattle.reg_core.specs.JournalLaws.{ChangesAreSigned, JournalIsExact, JournalStays};
 ghost use Rattle.reg_core.specs.Laws.{AnswersAreDone, ApprovalsAreAdvised, ApprovalsGiveWhatIsAllowed, ApprovalsStand, ChangesFit, FirstWorldsAreWellKept, GivenStays, GivesDigests, RefusalsChangeNothing, RepeatsActOnce, RevocationsTakeJust, RunsKeepWell, SubmissionsStand, TwoWorlds, TwoWorldsByNow};
+ghost use Rattle.reg_core.specs.LookUpLaws.{LookUpsAreExact};
 ghost use Rattle.reg_core.specs.MayBeGiven.{AsksMeetTheirPolicy, NoValueIsGivenTwice};
 ghost use Rattle.reg_core.specs.Striking.{StagesAreOfRun, UnseenLeaveNoTrace};
 ghost use Rattle.reg_laws.specs.ClerkLists.{ActsAreListed, AllRequestsAreListed};
@@ -187,6 +188,14 @@ pub fn private_holders_are_hidden()
 /// answered alike whether another holds it or nobody does, and changes nothing.
 pub fn foreign_blocks_are_hidden()
     ensures { (digest_of : List ℕ → List ℕ) → ForeignBlocksAreHidden digest_of }
+{}
+
+/// Look-ups are exact: who looks up an address is told the block that was given and has it, and no
+/// other; who looks up a value, how its range is treated and its entry; and who looks up the least value
+/// under a policy, the one that an ask for it would be given at that moment, or why none.
+#[tactic(auto, using(crate::proofs::LookUpsAreExact::exact))]
+pub fn look_ups_are_exact()
+    ensures { (digest_of : List ℕ → List ℕ) → LookUpsAreExact digest_of }
 {}
 
 /// What was given stays: in every run from a well kept world an entry keeps its label and its

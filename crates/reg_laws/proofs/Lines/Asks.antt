@@ -34,7 +34,7 @@ module _ (w : World) where
   none_assigns table want shut such =
       let never = sym (ap not (shut such.0 such.1)) ∙ open_is such.0 ∙ such.2 in absurd (cc)
 
-  want_fair : (table : Table) (want : Want) → IsFair w (want_lines table want) (policy_for table want)
+  pub want_fair : (table : Table) (want : Want) → IsFair w (want_lines table want) (policy_for table want)
   want_fair table want =
       elim (policy_comes table want) [
         | inl above ↦
@@ -65,7 +65,7 @@ module _ (w : World) where
         (second_so (is_name registry) (has_table_form table)
         (kept.registries registry table is_there))) policy (values_in registry w.entries)
 
-    free_fair : (want : Want)
+    pub free_fair : (want : Want)
         → IsFair w (free_lines w registry table want)
         (value_for (value_ground (published w) registry want) table want)
     free_fair (Value v) = by (is_some (get w.entries (registry, v))) refl

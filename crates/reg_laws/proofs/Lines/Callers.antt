@@ -11,10 +11,11 @@ use Rattle.reg_core.proofs.Common.{same_kind-decides, by_test}
 use Rattle.reg_laws.proofs.Types.{ClerkCommand}
 use Rattle.reg_core.specs.Allowance.{◌>>=◌}
 use Rattle.reg_core.specs.declared.capability.Kind.TheVariants as kind
-use Rattle.reg_core.specs.declared.command.Command.TheVariants.{Public, Token, Applicant, Times, Expert, Clerk}
+use Rattle.reg_core.specs.declared.command.Command.TheVariants.{Public, LookUp, Token, Applicant, Times, Expert, Clerk}
 use Rattle.reg_core.specs.declared.refusal.Refusal.TheVariants as no
 use Rattle.reg_core.specs.declared.told.Told.TheVariants as tells
 use Rattle.reg_laws.proofs.Lines.Commands.{public_goes, own_goes, times_goes, expert_goes, clerk_goes}
+use Rattle.reg_laws.proofs.Lines.LookUps.{look_up_goes}
 use Rattle.reg_laws.proofs.Lines.Turns.{By, by_any, fails}
 use Rattle.reg_laws.specs.AnswerLines.{Lines, refuses, unchanged, ◌or_else◌}
 use Rattle.reg_laws.specs.CommandLines.{clerk_lines, IsOutsideYears, kind_lines, token_lines, open_lines, command_lines, CommandsGoByTheirLines}
@@ -178,6 +179,9 @@ module _ (w : World) (moment : ℕ) where
     goes caller (Public given) =
         view_goes caller (open_lines digest_of w caller moment (Public given)) (Public given)
         (public_goes w (utc_day moment) given)
+    goes caller (LookUp given) =
+        view_goes caller (open_lines digest_of w caller moment (LookUp given)) (LookUp given)
+        (look_up_goes w kept (utc_day moment) given)
     goes caller Token =
         view_goes caller (open_lines digest_of w caller moment Token) Token
         (token_goes (cap_at w caller))

@@ -10,6 +10,7 @@ use Rattle.reg_core.proofs.Common.{withdraw_rule, private_rule, link_rule, new_h
 use Rattle.reg_core.proofs.Common.{decline_rule, assign_rule, new_advice_rule, advise_rule}
 use Rattle.reg_core.proofs.Common.{change_to_give, give_rule, approve_rule, define_rule, pool_rule}
 use Rattle.reg_core.proofs.Common.{grant_rule, revoke_rule, clerk_answer, published, personal, queued_to}
+use Rattle.reg_core.proofs.Common.{is_taken_in, leading_24}
 use Rattle.reg_core.proofs.Common.{as_queued, WellKept, World, RequestName, Place}
 use Rattle.reg_core.proofs.Common.{own_times, times_answer}
 use Rattle.reg_core.specs.declared.command.TimesCommand.{TimesCommand}
@@ -27,7 +28,7 @@ use Rattle.reg_core.specs.Allowance.{◌>>=◌, or_refusal, allowance_on, allowe
 use Rattle.reg_core.specs.Request.{word_of}
 use Rattle.reg_core.specs.declared.command.ApplicantCommand.TheVariants.{OwnOne, Submit, Withdraw, SetListing, SetAgent, PrincipalRows}
 use Rattle.reg_core.specs.declared.command.ExpertCommand.TheVariants.{Queue, Advise}
-use Rattle.reg_core.specs.declared.command.ClerkCommand.TheVariants.{OneRequest, AssignExpert, Approve, Decline, SetHold, Define, AddPool, Grant, Revoke, RevokeDigits, RevokeAccount, ActsAbout}
+use Rattle.reg_core.specs.declared.command.ClerkCommand.TheVariants.{OneRequest, AssignExpert, Approve, Decline, SetHold, Define, AddPool, PlaceBlock, Grant, Revoke, RevokeDigits, RevokeAccount, ActsAbout}
 use Rattle.reg_core.specs.declared.command.TimesCommand.TheVariants as times
 use Rattle.reg_core.specs.declared.command.PublicCommand.TheVariants.{Registry, RegistryCsv}
 use Rattle.reg_core.specs.declared.change.Change.TheVariants as change
@@ -36,6 +37,7 @@ use Rattle.reg_core.specs.declared.told.Told.TheVariants as tells
 use Rattle.reg_core.proofs.Files.{advised_by, advised_is}
 use Rattle.reg_core.proofs.Stepping.{own_request}
 use Rattle.reg_laws.proofs.Lines.Asks.{asks}
+use Rattle.reg_laws.proofs.Lines.Places.{place_goes}
 use Rattle.reg_laws.proofs.Lines.Revocations.{revoke_digits_goes, revoke_account_goes}
 use Rattle.reg_laws.proofs.Lines.Turns.{By, row, fails, other_text, same_texts}
 use Rattle.reg_laws.specs.AnswerLines.{Lines, refuses, is_there, ◌or_else◌, accepted, of_row}
@@ -531,6 +533,9 @@ module _ (w : World) where
         hold_goes (name, value) held a.term.first a.term.expires a.term.renewed a.term.held today _))
     clerk_goes in_use moment today (Define name table) = define_goes (get w.registries name) name table _
     clerk_goes in_use moment today (AddPool prefix) = pool_goes (contains_key w.pool prefix) prefix _
+    clerk_goes in_use moment today (PlaceBlock holding) =
+        place_goes w holding (get w.blocks holding.block) (is_taken_in w.blocks holding.block)
+        (contains_key w.pool (leading_24 holding.block)) _ refl
     clerk_goes in_use moment today (Grant token cap) =
         grant_goes (get w.caps (digest_of token)) (digest_of token) cap _
     clerk_goes in_use moment today (Revoke token) =

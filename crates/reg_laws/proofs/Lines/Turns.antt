@@ -60,6 +60,13 @@ module _ (w : World) where
   turn lines (Ok x) fair more g f each =
       record { by = fair.passed x refl more (g x >>= f) (each x refl).by }
 
+  -- the last check
+  pub last_turn : {X : Type 0} (lines : Lines → Lines) (check : Result X Refusal)
+      → IsFair lines check → (more : Lines) (f : X → Answer) → ((x : X) → By w more (f x))
+      → Goes (lines more) (check >>= f)
+  last_turn lines (Err refusal) fair more f each = record { by = fair.refused refusal refl more }
+  last_turn lines (Ok x) fair more f each = record { by = fair.passed x refl more (f x) (each x) }
+
   -- a row that is looked up first
   pub row_turn : {X Y : Type 0} (refusal : Refusal) (o : Option X) (lines : X → Lines)
       (g : X → Result Y Refusal) (f : Y → Answer)

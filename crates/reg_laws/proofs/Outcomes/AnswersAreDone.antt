@@ -4,6 +4,7 @@ use Rattle.std.specs.Prelude.{Option, Some, None, Ok, Err, is_some, option_map}
 use Rattle.reg_core.proofs.Common.{get, update, number_keys, text_keys, get-inserted, get-updated}
 use Rattle.reg_core.proofs.Common.{get-removed, utc_day, held_term, Award, awarded_entry, new_holding}
 use Rattle.reg_core.proofs.Common.{begins_with, is_of, caps_that, page_entry, with_hold, with_mark}
+use Rattle.reg_core.proofs.Common.{holder_in}
 use Rattle.reg_core.proofs.Common.{World, RequestName, in_state, without, applied_if, carried, pending}
 use Rattle.reg_core.proofs.Common.{Seat}
 use Rattle.reg_laws.proofs.Types.{Cap, CapRow, Change, Command, Decision, Registration, Holder, Case}
@@ -16,11 +17,12 @@ use Rattle.reg_laws.proofs.Types.{Told, Make, Same}
 use Rattle.reg_core.proofs.Common.{principal_list, FinMap, text_cmp}
 use Rattle.reg_core.proofs.Journals.{carried_is}
 use Rattle.reg_maps.proofs.KeySets.{is_inserted}
-use Rattle.reg_core.specs.declared.command.Command.TheVariants.{Public, Token, Applicant, Times, Expert, Clerk}
+use Rattle.reg_core.specs.declared.command.Command.TheVariants.{Public, LookUp, Token, Applicant, Times, Expert, Clerk}
+use Rattle.reg_core.specs.declared.command.LookUpCommand.TheVariants as look
 use Rattle.reg_core.specs.declared.command.TimesCommand.TheVariants as times
 use Rattle.reg_core.specs.declared.command.ApplicantCommand.TheVariants.{Own, OwnOne, Submit, Withdraw, Holdings, SetListing, SetAgent, Agents, Principals, PrincipalRows}
 use Rattle.reg_core.specs.declared.command.ExpertCommand.TheVariants.{Queue, Advise}
-use Rattle.reg_core.specs.declared.command.ClerkCommand.TheVariants.{AllRequests, OneRequest, AssignExpert, Approve, Decline, SetHold, Define, AddPool, Grant, Revoke, PendingRequests, AllCapabilities, RevokeDigits, RevokeAccount, CountRows, ActsOn, ActsBy, ActsAbout}
+use Rattle.reg_core.specs.declared.command.ClerkCommand.TheVariants.{AllRequests, OneRequest, AssignExpert, Approve, Decline, SetHold, Define, AddPool, PlaceBlock, Grant, Revoke, PendingRequests, AllCapabilities, RevokeDigits, RevokeAccount, CountRows, ActsOn, ActsBy, ActsAbout}
 use Rattle.reg_core.specs.declared.command.PublicCommand.TheVariants.{Registries, Registry, RegistryCsv, PoolList, BlocksCsv}
 use Rattle.reg_core.specs.declared.request.Given.TheVariants.{Value, Block}
 use Rattle.reg_core.specs.Laws.{IsDone, WasDone, AnswersAreDone, TakesJust, is_refused}
@@ -29,6 +31,7 @@ use Rattle.reg_core.proofs.Outcomes.Deciding.{Rule, Decides, RevokesOne, Revokes
 use Rattle.reg_core.specs.declared.change.Change.TheVariants as change
 use Rattle.reg_core.proofs.Outcomes.Accepted.{Comes, CommandSo, accepted}
 use Rattle.reg_laws.proofs.Capabilities.{takes_just, have_gone}
+use Rattle.reg_laws.proofs.FoundBlocks.{found_has}
 use Rattle.reg_laws.proofs.Lines.Turns.{other_text}
 use Rattle.reg_laws.proofs.Outcomes.ClerkLists.{cap_list_whole, waiting_list_whole}
 use Rattle.reg_laws.proofs.Outcomes.WholeLists.{entry_list, block_list, own_list, holding_list, queue_list, times_list}
@@ -157,6 +160,20 @@ module _ (digest_of : List ℕ → List ℕ) (w : World) (caller : Option (List 
       (refl, so.is, entry_list w name (utc_day moment))
   done (Public PoolList) o so = subst (Done (Public PoolList)) (sym so) refl
   done (Public BlocksCsv) o so = subst (Done (Public BlocksCsv)) (sym so) (block_list w)
+  done (LookUp (look.Block address)) o so =
+      subst (Done (LookUp (look.Block address))) (sym so.so)
+      (record { viewed = so.is; has = found_has w address so.row so.is })
+  done (LookUp (look.Value name value)) o so =
+      subst (Done (LookUp (look.Value name value))) (sym so.so.so)
+      (record {
+        table = so.row;
+        registry = so.is;
+        range = so.so.is;
+        value_is = refl;
+        entry = refl;
+      })
+  done (LookUp (look.Least name policy)) o so =
+      subst (Done (LookUp (look.Least name policy))) (sym so.2) so.1
   done Token o so = subst (Done Token) (sym so.so) so.is_there
   done (Applicant Own) o so =
       subst (Done (Applicant Own)) (sym so.1)
@@ -335,6 +352,9 @@ module _ (digest_of : List ℕ → List ℕ) (w : World) (caller : Option (List 
   done (Clerk (AddPool prefix)) o so =
       decided (Done (Clerk (AddPool prefix))) so.1 (λ there. (refl, there.0, there.1))
       (λ facts. (refl, facts.0, is_inserted number_keys w.pool prefix tt))
+  done (Clerk (PlaceBlock holding)) o so =
+      decided (Done (Clerk (PlaceBlock holding))) so.1 (λ there. (refl, there))
+      (λ free. (refl, get-inserted block_keys w.blocks holding.block (holder_in holding)))
   done (Clerk (Grant token cap)) o so =
       decided (Done (Clerk (Grant token cap))) so.1 (λ there. (refl, there))
       (λ free. (refl, get-inserted text_keys w.caps (digest_of token) cap))

@@ -13,9 +13,11 @@ use Rattle.reg_core.proofs.Common.{answer_to, step, Queued, as_queued, published
 use Rattle.reg_core.proofs.Common.{queue_of, agents_of, principals_of, principal_rows_of, cap_at, World}
 use Rattle.reg_core.proofs.Common.{RequestName, Place, Link, in_state, carried, acts_where, is_about}
 use Rattle.reg_core.proofs.Common.{own_times, times_of_requests_by, times_rows}
+use Rattle.reg_core.proofs.Common.{same_holder-itself, value_row}
 use Rattle.reg_core.specs.declared.command.TimesCommand.{TimesCommand}
 use Rattle.reg_laws.proofs.Types.{Ask, Cap, Kind}
 use Rattle.reg_laws.proofs.Types.{Command, ApplicantCommand, ExpertCommand, ClerkCommand, PublicCommand}
+use Rattle.reg_laws.proofs.Types.{LookUpCommand}
 use Rattle.reg_core.proofs.Common.{same_text-itself}
 use Rattle.reg_laws.proofs.Types.{Told, Case, Given, Request, Approved, Same}
 use Rattle.reg_core.proofs.Common.{same_advice-itself, same_cap-itself, same_ask-itself}
@@ -23,11 +25,12 @@ use Rattle.reg_core.proofs.Common.{same_table-itself, own_agent, own_principal, 
 use Rattle.reg_early.specs.declared.term.Status.{Status}
 use Rattle.reg_core.specs.Laws.{is_refused, IsStillValid, MayRepeat, IsDone, RepeatsActOnce}
 use Rattle.reg_core.specs.declared.capability.Kind.TheVariants as kind
-use Rattle.reg_core.specs.declared.command.Command.TheVariants.{Public, Token, Applicant, Times, Expert, Clerk}
+use Rattle.reg_core.specs.declared.command.Command.TheVariants.{Public, LookUp, Token, Applicant, Times, Expert, Clerk}
+use Rattle.reg_core.specs.declared.command.LookUpCommand.TheVariants as look
 use Rattle.reg_core.specs.declared.command.TimesCommand.TheVariants as times
 use Rattle.reg_core.specs.declared.command.ApplicantCommand.TheVariants.{Own, OwnOne, Submit, Withdraw, Holdings, SetListing, SetAgent, Agents, Principals, PrincipalRows}
 use Rattle.reg_core.specs.declared.command.ExpertCommand.TheVariants.{Queue, Advise}
-use Rattle.reg_core.specs.declared.command.ClerkCommand.TheVariants.{AllRequests, OneRequest, AssignExpert, Approve, Decline, SetHold, Define, AddPool, Grant, Revoke, PendingRequests, AllCapabilities, RevokeDigits, RevokeAccount, CountRows, ActsOn, ActsBy, ActsAbout}
+use Rattle.reg_core.specs.declared.command.ClerkCommand.TheVariants.{AllRequests, OneRequest, AssignExpert, Approve, Decline, SetHold, Define, AddPool, PlaceBlock, Grant, Revoke, PendingRequests, AllCapabilities, RevokeDigits, RevokeAccount, CountRows, ActsOn, ActsBy, ActsAbout}
 use Rattle.reg_core.specs.declared.command.PublicCommand.TheVariants.{Registries, Registry, RegistryCsv, PoolList, BlocksCsv}
 use Rattle.reg_core.specs.declared.told.Told.TheVariants as tells
 use Rattle.reg_core.proofs.Outcomes.Accepted.{Serves, ClerkServes, CommandSo}
@@ -130,6 +133,20 @@ module _ (digest_of : List ℕ → List ℕ) (v : World) (moment : ℕ) (now : i
     public_again BlocksCsv (tells.Blocks rows) so =
         rw now (tells.Blocks (listed_rows (published v).blocks), refl)
     public_again command told so = absurd so
+
+    look_up_again : (command : LookUpCommand) (told : Told)
+        → IsDone digest_of v by first (LookUp command) told
+        → OnlyTells (answer_to digest_of v caller moment (LookUp command))
+    look_up_again (look.Block address) (tells.Block row) so =
+        (tells.Block row, rw (now, so.viewed) refl)
+    look_up_again (look.Value name value) (tells.Value row) so =
+        let a = get v.entries (name, value) in (
+          tells.Value (value_row (utc_day moment) value row.treatment a),
+          rw (now, so.registry, so.range) refl,
+        )
+    look_up_again (look.Least name policy) (tells.Least value) so =
+        (tells.Least value, rw (now, so) refl)
+    look_up_again command told so = absurd so
 
     module _ (may : Acts v caller moment by kind.Applicant) where
       mine : (reference : List ℕ) (row : Request) → IsOwnRow v by reference row
@@ -313,6 +330,10 @@ module _ (digest_of : List ℕ → List ℕ) (v : World) (moment : ℕ) (now : i
         (tells.Defined name, serving (Define name table) ∙ rw (so.1, same_table-itself table) refl)
     clerk_again (AddPool prefix) (tells.Pooled given) so =
         (tells.Pooled prefix, rw (now, may.is_there, may.of_kind, may.early, so.1, so.2) refl)
+    clerk_again (PlaceBlock holding) (tells.Placed given) so = (
+      tells.Placed holding,
+      serving (PlaceBlock holding) ∙ rw (so.1, same_holder-itself (holder_in holding)) refl,
+    )
     clerk_again (Grant token cap) (tells.Granted given) so =
         (tells.Granted cap, serving (Grant token cap) ∙ rw (so.1, same_cap-itself cap) refl)
     clerk_again (Revoke token) tells.Revoked so =
@@ -358,6 +379,9 @@ module _ (digest_of : List ℕ → List ℕ) (w : World) (caller : Option (List 
       → OnlyTells (answer_to digest_of v caller second command)
   again (Public command) o so may done =
       public_again digest_of (carried w caller first o.change) second now (cap_at w caller) first
+      caller command o.told done
+  again (LookUp command) o so may done =
+      look_up_again digest_of (carried w caller first o.change) second now (cap_at w caller) first
       caller command o.told done
   again Token o so may done =
       let valid = may.valid in

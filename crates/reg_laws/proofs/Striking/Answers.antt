@@ -333,6 +333,8 @@ module _
           (answer_to digest_of v caller moment given)
       answers_same caller (command.Public given) stays =
           same_itself (answer_to digest_of v caller moment (command.Public given))
+      answers_same caller (command.LookUp given) stays =
+          same_itself (answer_to digest_of v caller moment (command.LookUp given))
       answers_same caller command.Token stays = token_same caller
       answers_same caller (command.Applicant given) stays =
           kind_same kind.Applicant (cap_at v caller)

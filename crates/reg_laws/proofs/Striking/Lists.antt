@@ -7,6 +7,7 @@ use Rattle.reg_core.proofs.Common.{queue_rows, request_row, request_rows, Event,
 use Rattle.reg_core.proofs.Common.{queued_to, requests_of, queue_of, World, RequestName, name_cmp}
 use Rattle.reg_laws.proofs.Types.{Ask}
 use Rattle.reg_laws.proofs.Types.{Command, ApplicantCommand, ExpertCommand, ClerkCommand, PublicCommand}
+use Rattle.reg_laws.proofs.Types.{LookUpCommand}
 use Rattle.reg_core.proofs.Common.{name_keys}
 use Rattle.reg_laws.proofs.Types.{Case, Request, Accepted}
 use Rattle.reg_maps.proofs.HiddenKeys.{AgreeBut, IsBare, plain_rows, same_rows}
@@ -14,7 +15,8 @@ use Rattle.reg_core.specs.Striking.{HasNoneUnseen, HasNoneUnseenActs, lists_acts
 use Rattle.reg_core.proofs.Common.{is_by, is_on, same_text, times_by, times_of, times_row, times_rows, only_if, Times as TimesOf}
 use Rattle.reg_laws.proofs.Striking.Acts.{acts_plain}
 use Rattle.reg_laws.proofs.Striking.Arrivals.{waiting_plain}
-use Rattle.reg_core.specs.declared.command.Command.TheVariants.{Public, Token, Applicant, Times, Expert, Clerk}
+use Rattle.reg_core.specs.declared.command.Command.TheVariants.{Public, LookUp, Token, Applicant, Times, Expert, Clerk}
+use Rattle.reg_core.specs.declared.command.LookUpCommand.TheVariants as look
 use Rattle.reg_core.specs.declared.command.TimesCommand.{TimesCommand}
 use Rattle.reg_core.specs.declared.command.TimesCommand.TheVariants as times
 use Rattle.reg_core.specs.declared.request.RequestTimes.{RequestTimes}
@@ -24,7 +26,7 @@ use Rattle.reg_core.specs.declared.command.ClerkCommand.TheVariants.{AllRequests
 use Rattle.reg_core.specs.declared.command.PublicCommand.TheVariants.{Registry, RegistryCsv}
 use Rattle.reg_core.specs.declared.told.Told.TheVariants as tells
 use Rattle.reg_core.specs.declared.queue.QueueRow.{QueueRow}
-use Rattle.reg_core.proofs.Outcomes.Accepted.{PublicSo, OwnSo, TimesSo, ExpertSo, ClerkSo, CommandSo, accepted}
+use Rattle.reg_core.proofs.Outcomes.Accepted.{PublicSo, LookUpSo, OwnSo, TimesSo, ExpertSo, ClerkSo, CommandSo, accepted}
 
 module _ (hidden : RequestName → Bool) where
   -- the row is of no hidden request
@@ -86,6 +88,12 @@ module _ (hidden : RequestName → Bool) (v : World) (none : HasNoneUnseen hidde
   public_plain today (Registry name) o so = plain so.so refl
   public_plain today (RegistryCsv name) o so = plain so.so refl
   public_plain today given o so = plain so refl
+
+  look_up_plain : (today : ℕ) (given : LookUpCommand) (o : Outcome)
+      → LookUpSo v today given o → IsPlain o
+  look_up_plain today (look.Block address) o so = plain so.so refl
+  look_up_plain today (look.Value name value) o so = plain so.so.so refl
+  look_up_plain today (look.Least name policy) o so = plain so.2 refl
 
   made_plain : (name : RequestName) (ask : Ask) (existing : Option Case)
       → told_without hidden (made_row name ask existing) ≡ made_row name ask existing
@@ -161,6 +169,7 @@ module _ (hidden : RequestName → Bool) (v : World) (none : HasNoneUnseen hidde
         → CommandSo digest_of v e.caller e.moment given o
         → (lists_acts (Accepted o.told) ≡ true → HasNoneUnseenActs hidden v) → IsPlain o
     command_plain (Public given) o so acts = public_plain (utc_day e.moment) given o so
+    command_plain (LookUp given) o so acts = look_up_plain (utc_day e.moment) given o so
     command_plain Token o so acts = plain so.so refl
     command_plain (Applicant given) o so acts = own_plain so.0.cap.account given o so.1
     command_plain (Times given) o so acts = times_plain so.0.cap.account given o so.1
