@@ -7,7 +7,7 @@ ghost use Rattle.reg_early.specs.EarlyRequirements.{early_unmet};
 ghost use Rattle.reg_early.specs.Terms.{renewable, settleable};
 ghost use Rattle.reg_ranges.specs.Requirements.{first_item, is_closed_policy, unmet};
 ghost use Rattle.reg_ranges.specs.Sameness.{same_treatment};
-ghost use Rattle.reg_core.specs.Allowance.{allowance_on, allowed_on, block_allowance, code_allowance, early_allowance, is_met, is_met_early, may_renew, may_settle, open_policy, own_entry, permanence_allowance, policy_for, policy_in, renewal_allowance, value_for as value_wanted};
+ghost use Rattle.reg_core.specs.Allowance.{allowance_on, allowed_on, block_allowance, code_allowance, early_allowance, is_met, is_met_early, least_allowed, may_renew, may_settle, open_policy, own_entry, permanence_allowance, policy_for, policy_in, renewal_allowance, value_for as value_wanted};
 ghost use Rattle.reg_decisions.specs.Views.{allowance_view};
 ghost use Rattle.reg_core.specs.Entry.{registration_in};
 ghost use Rattle.reg_decisions.specs.Ground.{seen};
@@ -63,6 +63,17 @@ pub fn given_for<'a>(
 {
     let allowance = allowance_for(account, ask, rows)?;
     Ok(allowance.award.given())
+}
+
+/// The least value under a policy, as an ask for it is given it that meets all else, or the first
+/// refusal that it meets.
+pub fn least_for(policy: Policy, rows: FoundGround<'_>) -> Result<u32, Refusal>
+    ensures { result ≡ least_allowed (seen rows.entry) policy }
+{
+    let table = rows.table.ok_or(Refusal::Registry)?;
+    let want = Want::Least(policy);
+    policy_for(table, want)?;
+    value_for(rows, table, want)
 }
 
 /// What an ask of an account is allowed now, or the first refusal that it meets.
