@@ -4,7 +4,7 @@ ghost use Rattle.std.specs.FinMap.{contains_key, get, keys};
 ghost use Rattle.std.specs.List.Sorted.{IsStrictlyIncreasing};
 ghost use Rattle.reg_maps.specs.Maps.{only_if};
 ghost use Rattle.reg_core.specs.Arrivals.{arrival};
-ghost use Rattle.reg_core.specs.BlockDue.{due_in};
+ghost use Rattle.reg_core.specs.BlockDue.{due_in, is_taken_in};
 ghost use Rattle.reg_core.specs.CapRows.{cap_rows};
 ghost use Rattle.reg_core.specs.Entry.{entry_row};
 ghost use Rattle.reg_core.specs.File.{file as file_of, waiting_files};
@@ -132,6 +132,16 @@ pub trait Keeper {
     fn blocks(&mut self) -> Result<Rows<Listed>, Fault>
         ensures { Selects world Holds Sound FAILS self.old self.new result
             (λ w rows. rows ≡ listed_rows (masked_blocks w.blocks)) };
+
+    /// A block with its holder, if it was given.
+    fn block(&mut self, block: &Block) -> Result<Option<Holding>, Fault>
+        ensures { Selects world Holds Sound FAILS self.old self.new result
+            (λ w row. row ≡ option_map (holding_row block.now) (get w.blocks block.now)) };
+
+    /// Whether a block that was given shares an address with this one.
+    fn is_taken(&mut self, block: &Block) -> Result<bool, Fault>
+        ensures { Selects world Holds Sound FAILS self.old self.new result
+            (λ w taken. taken ≡ is_taken_in w.blocks block.now) };
 
     /// All blocks of an account, in order.
     fn holdings(&mut self, account: &Account) -> Result<Rows<Holding>, Fault>

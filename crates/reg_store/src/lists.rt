@@ -69,13 +69,13 @@ use std::collections::BTreeMap;
 /// A row by its key and a change take O(log n), whatever else there is, but a change of a
 /// request's state O((1 + experts) log n), for the experts of that request, and the removal of
 /// several capabilities O(log n) for each; the least value without an entry O(log n) for each range
-/// of its policy; the block due and whether a prefix is in the pool O(log n); a registry's ranges,
-/// its entries, an account's own requests, blocks, agents and principals, a request's file and an
-/// expert's queue O(log n + rows); the names of all registries, all blocks, all requests, all
-/// capabilities and all agents O(rows), and the pool O(rows log rows); the files of the requests
-/// that wait O(requests + rows), and O(log n) more for each of these files; all acts, and those of a
-/// day or by an account, O(acts). The acts about a request, and when it came, take O(log n + acts
-/// about it), and O(log n) more for each act that is noted for the first time.
+/// of its policy; the block due, whether a block is taken and whether a prefix is in the pool
+/// O(log n); a registry's ranges, its entries, an account's own requests, blocks, agents and
+/// principals, a request's file and an expert's queue O(log n + rows); the names of all registries,
+/// all blocks, all requests, all capabilities and all agents O(rows), and the pool O(rows log rows);
+/// the files of the requests that wait O(requests + rows), and O(log n) more for each of these files;
+/// all acts, and those of a day or by an account, O(acts). The acts about a request, and when it came,
+/// take O(log n + acts about it), and O(log n) more for each act that is noted for the first time.
 pub struct ListKeeper {
     alloc: Global,
     caps: Caps,
@@ -163,11 +163,10 @@ impl ListKeeper {
                 self.blocks.give(self.alloc, holding)?;
                 self.reviews.set_state(account, reference, approval);
             }
+            Change::PlaceBlock(holding) => self.blocks.give(self.alloc, holding)?,
             Change::SetPrivate(block, private) => self.blocks.mark(&block, private),
             Change::SetHold(name, value, held) => self.registrations.mark(&name, value, held),
-            Change::SetAgent(principal, agent, reads) => {
-                self.links.set(self.alloc, principal, agent, reads)?;
-            }
+            Change::SetAgent(by, agent, reads) => self.links.set(self.alloc, by, agent, reads)?,
         }
         Ok(())
     }
@@ -226,6 +225,14 @@ impl Keeper for ListKeeper {
 
     fn blocks(&mut self) -> Result<Rows<Listed>, Fault> {
         Ok(self.blocks.holdings().listing(self.alloc)?)
+    }
+
+    fn block(&mut self, block: &Block) -> Result<Option<Holding>, Fault> {
+        Ok(self.blocks.holdings().of_block(block)?)
+    }
+
+    fn is_taken(&mut self, block: &Block) -> Result<bool, Fault> {
+        Ok(self.blocks.is_taken(block))
     }
 
     fn holdings(&mut self, account: &Account) -> Result<Rows<Holding>, Fault> {

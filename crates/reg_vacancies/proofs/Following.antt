@@ -1,14 +1,17 @@
 -- That places follow a pool and the blocks given, and what is due by them then.
-use Rattle.std.proofs.Common.{◌≡◌, ℕ, ◌/◌, ◌^◌, get_or, List, Option, Some, None, refl, sym, subst, ◌∙◌, ◌⊎◌, inl, inr, arith}
-use Rattle.std.specs.Prelude.{All, Contains, [], ◌↔◌}
+use Rattle.std.proofs.Common.{◌≡◌, ℕ, ◌/◌, ◌^◌, get_or, List, Option, Some, None, refl, sym, ap, subst, ◌∙◌, ◌⊎◌, inl, inr, arith}
+use Rattle.std.specs.Prelude.{Bool, true, false, ◌&&◌, not, All, Contains, [], ◌↔◌}
+use Rattle.std.specs.Bool.{Decides}
+use Rattle.std.specs.List.{list_any}
 use Rattle.std.proofs.lemmas.List.Elements.{All-contains, All-contains_itself}
+use Rattle.std.proofs.lemmas.List.Folds.{Any-from_list_any, list_any_at}
 use Rattle.reg_blocks.specs.declared.size.Size.{Size}
 use Rattle.reg_blocks.specs.declared.size.Size.TheVariants.{MaL, MaM, MaS}
 use Rattle.reg_blocks.specs.Size.{address_count, blocks_in_prefix}
 use Rattle.reg_blocks.specs.Pool.{AddsPrefix}
-use Rattle.reg_blocks.specs.Block.{SizedPrefix, Clash, leading_24}
+use Rattle.reg_blocks.specs.Block.{SizedPrefix, Clash, ends_meet, leading_24}
 use Rattle.reg_blocks.specs.Due.{IsFree}
-use Rattle.reg_blocks.proofs.TrialFindsTheBlockDue.{IsAnswer}
+use Rattle.reg_blocks.proofs.TrialFindsTheBlockDue.{IsAnswer, ends_meet-Decides}
 use Rattle.reg_vacancies.specs.PoolPlaces.{AddsBlock, IsDueOf}
 
 all_from : {X : Type 0} (P : X → Type 0) (xs : List X) → ((x : X) → Contains xs x → P x) → All P xs
@@ -177,3 +180,60 @@ due_followed free pool given size (Some block) follows (there, e, least) = recor
   };
   none = ((λ is. absurd (cc)), (λ none. absurd (none block e ((follows block).0 there))));
 }
+
+-- ---- whether a block is taken
+
+module _ (free : SizedPrefix → Type 0) (pool : List ℕ) (given : List SizedPrefix)
+    (follows : IsFollowed free pool given) (block : SizedPrefix) where
+  -- a given block shares an address with this one
+  abbrev Taken : Type 0
+  Taken = (other : SizedPrefix) × Contains given other × Clash block other
+
+  shares : list_any (ends_meet block) given ≡ true → Taken
+  shares t =
+      let any = Any-from_list_any (ends_meet block) given t in
+      (any.1, (any.0, any.2, any.3), (ends_meet-Decides block any.1).0 any.4)
+
+  none_shares : list_any (ends_meet block) given ≡ false → (other : SizedPrefix)
+      → Contains given other → ¬ Clash block other
+  none_shares t other is clash =
+      let meets = (ends_meet-Decides block other).1 clash in
+      let shared : list_any (ends_meet block) given ≡ true =
+      list_any_at (ends_meet block) given is.0 other is.1 (ap (ends_meet block) is.2 ∙ meets) in
+      absurd (cc)
+
+  taken_in_pool : Taken → Contains pool (leading_24 block)
+  taken_in_pool (other, is, clash) =
+      subst (λ (n : ℕ). Contains pool n) (sym (clash_leading block other clash))
+      (All-contains (λ one. Contains pool (leading_24 one)) given other follows.1 is)
+
+  taken_not_free : Taken → ¬ free block
+  taken_not_free (other, is, clash) is_free =
+      All-contains (λ one. ¬ Clash block one) given other ((follows.0 block).0 is_free).apart is clash
+
+  rest_is_free : list_any (ends_meet block) given ≡ false → Contains pool (leading_24 block)
+      → free block
+  rest_is_free t there =
+      (follows.0 block).1 (record {
+        in_pool = there;
+        apart = all_from (λ other. ¬ Clash block other) given (none_shares t);
+      })
+
+  -- a block of the pool that is not free is taken
+  pub taken_followed : (pooled is_free : Bool) → Decides pooled (Contains pool (leading_24 block))
+      → Decides is_free (free block)
+      → (pooled && not is_free) ≡ list_any (ends_meet block) given
+  taken_followed pooled is_free in_pool tells =
+      by (list_any (ends_meet block) given) refl pooled is_free in_pool tells
+    where
+      by : (taken : Bool) → list_any (ends_meet block) given ≡ taken → (pooled is_free : Bool)
+          → Decides pooled (Contains pool (leading_24 block)) → Decides is_free (free block)
+          → (pooled && not is_free) ≡ taken
+      by true t true true in_pool tells = absurd (taken_not_free (shares t) (tells.0 refl))
+      by true t true false in_pool tells = refl
+      by true t false is_free in_pool tells =
+          let there = in_pool.1 (taken_in_pool (shares t)) in absurd (cc)
+      by false t true true in_pool tells = refl
+      by false t true false in_pool tells =
+          let unused = tells.1 (rest_is_free t (in_pool.0 refl)) in absurd (cc)
+      by false t false is_free in_pool tells = refl

@@ -1,6 +1,6 @@
 -- What the steps over runs leave: which numbers lie in the runs, where they are cut, and that they
 -- stay apart.
-use Rattle.std.proofs.Common.{◌≡◌, ◌≢◌, ℕ, ◌+◌, ◌-◌, ◌<◌, ◌≤◌, Some, sym, ◌∙◌, ◌⊎◌, inl, inr, arith}
+use Rattle.std.proofs.Common.{◌≡◌, ◌≢◌, ℕ, ◌+◌, ◌-◌, ◌<◌, ◌≤◌, Some, None, sym, ◌∙◌, ◌⊎◌, inl, inr, arith}
 use Rattle.std.specs.Prelude.{◌↔◌, List, [], ◌∷◌, ◌++◌}
 use Rattle.std.specs.BTreeMap.{IsUnchanged, Updates}
 use Rattle.std.specs.BTreeMap.Range.{IsRangeOf, IsLtBy}
@@ -252,3 +252,36 @@ below_found spans at between range first last rest is =
       λ f l run lt. ge_from_not_lt first f
           (range.4 (first, last) rest is f (tt, below_by f at lt) (is_some_at spans f l run)),
     )
+
+-- ---- whether a number lies in a run
+
+pub lies_in_none : (spans : Spans) (n : ℕ) → IsBelow spans (n + 1) None → ¬ Lies spans n
+lies_in_none spans n none l =
+    let past = none l.first l.last l.run in let low = l.low in omega arith
+
+-- a number that lies in a run lies in the last one that begins at or below it
+pub lies_in_last : (spans : Spans) → AreDisjoint spans → (n : ℕ) (run : ℕ × ℕ)
+    → IsBelow spans (n + 1) (Some run) → Lies spans n ↔ (n ≤ run.1)
+lies_in_last spans apart n run last = (
+  up,
+  λ high. record {
+    first = run.0;
+    last = run.1;
+    run = last.0;
+    low = let low = last.1 in omega arith;
+    high = high;
+  },
+)
+  where
+    up : Lies spans n → n ≤ run.1
+    up l =
+        let low = l.low in
+        let high = l.high in
+        let begins = last.2 l.first l.last l.run (omega arith) in
+        elim (cases_eq l.first run.0) [
+          | inl same ↦
+              let end = same_run spans run.0 run.1 l.first l.last same last.0 l.run in omega arith
+          | inr other ↦
+              let gap = apart.apart l.first l.last run.0 run.1 l.run last.0 (omega arith) in
+              omega arith
+        ]

@@ -1,5 +1,5 @@
 //! Runs of numbers in a map, from the first to the last number of each. Two runs may touch.
-ghost use Rattle.std.specs.Prelude.{ℕ, ◌+◌, ◌^◌, ◌<◌, ◌≤◌, ◌⊎◌, ◌↔◌, OnOk, OnErr};
+ghost use Rattle.std.specs.Prelude.{ℕ, ◌+◌, ◌^◌, ◌<◌, ◌≤◌, ◌⊎◌, ◌↔◌, IsTrue, OnOk, OnErr};
 ghost use Rattle.std.specs.BTreeMap.{IsUnchanged};
 ghost use Rattle.reg_maps.specs.Spans.{IsRun, Lies};
 ghost use Rattle.reg_vacancies.specs.BlockSpans.{AreDisjoint, BeginsIn, IsBelow, IsCut, IsInside, IsLeast, IsOutside, Splits};
@@ -17,6 +17,18 @@ pub fn least(spans: &Spans) -> Option<u64>
 {
     let (first, _) = spans.first_key_value()?;
     Some(*first)
+}
+
+/// Whether a number lies in a run.
+pub fn lies(spans: &Spans, n: u64) -> bool
+    requires apart { AreDisjoint spans.now }
+    requires fits { n + 1 < 2 ^ 64 }
+    ensures { IsTrue result ↔ Lies spans.now n }
+{
+    match below(spans, n + 1) {
+        Some((_, last)) => n <= last,
+        None => false,
+    }
 }
 
 /// Adds a run of numbers of which none is there.

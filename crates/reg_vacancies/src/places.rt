@@ -3,7 +3,7 @@ ghost use Rattle.std.specs.Prelude.{◌≡◌, Contains, IsTrue, IfOk, OnOk, OnE
 ghost use Rattle.std.specs.FinMap as fin;
 ghost use Rattle.reg_blocks.specs.Block.{leading_24};
 ghost use Rattle.reg_blocks.specs.Pool.{is_pool_prefix};
-ghost use Rattle.reg_core.specs.BlockDue.{due_in};
+ghost use Rattle.reg_core.specs.BlockDue.{due_in, is_taken_in};
 ghost use Rattle.reg_core.specs.declared.holding.Holder.{Holder};
 
 use crate::pool::pool_with;
@@ -56,6 +56,14 @@ impl FreePlaces {
     {
         let _prefixes = self.places.prefixes();
         self.places.due(size)
+    }
+
+    /// Whether a block shares an address with one that was given.
+    pub fn is_taken(&self, block: &Block) -> bool
+        ensures { (blocks : Blocks) → AreLeftBy self.now blocks
+            → result ≡ is_taken_in blocks block.now }
+    {
+        self.places.is_taken(block)
     }
 
     /// Adds a prefix that may be in a pool; one that is there changes nothing.

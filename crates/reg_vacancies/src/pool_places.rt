@@ -1,12 +1,13 @@
 //! The pool, and the free places in it, from which blocks are given in any order.
 ghost use Rattle.std.specs.Prelude.{◌≡◌, [], ◌⊎◌, ◌↔◌, List, Contains, IsTrue, Ok, IfSome, IsNone, OnOk, OnErr};
-ghost use Rattle.reg_blocks.specs.Block.{SizedPrefix, Clash, leading_24};
+ghost use Rattle.std.specs.List.{list_any};
+ghost use Rattle.reg_blocks.specs.Block.{SizedPrefix, Clash, ends_meet, leading_24};
 ghost use Rattle.reg_blocks.specs.Due.{IsDue, NoneIsFree, block_due};
 ghost use Rattle.reg_blocks.specs.Pool.{is_pool_prefix, AddsPrefix, IsPool};
 ghost use Rattle.reg_vacancies.specs.BlockSpans.{AreDisjoint};
 ghost use Rattle.reg_vacancies.specs.Sizes.{AreBlocks, ArePooled, AreSound, runs_of};
 
-use crate::block_spans::Spans;
+use crate::block_spans::{Spans, lies};
 use crate::sizes::{add_pooled, due_among, give_block};
 use reg_blocks::block::Block;
 use reg_blocks::size::Size;
@@ -111,6 +112,16 @@ impl Places {
             → result ≡ block_due (pool_of self.now) given size }
     {
         due_among(self.runs(size), size)
+    }
+
+    /// Whether a block shares an address with one of the blocks given that the places follow.
+    pub fn is_taken(&self, block: &Block) -> bool
+        ensures { (given : List SizedPrefix) → FollowsGiven self.now given
+            → result ≡ list_any (ends_meet block.now) given }
+    {
+        let is_pooled = self.prefixes.contains(&block.leading());
+        let is_free = lies(self.runs(block.size()), block.prefix());
+        is_pooled && !is_free
     }
 
     fn runs(&self, size: Size) -> &Spans

@@ -4,7 +4,7 @@ ghost use Rattle.std.specs.FinMap as fin;
 ghost use Rattle.reg_blocks.specs.Block.{leading_24};
 ghost use Rattle.reg_blocks.specs.Pool.{is_pool_prefix};
 ghost use Rattle.reg_ranges.specs.FreeValues.{least_value};
-ghost use Rattle.reg_core.specs.BlockDue.{due_in};
+ghost use Rattle.reg_core.specs.BlockDue.{due_in, is_taken_in};
 ghost use Rattle.reg_core.specs.LeastFree.{values_in};
 ghost use Rattle.reg_core.specs.declared.entry.Registration.{Registration};
 ghost use Rattle.reg_core.specs.declared.holding.Holder.{Holder};
@@ -56,6 +56,13 @@ impl Vacancies {
         ensures { OfAll self.now (λ entries pool blocks. result ≡ due_in pool blocks size) }
     {
         self.places.due(size)
+    }
+
+    /// Whether a block shares an address with one that was given.
+    pub fn is_taken(&self, block: &Block) -> bool
+        ensures { OfAll self.now (λ entries pool blocks. result ≡ is_taken_in blocks block.now) }
+    {
+        self.places.is_taken(block)
     }
 
     /// The pool.

@@ -4,7 +4,7 @@ ghost use Rattle.std.specs.FinMap as fin;
 ghost use Rattle.reg_maps.specs.Maps.{update};
 ghost use Rattle.reg_blocks.specs.Block.{leading_24};
 ghost use Rattle.reg_blocks.specs.Pool.{is_pool_prefix};
-ghost use Rattle.reg_core.specs.BlockDue.{due_in};
+ghost use Rattle.reg_core.specs.BlockDue.{due_in, is_taken_in};
 ghost use Rattle.reg_core.specs.Holding.{holder_in, with_mark};
 ghost use Rattle.reg_vacancies.specs.Places.{AreLeftBy, pool_in};
 ghost use Rattle.reg_store.specs.Lists.Holdings.{blocks_held};
@@ -66,6 +66,13 @@ impl Blocks {
         ensures { result ≡ due_in (pool_held self.now) (blocks_given self.now) size }
     {
         self.places.due(size)
+    }
+
+    /// Whether a block that was given shares an address with this one.
+    pub fn is_taken(&self, block: &Block) -> bool
+        ensures { result ≡ is_taken_in (blocks_given self.now) block.now }
+    {
+        self.places.is_taken(block)
     }
 
     /// Adds a prefix that may be in a pool; one that is there changes nothing.

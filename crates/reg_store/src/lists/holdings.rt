@@ -65,6 +65,17 @@ impl Holdings {
         )?))
     }
 
+    /// A block with its holder, if it was given.
+    pub fn of_block(&self, block: &Block) -> Result<Option<Holding>, AllocError>
+        ensures { IfOk result (λ row. row
+            ≡ option_map (holding_of block.now) (fin.get (blocks_held self.now) block.now)) }
+    {
+        match row_at(&self.holders, block) {
+            Some(holder) => Ok(Some(holder.holding(*block)?)),
+            None => Ok(None),
+        }
+    }
+
     /// A block, if it is one of an account's.
     pub fn one(&self, account: &Account, block: &Block) -> Result<Option<Holding>, AllocError>
         ensures { IfOk result (λ row. row ≡ option_map (holding_of block.now)
