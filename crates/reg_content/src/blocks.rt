@@ -1,6 +1,5 @@
 //! Blocks that were given, in their table.
-ghost use Rattle.std.specs.Prelude.{◌≡◌, ◌&&◌, true, None, IfOk, map};
-ghost use Rattle.std.specs.Prelude.{option_and_then, option_map};
+ghost use Rattle.std.specs.Prelude.{◌≡◌, None, IfOk, map, option_and_then, option_map};
 ghost use Rattle.std.specs.FinMap.{get, insert};
 ghost use Rattle.std.specs.Ordering.{eq_by_cmp};
 ghost use Rattle.sqlite.specs.Held.{state};
@@ -11,7 +10,6 @@ ghost use Rattle.reg_core.specs.Holding.{listed_row, listed_rows, masked, masked
 ghost use Rattle.reg_core.specs.View.{holdings_of};
 ghost use Rattle.reg_core.specs.World.{World, applied};
 ghost use Rattle.reg_core.specs.declared.change.Change.TheVariants.{SetPrivate};
-ghost use Rattle.reg_records.specs.Blocks.{is_holding};
 ghost use Rattle.reg_rows.specs.Calls.{IsKeeping, Looks, Steps};
 ghost use Rattle.reg_rows.specs.Changing.{SharesNone};
 
@@ -61,8 +59,22 @@ pub fn holdings<S: Reports + Loads>(
     Ok(Rows::from_vec(holdings))
 }
 
-/// A block, if it is one of an account's.
+/// A block with its holder, if it was given.
 #[tactic(auto, using(reg_tables::proofs::Statements::block_by_key))]
+pub fn holding_at<S: Reports + Loads>(
+    alloc: Global,
+    conn: &mut Connection<S>,
+    block: &Block,
+) -> Result<Option<Holding>, Fault>
+    requires { IsKeeping (state S.Store conn.old) }
+    ensures { Looks (state S.Store conn.old) (state S.Store conn.new) result
+        (λ w row. row ≡ option_map (holding_row block.now) (get w.blocks block.now)) }
+{
+    let found = find::<S, Holding>(alloc, conn, SELECT_BLOCK, &[whole_value(block.first())])?;
+    Ok(if_at(found, block))
+}
+
+/// A block, if it is one of an account's.
 pub fn holding<S: Reports + Loads>(
     alloc: Global,
     conn: &mut Connection<S>,
@@ -74,8 +86,8 @@ pub fn holding<S: Reports + Loads>(
         (λ w row. row ≡ option_map (holding_row block.now)
         (get (holdings_of account.now w) block.now)) }
 {
-    let found = find::<S, Holding>(alloc, conn, SELECT_BLOCK, &[whole_value(block.first())])?;
-    Ok(if_of(found, account, block))
+    let found = holding_at(alloc, conn, block)?;
+    Ok(if_of(found, account))
 }
 
 /// Adds a block that was not given yet.
@@ -88,7 +100,7 @@ pub fn add_block<S: Reports>(tx: &mut Transaction<'_, S>, holding: &Holding) -> 
           blocks = insert w.blocks holding.now.block (holder_in holding.now);
         }) }
 {
-    formed(holding);
+    holding.formed();
     add::<S, Holding>(tx, INSERT_BLOCKS, &holding_values(holding))
 }
 
@@ -110,25 +122,23 @@ pub fn set_private<S: Reports>(
     )
 }
 
-/// Does nothing: the parts of a holding have their forms.
-fn formed(holding: &Holding)
-    ensures { is_holding holding.now ≡ true }
-{
-    let _prefix = holding.block.prefix();
-    holding.holder.formed();
-    holding.organization.formed();
-    holding.address.formed();
-}
-
-/// The holding, if it is of this block and one of this account's.
-fn if_of(found: Option<Holding>, account: &Account, block: &Block) -> Option<Holding>
-    ensures { result ≡ option_and_then (λ h. only_if
-        (eq_by_cmp block_cmp block.now h.block && same_text h.holder account.now) h) found }
+/// The holding, if it is of this block.
+fn if_at(found: Option<Holding>, block: &Block) -> Option<Holding>
+    ensures { result ≡ option_and_then
+        (λ h. only_if (eq_by_cmp block_cmp block.now h.block) h) found }
 {
     match found {
-        Some(holding) if block.cmp(&holding.block).is_eq() && holding.holder == *account => {
-            Some(holding)
-        }
+        Some(holding) if block.cmp(&holding.block).is_eq() => Some(holding),
+        _ => None,
+    }
+}
+
+/// The holding, if it is one of this account's.
+fn if_of(found: Option<Holding>, account: &Account) -> Option<Holding>
+    ensures { result ≡ option_and_then (λ h. only_if (same_text h.holder account.now) h) found }
+{
+    match found {
+        Some(holding) if holding.holder == *account => Some(holding),
         _ => None,
     }
 }
@@ -138,25 +148,9 @@ fn listed_all(alloc: Global, holdings: Vec<Holding>) -> Result<Rows<Listed>, All
     ensures { IfOk result (λ rows. rows
         ≡ map (λ h. listed_row h.block (masked (holder_in h))) holdings.items) }
 {
-    let rows: Vec<Listed> = holdings.into_iter().map(listed).collect(alloc)?;
+    let rows: Vec<Listed> = holdings
+        .into_iter()
+        .map(Holding::into_listed)
+        .collect(alloc)?;
     Ok(Rows::from_vec(rows))
-}
-
-/// The holding, as the public sees it.
-fn listed(holding: Holding) -> Listed
-    ensures { result ≡ listed_row holding.block (masked (holder_in holding)) }
-{
-    let block = holding.block;
-    if holding.private {
-        return Listed {
-            block,
-            organization: None,
-            address: None,
-        };
-    }
-    Listed {
-        block,
-        organization: Some(holding.organization),
-        address: Some(holding.address),
-    }
 }

@@ -10,7 +10,7 @@ ghost use Rattle.reg_rows.specs.Calls.{Alters, IsCommitted, IsKeeping, IsUncommi
 ghost use Rattle.reg_rows.specs.Changing.{ChangeFits, writes_row};
 ghost use Rattle.reg_statements.specs.Content.{world_in};
 
-use crate::blocks::set_private;
+use crate::blocks::{add_block, set_private};
 use crate::caps::{add_cap, take_cap, take_caps};
 use crate::give::{give_block, give_value, submit};
 use crate::links::set_agent;
@@ -165,6 +165,7 @@ fn make<S: Reports>(
         Change::GiveBlock(account, reference, holding) => {
             give_block(alloc, tx, account, reference, holding)
         }
+        Change::PlaceBlock(holding) => add_block(tx, holding),
         Change::SetPrivate(block, private) => set_private(tx, block, *private),
         Change::SetHold(name, value, held) => set_hold(tx, name, *value, *held),
         Change::SetAgent(principal, agent, reads) => set_agent(tx, principal, agent, *reads),

@@ -332,6 +332,8 @@ of_kind_kept kind.Assign row d h = map_some _ (assigned_in row) d h (λ s is sam
 of_kind_kept kind.Advise row d h = map_some _ (advised_in row) d h (λ a is same.
     subst (Keeps row kind.Advise) same (let k = advised.kept row a is in (k.0, refl, k.1)))
 of_kind_kept kind.Approve row d h = approved_kept row d h
+of_kind_kept kind.Place row d h = map_some _ (marked_in row) d h (λ m is same.
+    subst (Keeps row kind.Place) same (let k = marked.kept row m is in (k.0, refl, k.1)))
 of_kind_kept kind.Private row d h = map_some _ (marked_in row) d h (λ m is same.
     subst (Keeps row kind.Private) same (let k = marked.kept row m is in (k.0, refl, k.1)))
 of_kind_kept kind.Public row d h = map_some _ (marked_in row) d h (λ m is same.
@@ -383,6 +385,8 @@ of_kind_back row (did.GiveBlock account reference block) h form =
       size_there row (did.GiveBlock account reference block) h refl,
       blocked.back row ((account, reference), block) h form,
     ) refl
+of_kind_back row (did.Place holder block) h form =
+    rw (marked.back row (holder, block) h form) refl
 of_kind_back row (did.Private holder block true) h form =
     rw (marked.back row (holder, block) h form) refl
 of_kind_back row (did.Private holder block false) h form =

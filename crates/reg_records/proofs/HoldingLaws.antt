@@ -10,8 +10,9 @@ use Rattle.reg_blocks.specs.Size.{address_count, word_of}
 use Rattle.reg_blocks.specs.declared.size.Size.{Size}
 use Rattle.reg_blocks.specs.declared.size.Size.TheVariants.{MaL}
 use Rattle.reg_ranges.specs.Texts.{is_text}
+use Rattle.reg_core.specs.Holding.{has_row_form}
 use Rattle.reg_core.specs.Names.{is_name}
-use Rattle.reg_records.specs.Blocks.{block_at, block_cells, block_in, holding_columns, holding_in, holding_values, is_holding}
+use Rattle.reg_records.specs.Blocks.{block_at, block_cells, block_in, holding_columns, holding_in, holding_values}
 use Rattle.reg_records.specs.Columns.{whole_value}
 use Rattle.reg_records.specs.Laws.{KeepsRows}
 use Rattle.reg_records.proofs.ColumnLaws.{both, column-at, column_some, flags, formed_texts, given-at, given_some, keeps_rows, let_through, wholes, words}
@@ -74,7 +75,7 @@ block_read row block h =
 
 -- ---- Holdings
 
-pub holdings_kept : KeepsRows holding_columns holding_in holding_values is_holding
+pub holdings_kept : KeepsRows holding_columns holding_in holding_values has_row_form
 holdings_kept =
     keeps_rows (λ holding form.
     both _ _ form (λ block form. both _ _ form (λ form address.
@@ -94,6 +95,6 @@ holdings_kept =
     column_some (formed_texts is_text) (column row 3) _ holding h (λ organization is3 form3 h.
     column_some (formed_texts is_text) (column row 4) _ holding h (λ address is4 form4 h.
     column_some flags (column row 5) _ holding h (λ private is5 form5 h.
-    subst (λ o. (holding_columns row ≡ holding_values o) × (is_holding o ≡ true))
+    subst (λ o. (holding_columns row ≡ holding_values o) × (has_row_form o ≡ true))
     (same_Some _ _ h)
     (rw (is0, is1, is2, is3, is4, is5) refl, rw (form0, form2, form3, form4) refl)))))))

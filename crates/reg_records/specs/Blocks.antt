@@ -1,14 +1,12 @@
 -- Blocks that were given, with their holders, as rows of the table `blocks`.
-use Rattle.std.specs.Prelude.{ℕ, ◌/◌, ◌%◌, Bool, ◌==◌, if◌then◌else◌, [], ◌∷◌, Option, Some, None}
+use Rattle.std.specs.Prelude.{ℕ, ◌/◌, ◌%◌, ◌==◌, if◌then◌else◌, [], ◌∷◌, Option, Some, None}
 use Rattle.sqlite.specs.Order.{Row, column}
 use Rattle.sqlite.specs.declared.types.Value.TheVariants.{Text}
 use Rattle.reg_blocks.specs.Block.{SizedPrefix, first_address, make_block}
 use Rattle.reg_blocks.specs.Size.{address_count, word_of}
 use Rattle.reg_blocks.specs.declared.size.Size.{Size}
 use Rattle.reg_ranges.specs.Texts.{is_text}
-use Rattle.reg_core.specs.Holding.{holder_in}
 use Rattle.reg_core.specs.Names.{is_name}
-use Rattle.reg_core.specs.WellKept.{has_holding_form}
 use Rattle.reg_core.specs.declared.holding.Holding.{Holding}
 use Rattle.reg_records.specs.Columns.{flag_in, flag_value, formed_in, given, read_in, whole_in, whole_value}
 use Rattle.reg_records.specs.Words.{read_size}
@@ -57,7 +55,3 @@ holding_values holding =
     whole_value (first_address holding.block) ∷ Text (word_of holding.block.size)
     ∷ Text holding.holder ∷ Text holding.organization ∷ Text holding.address
     ∷ flag_value holding.private ∷ []
-
--- its block and its holder have their forms
-abbrev pub is_holding : Holding → Bool
-is_holding holding = has_holding_form holding.block (holder_in holding)

@@ -9,7 +9,7 @@ use Rattle.reg_core.specs.Names.{is_first_digits, is_name}
 use Rattle.reg_core.specs.World.{Place, RequestName, Seat}
 use Rattle.reg_core.specs.declared.advice.Verdict.{Verdict}
 use Rattle.reg_core.specs.declared.journal.ActKind.{ActKind}
-use Rattle.reg_core.specs.declared.journal.ActKind.TheVariants.{Grant, Revoke, Define, Pool, Submit, Withdraw, Decline, Assign, Advise, Approve, Private, Public, Hold, Release, Appoint, Dismiss}
+use Rattle.reg_core.specs.declared.journal.ActKind.TheVariants.{Grant, Revoke, Define, Pool, Submit, Withdraw, Decline, Assign, Advise, Approve, Place as Placed, Private, Public, Hold, Release, Appoint, Dismiss}
 use Rattle.reg_core.specs.declared.journal.Deed.{Deed}
 use Rattle.reg_core.specs.declared.journal.Deed.TheVariants as did
 use Rattle.reg_records.specs.Blocks.{block_cells, block_in}
@@ -139,6 +139,7 @@ deed_of Decline row = option_map (λ n. did.Decline n.0 n.1) (asked_in row)
 deed_of Assign row = option_map (λ s. did.Assign s.0.0 s.0.1 s.1) (assigned_in row)
 deed_of Advise row = option_map (λ a. did.Advise a.0.0.0 a.0.0.1 a.0.1 a.1) (advised_in row)
 deed_of Approve row = approved_in row
+deed_of Placed row = option_map (λ m. did.Place m.0 m.1) (marked_in row)
 deed_of Private row = option_map (λ m. did.Private m.0 m.1 true) (marked_in row)
 deed_of Public row = option_map (λ m. did.Private m.0 m.1 false) (marked_in row)
 deed_of Hold row = option_map (λ p. did.Hold p.0 p.1 true) (held_in row)
@@ -170,6 +171,7 @@ who_values (did.Advise account reference expert verdict) =
 who_values (did.GiveValue account reference registry value) =
     Text account ∷ Text reference ∷ nulls 2
 who_values (did.GiveBlock account reference block) = Text account ∷ Text reference ∷ nulls 2
+who_values (did.Place holder block) = Text holder ∷ nulls 3
 who_values (did.Private holder block private) = Text holder ∷ nulls 3
 who_values (did.Hold name value held) = nulls 4
 who_values (did.Appoint principal agent reads) = Text principal ∷ Null ∷ Text agent ∷ Null ∷ []
@@ -188,6 +190,7 @@ what_values (did.Advise account reference expert verdict) = nulls 3
 what_values (did.GiveValue account reference registry value) =
     Text registry ∷ whole_value value ∷ Null ∷ []
 what_values (did.GiveBlock account reference block) = Null ∷ block_cells block
+what_values (did.Place holder block) = Null ∷ block_cells block
 what_values (did.Private holder block private) = Null ∷ block_cells block
 what_values (did.Hold name value held) = Text name ∷ whole_value value ∷ Null ∷ []
 what_values (did.Appoint principal agent reads) = nulls 3
@@ -219,6 +222,7 @@ is_deed (did.GiveValue account reference registry value) =
     (is_name account && is_name reference) && (is_name registry && is_number value)
 is_deed (did.GiveBlock account reference block) =
     (is_name account && is_name reference) && is_block block
+is_deed (did.Place holder block) = is_name holder && is_block block
 is_deed (did.Private holder block private) = is_name holder && is_block block
 is_deed (did.Hold name value held) = is_name name && is_number value
 is_deed (did.Appoint principal agent reads) = is_name principal && is_name agent

@@ -2,7 +2,8 @@
 ghost use Rattle.reg_records.specs.Acts.{act_columns, act_in, act_values, is_numbered_act};
 ghost use Rattle.reg_records.specs.Links.{is_link, link_columns, link_in, link_values};
 ghost use Rattle.reg_records.specs.Advice.{advice_columns, advice_in, advice_values, is_expert_advice};
-ghost use Rattle.reg_records.specs.Blocks.{holding_columns, holding_in, holding_values, is_holding};
+ghost use Rattle.reg_core.specs.Holding.{has_row_form};
+ghost use Rattle.reg_records.specs.Blocks.{holding_columns, holding_in, holding_values};
 ghost use Rattle.reg_records.specs.Caps.{grant_columns, grant_in, grant_values, is_grant};
 ghost use Rattle.reg_records.specs.Entries.{EntriesReadUnheld, entry_columns, entry_in, entry_values, is_entry};
 ghost use Rattle.reg_records.specs.Holds.{hold_columns, hold_in, hold_values, is_hold};
@@ -26,7 +27,7 @@ pub fn rows_read_back()
     ensures queue { KeepsRows seat_columns seat_in seat_values is_seat }
     ensures advice { KeepsRows advice_columns advice_in advice_values is_expert_advice }
     ensures pool { KeepsRows prefix_columns prefix_in prefix_values is_prefix }
-    ensures blocks { KeepsRows holding_columns holding_in holding_values is_holding }
+    ensures blocks { KeepsRows holding_columns holding_in holding_values has_row_form }
     ensures holds { KeepsRows hold_columns hold_in hold_values is_hold }
     ensures minutes { KeepsRows minute_columns minute_in minute_values is_minute }
     ensures agents { KeepsRows link_columns link_in link_values is_link }

@@ -91,6 +91,7 @@ its_name account reference (did.GiveBlock of under block) =
     named (same_text of account) (same_text under reference)
 its_name account reference (did.Grant of token) = never (same_text of account)
 its_name account reference (did.Revoke of token) = never (same_text of account)
+its_name account reference (did.Place of block) = never (same_text of account)
 its_name account reference (did.Private of block private) = never (same_text of account)
 its_name account reference (did.Appoint of agent reads) = never (same_text of account)
 its_name account reference deed = refl

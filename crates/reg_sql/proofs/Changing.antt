@@ -7,7 +7,7 @@ use Rattle.reg_core.specs.Entry.{with_hold}
 use Rattle.reg_core.specs.Holding.{with_mark}
 use Rattle.reg_core.specs.World.{World, applied}
 use Rattle.reg_core.specs.declared.change.Change.{Change}
-use Rattle.reg_core.specs.declared.change.Change.TheVariants.{AddPool, GiveBlock, GiveValue, SetHold, SetPrivate}
+use Rattle.reg_core.specs.declared.change.Change.TheVariants.{AddPool, GiveBlock, GiveValue, PlaceBlock, SetHold, SetPrivate}
 use Rattle.reg_core.specs.declared.entry.Entry.{Entry}
 use Rattle.reg_core.specs.declared.holding.Holding.{Holding}
 use Rattle.reg_core.proofs.KeyOrders.{place_keys}
@@ -27,15 +27,17 @@ pub left_free : (w : World) (vacancies : Vacancies) (change : Change)
     → change ≡ GiveValue account reference entry → ⊥)
     → ((account reference : List ℕ) (holding : Holding)
     → change ≡ GiveBlock account reference holding → ⊥)
+    → ((holding : Holding) → change ≡ PlaceBlock holding → ⊥)
     → AreVacanciesOf w vacancies → AreVacanciesOf (applied w change) vacancies
-left_free w vacancies (AddPool prefix) pool value block are = absurd (pool prefix refl)
-left_free w vacancies (GiveValue account reference entry) pool value block are =
+left_free w vacancies (AddPool prefix) pool value block place are = absurd (pool prefix refl)
+left_free w vacancies (GiveValue account reference entry) pool value block place are =
     absurd (value account reference entry refl)
-left_free w vacancies (GiveBlock account reference holding) pool value block are =
+left_free w vacancies (GiveBlock account reference holding) pool value block place are =
     absurd (block account reference holding refl)
-left_free w vacancies (SetPrivate mark private) pool value block are =
+left_free w vacancies (PlaceBlock holding) pool value block place are = absurd (place holding refl)
+left_free w vacancies (SetPrivate mark private) pool value block place are =
     holders_are_changed vacancies w.entries w.pool w.blocks are mark (with_mark private)
-left_free w vacancies (SetHold name at held) pool value block are =
+left_free w vacancies (SetHold name at held) pool value block place are =
     keys_decide vacancies w.entries (update w.entries (name, at) (with_hold held)) w.pool w.blocks
     w.blocks (contains-changed place_keys w.entries (name, at) (with_hold held)) (λ block. refl) are
-left_free w vacancies change pool value block are = are
+left_free w vacancies change pool value block place are = are

@@ -32,6 +32,7 @@ fn follow(vacancies: &mut Vacancies, change: &Change) -> bool
             vacancies.take_value(&entry.registry, entry.value).is_ok()
         }
         Change::GiveBlock(_, _, holding) => vacancies.give(holding.block).is_ok(),
+        Change::PlaceBlock(holding) => vacancies.give(holding.block).is_ok(),
         _ => true,
     }
 }

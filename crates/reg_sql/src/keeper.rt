@@ -6,7 +6,7 @@ ghost use Rattle.reg_tables.specs.Version.{newest};
 ghost use Rattle.reg_rows.specs.Calls.{Alters, Looks};
 ghost use Rattle.reg_statements.specs.Content.{world_in};
 ghost use Rattle.reg_opening.specs.Opening.{IsOurs};
-ghost use Rattle.reg_core.specs.BlockDue.{due_in};
+ghost use Rattle.reg_core.specs.BlockDue.{due_in, is_taken_in};
 ghost use Rattle.reg_core.specs.WellKept.{CanApply, WellKept};
 ghost use Rattle.reg_core.specs.World.{applied};
 ghost use Rattle.reg_keeper.specs.Keeper.{applied_with};
@@ -17,7 +17,7 @@ use crate::vacancies::vacancies_of;
 use reg_blocks::block::Block;
 use reg_blocks::pool::Pool;
 use reg_blocks::size::Size;
-use reg_content::blocks::{blocks, holding, holdings};
+use reg_content::blocks::{blocks, holding, holding_at, holdings};
 use reg_content::caps::cap;
 use reg_content::change;
 use reg_content::links::{agents, is_agent, principal_rows, principals};
@@ -60,10 +60,10 @@ use std::marker::Model;
 /// requests, and the experts of each take a statement more. The mark of an entry that expires
 /// and the minute of a renewal take a statement more. A change is one transaction, with
 /// a statement for each row that it touches, and one for each of its acts. The number of the last act
-/// is kept beside the tables, and so is what is free: the least value
-/// without an entry takes O(log n) for each range of its policy, the block due O(log n). It is found
-/// with the rows when the office is opened, follows each change, and is made anew of the rows after
-/// one that was not made.
+/// is kept beside the tables, and so is what is free: the least value without an entry takes O(log n)
+/// for each range of its policy, the block due and whether a block is taken O(log n). It is found with
+/// the rows when the office is opened, follows each change, and is made anew of the rows after one that
+/// was not made.
 #[derive(Drop)]
 pub struct SqlKeeper<S: Alter> {
     tables: Tables<S>,
@@ -106,6 +106,19 @@ impl<S: Reports + Loads> Tables<S> {
         let due = vacancies.due(size);
         self.vacancies = Some(vacancies);
         Ok(due)
+    }
+
+    /// Whether a block that was given shares an address with this one.
+    fn is_taken(&mut self, block: &Block) -> Result<bool, Fault>
+        requires { Holds (state S.Store self.old) → WellKept (world_in (state S.Store self.old)) }
+        ensures { Looks (state S.Store self.old) (state S.Store self.new) result
+            (λ w taken. taken ≡ is_taken_in w.blocks block.now) }
+    {
+        let kept = self.vacancies.take();
+        let vacancies = vacancies_of(self.alloc, &mut self.conn, kept)?;
+        let taken = vacancies.is_taken(block);
+        self.vacancies = Some(vacancies);
+        Ok(taken)
     }
 
     /// Makes a change in one transaction, without an act.
@@ -235,6 +248,14 @@ impl<S: Reports + Loads> Keeper for SqlKeeper<S> {
 
     fn blocks(&mut self) -> Result<Rows<Listed>, Fault> {
         blocks(self.tables.alloc, &mut self.tables.conn)
+    }
+
+    fn block(&mut self, block: &Block) -> Result<Option<Holding>, Fault> {
+        holding_at(self.tables.alloc, &mut self.tables.conn, block)
+    }
+
+    fn is_taken(&mut self, block: &Block) -> Result<bool, Fault> {
+        self.tables.is_taken(block)
     }
 
     fn holdings(&mut self, account: &Account) -> Result<Rows<Holding>, Fault> {

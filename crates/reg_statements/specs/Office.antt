@@ -2,7 +2,7 @@
 use Rattle.std.specs.Prelude.{ℕ, List}
 use Rattle.reg_blocks.specs.Block.{SizedPrefix}
 use Rattle.reg_ranges.specs.declared.range.Range.{Range}
-use Rattle.reg_core.specs.Holding.{holder_in, holding_row}
+use Rattle.reg_core.specs.Holding.{has_row_form, holder_in, holding_row}
 use Rattle.reg_core.specs.Request.{case_of, request_row}
 use Rattle.reg_core.specs.declared.holding.Holder.{Holder}
 use Rattle.reg_core.specs.declared.holding.Holding.{Holding}
@@ -20,7 +20,7 @@ use Rattle.reg_records.specs.Advice.{advice_in, advice_values, is_expert_advice}
 use Rattle.reg_records.specs.Links.{is_link, link_in, link_values}
 use Rattle.reg_records.specs.Caps.{grant_in, grant_values, is_grant}
 use Rattle.reg_records.specs.Entries.{entry_in, entry_values, is_entry}
-use Rattle.reg_records.specs.Blocks.{holding_in, holding_values, is_holding}
+use Rattle.reg_records.specs.Blocks.{holding_in, holding_values}
 use Rattle.reg_records.specs.Holds.{hold_in, hold_values, is_hold}
 use Rattle.reg_records.specs.Minutes.{is_minute, minute_in, minute_values}
 use Rattle.reg_records.specs.Ranges.{is_registry_range, range_in, range_values}
@@ -194,7 +194,7 @@ blocks = record {
   width = 6;
   read = holding_in;
   values = holding_values;
-  form = is_holding;
+  form = has_row_form;
   pair = λ h. (h.block, holder_in h);
   item = λ block holder. holding_row block holder;
   at = holder_at;

@@ -67,6 +67,7 @@ fn deed_of(kind: ActKind, row: &Row) -> Option<Deed>
             given.1,
         )),
         ActKind::Approve => approved(row),
+        ActKind::Place => marked(row).map(|given| Deed::Place(given.0, given.1)),
         ActKind::Private => marked(row).map(|mark| Deed::Private(mark.0, mark.1, true)),
         ActKind::Public => marked(row).map(|mark| Deed::Private(mark.0, mark.1, false)),
         ActKind::Hold => held(row).map(|place| Deed::Hold(place.0, place.1, true)),
@@ -263,7 +264,9 @@ fn who_values(deed: &Deed) -> [ValueRef<'_>; 4]
             name_value(expert),
             word_value(verdict),
         ],
-        Deed::Private(holder, _, _) => [name_value(holder), NULL, NULL, NULL],
+        Deed::Place(holder, _) | Deed::Private(holder, _, _) => {
+            [name_value(holder), NULL, NULL, NULL]
+        }
         Deed::Appoint(principal, agent, _) => {
             [name_value(principal), NULL, name_value(agent), NULL]
         }
@@ -281,7 +284,7 @@ fn registry_value(deed: &Deed) -> ValueRef<'_>
         Deed::Grant(_, _) | Deed::Revoke(_, _) | Deed::AddPool(_) => NULL,
         Deed::Submit(_, _) | Deed::Withdraw(_, _) | Deed::Decline(_, _) => NULL,
         Deed::Assign(_, _, _) | Deed::Advise(_, _, _, _) | Deed::GiveBlock(_, _, _) => NULL,
-        Deed::Private(_, _, _) | Deed::Appoint(_, _, _) => NULL,
+        Deed::Place(_, _) | Deed::Private(_, _, _) | Deed::Appoint(_, _, _) => NULL,
     }
 }
 
@@ -293,7 +296,9 @@ fn value_value(deed: &Deed) -> ValueRef<'static>
         Deed::AddPool(value) | Deed::GiveValue(_, _, _, value) | Deed::Hold(_, value, _) => {
             number_value(*value)
         }
-        Deed::GiveBlock(_, _, block) | Deed::Private(_, block, _) => whole_value(block.first()),
+        Deed::GiveBlock(_, _, block) | Deed::Place(_, block) | Deed::Private(_, block, _) => {
+            whole_value(block.first())
+        }
         Deed::Grant(_, _) | Deed::Revoke(_, _) | Deed::Define(_) => NULL,
         Deed::Submit(_, _) | Deed::Withdraw(_, _) | Deed::Decline(_, _) => NULL,
         Deed::Assign(_, _, _) | Deed::Advise(_, _, _, _) | Deed::Appoint(_, _, _) => NULL,
@@ -305,7 +310,9 @@ fn size_value(deed: &Deed) -> ValueRef<'static>
     ensures { bound_value (owned result) ≡ column (what_values deed.now) 2 }
 {
     match deed {
-        Deed::GiveBlock(_, _, block) | Deed::Private(_, block, _) => word_value(&block.size()),
+        Deed::GiveBlock(_, _, block) | Deed::Place(_, block) | Deed::Private(_, block, _) => {
+            word_value(&block.size())
+        }
         Deed::Grant(_, _) | Deed::Revoke(_, _) | Deed::Define(_) | Deed::AddPool(_) => NULL,
         Deed::Submit(_, _) | Deed::Withdraw(_, _) | Deed::Decline(_, _) => NULL,
         Deed::Assign(_, _, _) | Deed::Advise(_, _, _, _) | Deed::GiveValue(_, _, _, _) => NULL,
@@ -341,7 +348,7 @@ pub(crate) fn deed_formed(deed: &Deed)
             both_formed(account, reference);
             let _prefix = block.prefix();
         }
-        Deed::Private(holder, block, _) => {
+        Deed::Place(holder, block) | Deed::Private(holder, block, _) => {
             holder.formed();
             let _prefix = block.prefix();
         }

@@ -1,15 +1,10 @@
-use Rattle.std.proofs.Common.{◌∙◌}
-use Rattle.reg_blocks.specs.Block.{first_address}
-use Rattle.reg_rows.proofs.BlockRowsFound.{found_holding}
-use Rattle.reg_rows.proofs.Looking.{looks_made}
-use Rattle.reg_rows.proofs.Statements.{finds_blocks}
+use Rattle.std.proofs.Common.{ap, ◌∙◌}
+use Rattle.reg_rows.proofs.BlockRowsFound.{found_holding, if_of}
+use Rattle.reg_rows.proofs.Looking.{looks_told}
 use Rattle.reg_content.proofs.blocks.holding.Goals as goal
 
 pub returns : goal.returns
 returns g c =
-    let block = c.args.block.now in
-    looks_made c.in_ok-found.ensures.row (λ p is.
-    c.if_of.ensures
-    ∙ found_holding p.blocks c.args.account.now block c.in_ok-found.found
-    (is.row _ (rw (c.whole_value.ensures, c.first.ensures.value)
-    (finds_blocks (first_address block)))))
+    let account = c.args.account.now in
+    looks_told c.in_ok-found.ensures (λ w is.
+    c.if_of.ensures ∙ ap (if_of account) is ∙ found_holding w.blocks account c.args.block.now)

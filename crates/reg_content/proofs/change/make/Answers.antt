@@ -79,6 +79,10 @@ returns-in-GiveBlock-clause-steps g c =
       refl,
     ))
 
+pub returns-in-PlaceBlock-clause-steps : goal.returns-in-PlaceBlock-clause-steps
+returns-in-PlaceBlock-clause-steps g c =
+    makes _ c.in-PlaceBlock.is c.add_block.ensures.steps (λ w fits. (fits.can.0, refl))
+
 pub returns-in-SetPrivate-clause-steps : goal.returns-in-SetPrivate-clause-steps
 returns-in-SetPrivate-clause-steps g c =
     let it = c.in-SetPrivate in

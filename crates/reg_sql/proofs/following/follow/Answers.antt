@@ -5,7 +5,7 @@ use Rattle.reg_core.specs.Holding.{holder_in}
 use Rattle.reg_core.specs.WellKept.{CanApply}
 use Rattle.reg_core.specs.World.{applied}
 use Rattle.reg_core.specs.declared.change.Change.{Change}
-use Rattle.reg_vacancies.proofs.Fitting.{may_be_given}
+use Rattle.reg_vacancies.proofs.Fitting.{may_be_given, may_be_placed}
 use Rattle.reg_vacancies.specs.Vacancies.{AreVacanciesOf}
 use Rattle.reg_sql.proofs.Changing.{left_free, went}
 use Rattle.reg_sql.proofs.following.follow.Goals as goal
@@ -37,7 +37,17 @@ returns-in-GiveBlock c = λ w kept can are yes.
     (may_be_given w c.in-GiveBlock.field-0 c.in-GiveBlock.field-1 holding fits)
     (holder_in holding))
 
+pub returns-in-PlaceBlock : goal.returns-in-PlaceBlock
+returns-in-PlaceBlock c = λ w kept can are yes.
+    let holding = c.in-PlaceBlock.holding in
+    let fits = subst (λ (change : Change). CanApply w change) c.in-PlaceBlock.is can in
+    let gives = went c.give-in-PlaceBlock.result c.give-in-PlaceBlock.ensures.ok
+    (subst IsTrue c.is_ok-in-PlaceBlock.ensures.value yes) in
+    subst (λ (change : Change). AreVacanciesOf (applied w change) c.give-in-PlaceBlock.new.self)
+    (sym c.in-PlaceBlock.is)
+    (gives w.entries w.pool w.blocks are (may_be_placed w holding fits) (holder_in holding))
+
 pub returns-in_default : goal.returns-in_default
 returns-in_default c = λ w kept can are yes.
     left_free w c.args.vacancies.now c.args.change.now c.in_default.not-AddPool
-    c.in_default.not-GiveValue c.in_default.not-GiveBlock are
+    c.in_default.not-GiveValue c.in_default.not-GiveBlock c.in_default.not-PlaceBlock are
