@@ -10,8 +10,9 @@ use reg_core::told::Told;
 use reg_keeper::keeper::Keeper;
 use reg_registers::caller::Caller;
 use reg_registers::journal::{list_actor, list_day, list_request};
+use reg_registers::registers::{add_pool, define, place_block, set_hold};
 use reg_registers::stop::Stop;
-use reg_registers::{capabilities, counting, registers};
+use reg_registers::{capabilities, counting};
 use std::alloc::Global;
 
 /// What a command of this clerk's is answered.
@@ -37,11 +38,10 @@ pub fn perform<K: Keeper>(
         ClerkCommand::Decline(account, reference, reason) => {
             desk::decline(keeper, caller, account, reference, reason)
         }
-        ClerkCommand::Define(name, table) => registers::define(keeper, caller, name, table),
-        ClerkCommand::AddPool(prefix) => registers::add_pool(keeper, caller, *prefix),
-        ClerkCommand::SetHold(name, value, held) => {
-            registers::set_hold(keeper, caller, name, *value, *held)
-        }
+        ClerkCommand::Define(name, table) => define(keeper, caller, name, table),
+        ClerkCommand::AddPool(prefix) => add_pool(keeper, caller, *prefix),
+        ClerkCommand::PlaceBlock(holding) => place_block(keeper, caller, holding),
+        ClerkCommand::SetHold(name, value, held) => set_hold(keeper, caller, name, *value, *held),
         ClerkCommand::AllCapabilities => capabilities::list_all(keeper),
         ClerkCommand::Grant(token, cap) => capabilities::tell_grant(keeper, caller, token, cap),
         ClerkCommand::Revoke(token) => capabilities::revoke(keeper, caller, token),

@@ -1,10 +1,10 @@
 -- The block due in a world, and the blocks that an account holds.
 use Rattle.std.proofs.Common.{◌≡◌, ℕ, true, false, List, [], ◌∷◌, map, refl, sym, ap, subst, ◌∙◌, arith}
-use Rattle.std.specs.Prelude.{Option, Some, None, IsSome, IfSome, is_some, option_and_then, filter_map}
+use Rattle.std.specs.Prelude.{Option, Some, None, IsSome, IfSome, is_some, option_and_then, option_map, filter_map}
 use Rattle.reg_core.proofs.Common.{FinMap, get, keys, contains_key, entries, bytes_eq-Decides, same_text}
 use Rattle.reg_core.proofs.Common.{only_if, keyed, SizedPrefix, Clash, block_cmp, leading_24, Size}
 use Rattle.reg_core.proofs.Common.{masked, masked_blocks, published, holdings_of, World, Holder}
-use Rattle.reg_core.proofs.Common.{ends_meet, is_taken_in}
+use Rattle.reg_core.proofs.Common.{ends_meet, is_taken_in, get-select, listed_in, listed_row}
 use Rattle.reg_core.proofs.Common.{block_keys, get-chosen}
 use Rattle.std.proofs.lemmas.List.Elements.{All-contains}
 use Rattle.std.proofs.lemmas.List.Folds.{Any-from_list_any, list_any_at}
@@ -97,6 +97,21 @@ module _ (w : World) (block : SizedPrefix) where
         has_row block_keys w.blocks any.1 (any.0, any.2, any.3),
         (ends_meet-Decides block any.1).0 any.4,
       )
+
+-- ---- A block as the public sees it
+
+pub listed_is : (w : World) (block : SizedPrefix)
+    → listed_in (published w).blocks block
+    ≡ option_map (λ h. listed_row block (masked h)) (get w.blocks block)
+listed_is w block =
+    ap (option_map (listed_row block))
+    (get-select block_keys (λ block h. Some (masked h)) w.blocks block)
+    ∙ by (get w.blocks block)
+  where
+    by : (o : Option Holder) → option_map (listed_row block) (option_and_then (λ h. Some (masked h)) o)
+        ≡ option_map (λ h. listed_row block (masked h)) o
+    by None = refl
+    by (Some h) = refl
 
 -- ---- The blocks of an account
 

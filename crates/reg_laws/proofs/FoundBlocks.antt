@@ -4,7 +4,8 @@ use Rattle.std.specs.Prelude.{Option, Some, None, IsSome, is_some, option_and_th
 use Rattle.std.specs.Option.{option_or}
 use Rattle.reg_blocks.specs.Size.{address_count}
 use Rattle.reg_blocks.specs.declared.size.Size.TheVariants.{MaL, MaM, MaS}
-use Rattle.reg_core.proofs.Common.{first_so, get, get-select, block_keys, SizedPrefix, Size}
+use Rattle.reg_core.proofs.Blocks.{listed_is}
+use Rattle.reg_core.proofs.Common.{first_so, get, SizedPrefix, Size}
 use Rattle.reg_core.proofs.Common.{IsAddressOf, block_with, is_block, masked}
 use Rattle.reg_core.proofs.Common.{HasAddress, listed_at, listed_in, listed_row, listed_with, published}
 use Rattle.reg_core.proofs.Common.{WellKept, World}
@@ -54,21 +55,6 @@ module _ (w : World) (address : ℕ) where
   abbrev at : Size → Option Listed
   at size = listed_at (published w).blocks address size
 
-  -- what is listed at a block is of its holder
-  listed_is : (block : SizedPrefix)
-      → listed_in (published w).blocks block
-      ≡ option_map (λ h. listed_row block (masked h)) (get w.blocks block)
-  listed_is block =
-      ap (option_map (listed_row block))
-      (get-select block_keys (λ block h. Some (masked h)) w.blocks block)
-      ∙ by (get w.blocks block)
-    where
-      by : (o : Option Holder)
-          → option_map (listed_row block) (option_and_then (λ h. Some (masked h)) o)
-          ≡ option_map (λ h. listed_row block (masked h)) o
-      by None = refl
-      by (Some h) = refl
-
   row_of : (block : SizedPrefix) (row : Listed) (o : Option Holder) → get w.blocks block ≡ o
       → IsAddressOf address block → option_map (λ h. listed_row block (masked h)) o ≡ Some row
       → HasAddress w address row
@@ -88,7 +74,7 @@ module _ (w : World) (address : ℕ) where
       by (Some block) is found =
           row_of block row (get w.blocks block) refl
           (subst (IsAddressOf address) (with_is address size block is) refl)
-          (sym (listed_is block) ∙ found)
+          (sym (listed_is w block) ∙ found)
 
   -- what is found has the address
   pub found_has : (row : Listed) → listed_with (published w).blocks address ≡ Some row
@@ -117,7 +103,7 @@ module _ (w : World) (address : ℕ) where
         let form = kept.blocks row.block has.holder has.given in
         ap (option_and_then (listed_in (published w).blocks))
         (has_it address row.block has.address_of (first_so (is_block row.block) _ form))
-        ∙ listed_is row.block
+        ∙ listed_is w row.block
         ∙ ap (option_map (λ h. listed_row row.block (masked h))) has.given
         ∙ ap Some (sym has.shown)
 

@@ -6,7 +6,7 @@ use Rattle.std.proofs.lemmas.Bool.Decides.{nat_tests}
 use Rattle.reg_maps.specs.Maps.{only_if}
 use Rattle.reg_early.specs.Moment.{is_in_clock, utc_day, day_of_moment}
 use Rattle.reg_core.specs.Allowance.{◌>>=◌, or_refusal}
-use Rattle.reg_core.specs.Answer.{Answer, admitted, as_kind, by_rule, in_force, own_answer, expert_answer, public_answer, times_answer, token_answer, unchanged}
+use Rattle.reg_core.specs.Answer.{Answer, admitted, as_kind, by_rule, in_force, look_up_answer, own_answer, expert_answer, public_answer, times_answer, token_answer, unchanged}
 use Rattle.reg_core.specs.Capability.{same_kind}
 use Rattle.reg_core.specs.Request.{request_rows}
 use Rattle.reg_core.specs.Rules.{agent_rule}
@@ -21,10 +21,11 @@ use Rattle.reg_core.specs.declared.capability.Kind.TheVariants as kind
 use Rattle.reg_core.specs.declared.command.ApplicantCommand.{ApplicantCommand}
 use Rattle.reg_core.specs.declared.command.ApplicantCommand.TheVariants.{OwnOne, Submit, Withdraw, SetAgent, PrincipalRows}
 use Rattle.reg_core.specs.declared.command.ClerkCommand.{ClerkCommand}
-use Rattle.reg_core.specs.declared.command.Command.TheVariants.{Public, Token, Applicant, Times, Expert, Clerk}
+use Rattle.reg_core.specs.declared.command.Command.TheVariants.{Public, LookUp, Token, Applicant, Times, Expert, Clerk}
 use Rattle.reg_core.specs.declared.command.TimesCommand.{TimesCommand}
 use Rattle.reg_core.specs.declared.command.TimesCommand.TheVariants as times
 use Rattle.reg_core.specs.declared.command.ExpertCommand.{ExpertCommand}
+use Rattle.reg_core.specs.declared.command.LookUpCommand.{LookUpCommand}
 use Rattle.reg_core.specs.declared.command.PublicCommand.{PublicCommand}
 use Rattle.reg_core.specs.declared.told.Told.TheVariants as tells
 use Rattle.reg_core.specs.declared.refusal.Refusal.{Refusal}
@@ -84,6 +85,13 @@ pub public_answered : (w : World) (caller : Option (List ℕ)) (moment day : ℕ
     → public_answer (published w) day command ≡ answer_to token_digest w caller moment (Public command)
 public_answered w caller moment day command open_now today =
     rw open_now (ap (λ day. public_answer (published w) day command) (sym today))
+
+pub look_up_answered : (w : World) (caller : Option (List ℕ)) (moment day : ℕ)
+    (command : LookUpCommand) → is_in_clock moment ≡ true → utc_day moment ≡ day
+    → look_up_answer (published w) day command
+    ≡ answer_to token_digest w caller moment (LookUp command)
+look_up_answered w caller moment day command open_now today =
+    rw open_now (ap (λ day. look_up_answer (published w) day command) (sym today))
 
 -- ---- Who signs
 

@@ -7,6 +7,7 @@ ghost use Rattle.reg_core.specs.EarlyAllocations.{ExpiredValuesAreTaken, Foreign
 ghost use Rattle.reg_core.specs.FirstRefusals.{FirstRefusalsAreAnswered};
 ghost use Rattle.reg_core.specs.JournalLaws.{ChangesAreSigned, JournalIsExact, JournalStays};
 ghost use Rattle.reg_core.specs.Laws.{AnswersAreDone, ApprovalsAreAdvised, ApprovalsGiveWhatIsAllowed, ApprovalsStand, ChangesFit, FirstWorldsAreWellKept, GivenStays, RefusalsChangeNothing, RepeatsActOnce, RevocationsTakeJust, RunsKeepWell, SubmissionsStand, TwoWorlds, TwoWorldsByNow};
+ghost use Rattle.reg_core.specs.LookUpLaws.{LookUpsAreExact};
 ghost use Rattle.reg_core.specs.MayBeGiven.{AsksMeetTheirPolicy, NoValueIsGivenTwice};
 ghost use Rattle.reg_core.specs.Striking.{StagesAreOfRun, UnseenLeaveNoTrace};
 ghost use Rattle.reg_laws.specs.ClerkLists.{ActsAreListed, AllRequestsAreListed};
@@ -263,6 +264,15 @@ pub fn foreign_blocks_are_hidden()
     ensures { ForeignBlocksAreHidden token_digest }
 {
     reg_laws::foreign_blocks_are_hidden();
+}
+
+/// Look-ups are exact: who looks up an address is told the block that was given and has it, and no
+/// other; who looks up a value, how its range is treated and its entry; and who looks up the least value
+/// under a policy, the one that an ask for it would be given at that moment, or why none.
+pub fn look_ups_are_exact()
+    ensures { LookUpsAreExact token_digest }
+{
+    reg_laws::look_ups_are_exact();
 }
 
 /// What was given stays: in every run from a well kept office an entry keeps its label and its

@@ -29,7 +29,7 @@ use reg_core::told::Told;
 use reg_early::day::{Day, day_of};
 use reg_keeper::keeper::{Fault, Keeper};
 use reg_registers::stop::Stop;
-use reg_registers::{public, times};
+use reg_registers::{look_ups, public, times};
 use std::alloc::Global;
 use std::marker::Model;
 
@@ -182,6 +182,7 @@ fn answer<K: Keeper>(
     let today = day_of(moment).ok_or(Refusal::Clock)?;
     match command {
         Command::Public(command) => public::perform(alloc, keeper, today, command),
+        Command::LookUp(command) => look_ups::perform(keeper, today, command),
         Command::Token => Ok(Told::InUse(valid(keeper, token, moment)?)),
         Command::Applicant(command) => {
             let caller = admit(keeper, token, moment, today, Kind::Applicant)?;

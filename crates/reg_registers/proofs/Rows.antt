@@ -1,16 +1,17 @@
 -- What a keeper selected is of the content as it is then, and names its request.
-use Rattle.std.proofs.Common.{◌≡◌, Bool, Result, Ok, sym, ap, subst, ◌∙◌}
+use Rattle.std.proofs.Common.{◌≡◌, ℕ, Bool, Result, Ok, refl, sym, ap, subst, ◌∙◌}
 use Rattle.std.specs.Prelude.{Option, Some, None, option_map}
 use Rattle.std.specs.FinMap.{get}
 use Rattle.reg_blocks.specs.Block.{SizedPrefix}
 use Rattle.reg_core.specs.Allowance.{◌>>=◌, or_refusal}
 use Rattle.reg_core.specs.Answer.{Answer}
-use Rattle.reg_core.specs.Entry.{entry_row, registration_in}
+use Rattle.reg_core.specs.Entry.{entry_row, page_entry, registration_in}
 use Rattle.reg_core.specs.File.{file, experts_of, opinions_of}
-use Rattle.reg_core.specs.Holding.{holder_in, holding_row}
+use Rattle.reg_core.specs.Holding.{holder_in, holding_row, listed_row, masked}
+use Rattle.reg_core.specs.LookUps.{listed_in}
 use Rattle.reg_core.specs.Queue.{queue_row}
 use Rattle.reg_core.specs.Request.{case_of, request_row}
-use Rattle.reg_core.specs.View.{Queued}
+use Rattle.reg_core.specs.View.{Queued, published}
 use Rattle.reg_core.specs.World.{World, Place, RequestName}
 use Rattle.reg_core.specs.declared.entry.Entry.{Entry}
 use Rattle.reg_core.specs.declared.entry.Registration.{Registration}
@@ -21,8 +22,11 @@ use Rattle.reg_core.specs.declared.queue.QueueRow.{QueueRow}
 use Rattle.reg_core.specs.declared.refusal.Refusal.TheVariants as no
 use Rattle.reg_core.specs.declared.request.Case.{Case}
 use Rattle.reg_core.specs.declared.request.Request.{Request}
+use Rattle.reg_core.proofs.Blocks.{listed_is}
 use Rattle.reg_keeper.specs.Keeper.{Selects}
 use Rattle.reg_keeper.specs.declared.keeper.Fault.{Fault}
+use Rattle.reg_registers.specs.LookUps.{listed_if}
+use Rattle.reg_registers.specs.Pages.{shown_on}
 
 -- ---- Selected
 
@@ -131,7 +135,32 @@ holding_is block (Some h) row is =
       ap (λ (r : Holding). r.block) (sym same),
     )
 
+-- and the holder of one that was selected is the block's
+pub its_holder : (block : SizedPrefix) (existing : Option Holder)
+    → option_map holder_in (option_map (holding_row block) existing) ≡ existing
+its_holder block None = refl
+its_holder block (Some h) = refl
+
+-- it is listed as what is published has it
+pub listed_selected : (w : World) (block : SizedPrefix) (row : Option Holding)
+    → row ≡ option_map (holding_row block) (get w.blocks block)
+    → listed_if row ≡ listed_in (published w).blocks block
+listed_selected w block row is =
+    ap listed_if is ∙ by (get w.blocks block) ∙ sym (listed_is w block)
+  where
+    by : (existing : Option Holder) → listed_if (option_map (holding_row block) existing)
+        ≡ option_map (λ h. listed_row block (masked h)) existing
+    by None = refl
+    by (Some h) = refl
+
 -- ---- Entries
+
+-- an entry that was selected is shown as a page shows it
+pub entry_shown : (today : ℕ) (place : Place) (existing : Option Registration)
+    → option_map (shown_on today) (option_map (entry_row place.0 place.1) existing)
+    ≡ option_map (page_entry today place.1) existing
+entry_shown today place None = refl
+entry_shown today place (Some a) = refl
 
 -- an entry that was looked up is the registration at this place
 pub entry_is : (place : Place) (existing : Option Registration) (row : Entry)

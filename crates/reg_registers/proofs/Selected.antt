@@ -1,6 +1,7 @@
 -- Selections of a keeper, one after the other.
 use Rattle.std.proofs.Common.{◌≡◌, Bool, Result, Ok, Err, sym, subst, ◌∙◌}
-use Rattle.std.specs.Prelude.{IsErrAnd}
+use Rattle.std.specs.Prelude.{IfOk, IsErrAnd}
+use Rattle.std.proofs.lemmas.Result.{IfOk-weaker}
 use Rattle.reg_core.specs.World.{World}
 use Rattle.reg_keeper.specs.Keeper.{Selects}
 use Rattle.reg_keeper.specs.declared.keeper.Fault.{Fault}
@@ -46,6 +47,33 @@ module _ {S : Type 0} {world : S → World} {Holds Sound : S → Type 0} {fails 
     same = it.same;
     premise = it.premise;
     fault = tt;
+  }
+
+  -- what is selected is told in other words
+  pub selects_so : {T : Type 0} {old new : S} {x : Result T Fault} {F G : World → T → Type 0}
+      → Selects world Holds Sound fails old new x F
+      → ((w : World) (t : T) → F w t → G w t) → Selects world Holds Sound fails old new x G
+  selects_so {old = old} {x = x} it gives = record {
+    value = λ h. IfOk-weaker x _ _ (gives (world old)) (it.value h);
+    same = it.same;
+    premise = it.premise;
+    fault = it.fault;
+  }
+
+  -- what the second selects is told, by what the first found
+  pub selects_next : {T U : Type 0} {old mid new : S} {x : T} {y : Result U Fault}
+      {F : World → T → Type 0} {G H : World → U → Type 0}
+      → Selects world Holds Sound fails old mid (Ok x) F
+      → Selects world Holds Sound fails mid new y G
+      → ((w : World) (u : U) → F w x → G w u → H w u) → Selects world Holds Sound fails old new y H
+  selects_next {old = old} {y = y} {G = G} first second joins = record {
+    value = λ h.
+        let was = second.premise.before h in
+        IfOk-weaker y _ _ (λ u. joins (world old) u (first.value was))
+        (subst (λ w. IfOk y (G w)) (first.same was) (second.value h));
+    same = λ h. second.same h ∙ first.same (second.premise.before h);
+    premise = goes_on_then first.premise second.premise;
+    fault = second.fault;
   }
 
   -- where there is no memory for what would be made of both, neither tells anything

@@ -5,7 +5,7 @@ use Rattle.reg_core.specs.Journal.{act_by, closed, row_went}
 use Rattle.reg_core.specs.Names.{first_digits}
 use Rattle.reg_core.specs.declared.capability.CapRow.{CapRow}
 use Rattle.reg_core.specs.declared.change.Change.{Change}
-use Rattle.reg_core.specs.declared.change.Change.TheVariants.{Grant, Revoke, RevokeAll, Define, AddPool, Submit, Close, Assign, Advise, GiveValue, GiveBlock, SetPrivate, SetHold, SetAgent}
+use Rattle.reg_core.specs.declared.change.Change.TheVariants.{Grant, Revoke, RevokeAll, Define, AddPool, Submit, Close, Assign, Advise, GiveValue, GiveBlock, PlaceBlock, SetPrivate, SetHold, SetAgent}
 use Rattle.reg_core.specs.declared.journal.Act.{Act}
 use Rattle.reg_core.specs.declared.journal.Deed.{Deed}
 use Rattle.reg_core.specs.declared.journal.Deed.TheVariants as did
@@ -30,6 +30,7 @@ deed_by (GiveValue account reference entry) =
     Some (did.GiveValue account reference entry.registry entry.value)
 deed_by (GiveBlock account reference holding) =
     Some (did.GiveBlock account reference holding.block)
+deed_by (PlaceBlock holding) = Some (did.Place holding.holder holding.block)
 deed_by (SetPrivate block private) = None
 deed_by (SetHold name value held) = Some (did.Hold name value held)
 deed_by (SetAgent principal agent reads) = Some (did.Appoint principal agent reads)

@@ -3,6 +3,7 @@ pub mod Answers
 pub mod Arrivals
 pub mod Caller
 pub mod Decisions
+pub mod LookUps
 pub mod Pages
 pub mod Performs
 pub mod Rows

@@ -93,6 +93,7 @@ fn deed_of(change: &Change) -> Option<Deed>
         Change::GiveBlock(account, reference, holding) => {
             Some(Deed::GiveBlock(*account, *reference, holding.block))
         }
+        Change::PlaceBlock(holding) => Some(Deed::Place(holding.holder, holding.block)),
         Change::SetHold(name, value, held) => Some(Deed::Hold(*name, *value, *held)),
         Change::SetAgent(principal, agent, reads) => {
             Some(Deed::Appoint(*principal, *agent, *reads))

@@ -98,8 +98,12 @@ fn ground_for<K: Keeper>(keeper: &mut K, ask: &Ask) -> Result<GroundRows, Fault>
     }
 }
 
-// Those that an ask of a registry needs. No entry is looked at where the least value is wanted.
-fn value_ground<K: Keeper>(keeper: &mut K, registry: &Name, want: Want) -> Result<GroundRows, Fault>
+/// Those that an ask of a registry needs. No entry is looked at where the least value is wanted.
+pub(crate) fn value_ground<K: Keeper>(
+    keeper: &mut K,
+    registry: &Name,
+    want: Want,
+) -> Result<GroundRows, Fault>
     ensures { Selects K.world K.Holds K.Sound K.FAILS keeper.old keeper.new result
         (λ w rows. rows ≡ value_ground (published w) registry.now want) }
 {

@@ -12,6 +12,7 @@ pub mod digest;
 mod gathering;
 pub mod ground;
 pub mod journal;
+pub mod look_ups;
 pub mod public;
 pub mod registers;
 pub mod stop;

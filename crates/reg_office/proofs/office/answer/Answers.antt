@@ -10,7 +10,7 @@ use Rattle.reg_core.specs.declared.told.Told.TheVariants.{InUse}
 use Rattle.reg_registers.specs.Answers.{answer_about_times, answer_to_account, answer_to_clerk, answer_to_expert}
 use Rattle.reg_registers.specs.Caller.{token_digest, caller_of as caller, admission, stamp_by, valid_cap}
 use Rattle.reg_registers.specs.declared.caller.Caller.{Caller}
-use Rattle.reg_office.proofs.Admitted.{is_open_on, public_answered, applicant_answered, times_answered, token_answered, expert_answered, clerk_answered, signed_by}
+use Rattle.reg_office.proofs.Admitted.{is_open_on, public_answered, look_up_answered, applicant_answered, times_answered, token_answered, expert_answered, clerk_answered, signed_by}
 use Rattle.reg_office.proofs.Performing.{performs_as, performs_then, performs_stopped}
 use Rattle.reg_office.proofs.office.answer.Given.{Over}
 use Rattle.reg_office.proofs.office.answer.Goals.{After-admit, After-admit-in-Times, After-admit-in-Expert, After-admit-in-Clerk}
@@ -29,6 +29,19 @@ returns-in-Public-clause-answer g c =
     (λ w.
     public_answered w who moment c.in_ok-today.today c.in-Public.command opened.0 opened.1
     ∙ ap (answer_to token_digest w who moment) (sym c.in-Public.is))
+
+pub returns-in-LookUp-clause-answer : goal.returns-in-LookUp-clause-answer
+returns-in-LookUp-clause-answer g c =
+    let who = caller (option_copied c.args.token) in
+    let moment = c.args.moment in
+    let opened =
+    is_open_on moment c.in_ok-today.today
+    (sym c.day_of.ensures.value ∙ c.in_ok-today.ensures.ok_part) in
+    performs_as
+    (c.perform-in-LookUp.ensures (stamp_in (g.K.Keeper.world c.args.keeper.now) who moment))
+    (λ w.
+    look_up_answered w who moment c.in_ok-today.today c.in-LookUp.command opened.0 opened.1
+    ∙ ap (answer_to token_digest w who moment) (sym c.in-LookUp.is))
 
 -- ---- A token
 

@@ -87,6 +87,14 @@ impl<K: Keeper> Keeper for FailingKeeper<K> {
         Err(Fault::Store)
     }
 
+    fn block(&mut self, _block: &Block) -> Result<Option<Holding>, Fault> {
+        Err(Fault::Store)
+    }
+
+    fn is_taken(&mut self, _block: &Block) -> Result<bool, Fault> {
+        Err(Fault::Store)
+    }
+
     fn holdings(&mut self, _account: &Account) -> Result<Rows<Holding>, Fault> {
         Err(Fault::Store)
     }
