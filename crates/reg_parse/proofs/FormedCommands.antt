@@ -6,14 +6,16 @@ use Rattle.std.specs.Cmp.Derive.{both_true}
 use Rattle.serde_json.specs.Data.{Data}
 use Rattle.reg_ranges.specs.Numbers.{read_number}
 use Rattle.reg_ranges.specs.Texts.{is_text, read_text}
-use Rattle.reg_blocks.specs.Block.{is_block, make_block}
-use Rattle.reg_blocks.specs.Digits.{hex_value_of, read_block, read_prefix}
+use Rattle.reg_ranges.specs.Words.{read_policy}
+use Rattle.reg_blocks.specs.Block.{SizedPrefix, is_block, make_block}
+use Rattle.reg_blocks.specs.Digits.{hex_value_of, read_address, read_block, read_prefix}
 use Rattle.reg_blocks.specs.Size.{size_of_digits}
 use Rattle.reg_blocks.specs.declared.size.Size.{Size}
 use Rattle.reg_core.specs.Names.{is_name, is_token, is_digits}
 use Rattle.reg_core.specs.Advice.{has_advice_form}
 use Rattle.reg_core.specs.Capability.{has_cap_form}
 use Rattle.reg_core.specs.Command.{has_command_form}
+use Rattle.reg_core.specs.Holding.{has_row_form}
 use Rattle.reg_core.specs.declared.command.Command.{Command}
 use Rattle.reg_core.specs.declared.command.Command.TheVariants as command
 use Rattle.reg_core.specs.declared.command.PublicCommand.TheVariants as public
@@ -32,11 +34,12 @@ use Rattle.reg_core.specs.declared.wire_refusal.WireRefusal.TheVariants as refus
 use Rattle.reg_core.specs.declared.wire_refusal.ReadFault.{ReadFault}
 use Rattle.reg_parse.specs.declared.route.Operation.{Operation}
 use Rattle.reg_parse.specs.declared.route.Operation.TheVariants as operation
-use Rattle.reg_parse.specs.Route.{operation_for, registry_path, listing_path, request_path, holding_path, agent_path, principal_path, review_path, case_path, expert_path, approval_path, decline_path, hold_path, definition_path, prefix_path, token_path, account_path, principal_times_path, day_path, actor_path, history_path}
+use Rattle.reg_parse.specs.Route.{operation_for, registry_path, listing_path, address_path, value_path, least_path, request_path, holding_path, agent_path, principal_path, review_path, case_path, expert_path, approval_path, decline_path, hold_path, definition_path, prefix_path, place_path, token_path, account_path, principal_times_path, day_path, actor_path, history_path}
 use Rattle.reg_json.specs.Members.{Reading, ◌>>=◌, GivesSeen, or_refusal, object_of, needed, only, kind_form, truth_form, verdict_form}
-use Rattle.reg_parse.specs.Command.{acts_about_of, acts_by_of, acts_on_of, add_pool_of, advise_of, approve_of, asked, assign_expert_of, command_of, decline_of, define_of, empty, grant_of, name_at, one_request_of, own_one_of, principal_rows_of, principal_times_of, registry_csv_of, registry_of, revoke_account_of, revoke_digits_of, revoke_of, routed, segment, set_agent_of, set_hold_of, set_listing_of, submit_of, withdraw_of}
+use Rattle.reg_parse.specs.Command.{acts_about_of, acts_by_of, acts_on_of, add_pool_of, advise_of, approve_of, asked, assign_expert_of, command_of, decline_of, define_of, empty, grant_of, look_up_block_of, look_up_least_of, look_up_value_of, name_at, one_request_of, own_one_of, place_block_of, principal_rows_of, principal_times_of, registry_csv_of, registry_of, revoke_account_of, revoke_digits_of, revoke_of, routed, segment, set_agent_of, set_hold_of, set_listing_of, submit_of, withdraw_of}
 use Rattle.reg_parse.specs.Bodies.Advice.{advice_of}
 use Rattle.reg_parse.specs.Bodies.Capability.{cap_of}
+use Rattle.reg_parse.specs.Bodies.Holding.{holding_of}
 use Rattle.reg_parse.proofs.Formed.{Passes, Gives, after_any, after_passing, ok-passes, guard, after, or_refusal-passes, needed-passes, text_form-gives, until_form-gives, read_number-gives, is_below, is_until}
 use Rattle.reg_parse.proofs.FormedAsks.{ask_of-passes}
 use Rattle.reg_parse.proofs.FormedTables.{table_of-passes}
@@ -82,6 +85,17 @@ advice_of-passes json =
 made-gives : (size : Size) → Gives is_block (make_block size)
 made-gives size prefix b e = guard is_block (record { size = size; prefix = prefix }) b e
 
+-- a holding of a block has its form where the block has
+holding_of-passes : (block : SizedPrefix) → is_block block ≡ true → (json : Data)
+    → Passes has_row_form (holding_of block json)
+unfolding holding_of
+holding_of-passes block hb json =
+    after_passing (needed-passes is_name item.Holder _ json (text_form-gives is_name))
+    (λ n hn. after_passing (needed-passes is_text item.Organization _ json (text_form-gives is_text))
+    (λ o ho. after_passing (needed-passes is_text item.Address _ json (text_form-gives is_text))
+    (λ a ha. after_any (needed item.Private truth_form json)
+    (λ p. ok-passes has_row_form _ (rw (hb, hn, ho, ha) refl)))))
+
 read_block-gives : Gives is_block read_block
 read_block-gives digits b e =
     after is_block _
@@ -125,7 +139,7 @@ command_of-passes : (o : Operation) (path body : List ℕ)
     → Passes has_command_form (command_of o path body)
 unfolding registry_of registry_csv_of own_one_of submit_of withdraw_of set_listing_of set_agent_of
     principal_rows_of principal_times_of acts_on_of acts_by_of acts_about_of advise_of one_request_of assign_expert_of approve_of decline_of set_hold_of
-    define_of add_pool_of grant_of revoke_of revoke_digits_of revoke_account_of
+    define_of add_pool_of place_block_of look_up_block_of look_up_value_of look_up_least_of grant_of revoke_of revoke_digits_of revoke_account_of
 command_of-passes operation.Registries path body = plain_parts (empty body) _ refl
 command_of-passes operation.Registry path body =
     named_parts (λ s. command.Public (public.Registry s)) (λ s h. h) (empty body)
@@ -135,6 +149,21 @@ command_of-passes operation.RegistryCsv path body =
     (name_at-passes in_path.Name listing_path path)
 command_of-passes operation.BlocksCsv path body = plain_parts (empty body) _ refl
 command_of-passes operation.PoolList path body = plain_parts (empty body) _ refl
+command_of-passes operation.LookUpBlock path body =
+    after_any (empty body)
+    (λ none. after_any (segment in_path.Address read_address address_path path)
+    (λ a. ok-passes has_command_form _ refl))
+command_of-passes operation.LookUpValue path body =
+    after_any (empty body)
+    (λ none. after_passing (name_at-passes in_path.Name value_path path)
+    (λ n hn. after_passing
+    (segment-passes is_below in_path.Value read_number value_path path read_number-gives)
+    (λ v hv. ok-passes has_command_form _ (both_true hn hv))))
+command_of-passes operation.LookUpLeast path body =
+    after_any (empty body)
+    (λ none. after_passing (name_at-passes in_path.Name least_path path)
+    (λ n hn. after_any (segment in_path.Policy read_policy least_path path)
+    (λ p. ok-passes has_command_form _ hn)))
 command_of-passes operation.Token path body = plain_parts (empty body) _ refl
 command_of-passes operation.Own path body = plain_parts (empty body) _ refl
 command_of-passes operation.OwnOne path body =
@@ -219,6 +248,14 @@ command_of-passes operation.AddPool path body =
     after_any (empty body)
     (λ none. after_any (segment in_path.Prefix read_prefix prefix_path path)
     (λ p. ok-passes has_command_form _ refl))
+command_of-passes operation.PlaceBlock path body =
+    after_any (object_of body)
+    (λ json. after_passing
+    (segment-passes is_block in_path.Block read_block place_path path read_block-gives)
+    (λ b hb. after_passing (holding_of-passes b hb json)
+    (λ h hh. after_any
+    (only (item.Holder ∷ item.Organization ∷ item.Address ∷ item.Private ∷ []) json)
+    (λ o. ok-passes has_command_form _ hh))))
 command_of-passes operation.Grant path body =
     after_any (object_of body)
     (λ json. after_passing (needed-passes is_token item.Token _ json (text_form-gives is_token))

@@ -3,6 +3,9 @@ use Rattle.std.proofs.Common.{◌≡◌, ℕ, List, Bool, true, false, ◌&&◌,
 use Rattle.std.specs.Prelude.{⊤, not, if◌then◌else◌}
 use Rattle.std.specs.Str.{bytes_eq}
 use Rattle.std.specs.Prelude.{codes}
+use Rattle.reg_blocks.specs.Digits.{read_address}
+use Rattle.reg_ranges.specs.Numbers.{read_number}
+use Rattle.reg_ranges.specs.Words.{read_policy}
 use Rattle.reg_core.specs.Command.{needs_capability}
 use Rattle.reg_core.specs.declared.command.Command.{Command}
 use Rattle.reg_core.specs.declared.command.Command.TheVariants as command
@@ -13,9 +16,9 @@ use Rattle.reg_core.specs.declared.wire_refusal.WireRefusal.TheVariants as refus
 use Rattle.reg_parse.specs.declared.route.Methods.{Methods}
 use Rattle.reg_parse.specs.declared.route.Operation.{Operation}
 use Rattle.reg_parse.specs.declared.route.Operation.TheVariants as operation
-use Rattle.reg_parse.specs.Route.{operation_for, registry_path, listing_path}
+use Rattle.reg_parse.specs.Route.{operation_for, registry_path, listing_path, address_path, value_path, least_path}
 use Rattle.reg_json.specs.Members.{Reading, ◌>>=◌, or_refusal}
-use Rattle.reg_parse.specs.Command.{asked, command_of, empty, name_at, registry_csv_of, registry_of, routed}
+use Rattle.reg_parse.specs.Command.{asked, command_of, empty, look_up_block_of, look_up_least_of, look_up_value_of, name_at, registry_csv_of, registry_of, routed, segment}
 use Rattle.reg_parse.specs.Shown.{are_public, is_open, is_public, is_shown_whole, no_route, pattern_at, shown, shown_by}
 use Rattle.reg_parse.proofs.Formed.{Passes, ok-passes, err-passes, after_any}
 
@@ -53,7 +56,7 @@ named make n r =
 
 public_passes : (o : Operation) (path body : List ℕ) → is_public o ≡ true
     → Passes takes_none (command_of o path body)
-unfolding registry_of registry_csv_of
+unfolding registry_of registry_csv_of look_up_block_of look_up_value_of look_up_least_of
 public_passes operation.Registries path body h = spelled (empty body) public.Registries
 public_passes operation.Registry path body h =
     named (λ s. public.Registry s) (empty body) (name_at in_path.Name registry_path path)
@@ -61,6 +64,20 @@ public_passes operation.RegistryCsv path body h =
     named (λ s. public.RegistryCsv s) (empty body) (name_at in_path.Name listing_path path)
 public_passes operation.BlocksCsv path body h = spelled (empty body) public.BlocksCsv
 public_passes operation.PoolList path body h = spelled (empty body) public.PoolList
+public_passes operation.LookUpBlock path body h =
+    after_any (empty body)
+    (λ nothing. after_any (segment in_path.Address read_address address_path path)
+    (λ address. ok-passes takes_none _ refl))
+public_passes operation.LookUpValue path body h =
+    after_any (empty body)
+    (λ nothing. after_any (name_at in_path.Name value_path path)
+    (λ name. after_any (segment in_path.Value read_number value_path path)
+    (λ value. ok-passes takes_none _ refl)))
+public_passes operation.LookUpLeast path body h =
+    after_any (empty body)
+    (λ nothing. after_any (name_at in_path.Name least_path path)
+    (λ name. after_any (segment in_path.Policy read_policy least_path path)
+    (λ policy. ok-passes takes_none _ refl)))
 public_passes private path body h = cc
 
 -- ---- what is done at a public path is public

@@ -6,3 +6,4 @@ pub mod Value
 pub mod Ask
 pub mod Advice
 pub mod Capability
+pub mod Holding

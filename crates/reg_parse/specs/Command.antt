@@ -3,12 +3,14 @@ use Rattle.std.specs.Prelude.{ℕ, ◌==◌, ◌&&◌, List, [], ◌∷◌, leng
 use Rattle.std.specs.Str.{is_utf8}
 use Rattle.reg_ranges.specs.Numbers.{read_number}
 use Rattle.reg_ranges.specs.Texts.{is_text, read_text}
-use Rattle.reg_blocks.specs.Digits.{read_block, read_prefix}
+use Rattle.reg_ranges.specs.Words.{read_policy}
+use Rattle.reg_blocks.specs.Digits.{read_address, read_block, read_prefix}
 use Rattle.reg_early.specs.DayReading.{read_clock_day}
 use Rattle.reg_core.specs.Names.{is_name, is_token, is_digits}
 use Rattle.reg_core.specs.declared.command.Command.{Command}
 use Rattle.reg_core.specs.declared.command.Command.TheVariants as command
 use Rattle.reg_core.specs.declared.command.PublicCommand.TheVariants as public
+use Rattle.reg_core.specs.declared.command.LookUpCommand.TheVariants as look
 use Rattle.reg_core.specs.declared.command.ApplicantCommand.TheVariants as applicant
 use Rattle.reg_core.specs.declared.command.ExpertCommand.TheVariants as expert
 use Rattle.reg_core.specs.declared.command.ClerkCommand.TheVariants as clerk
@@ -24,8 +26,9 @@ use Rattle.reg_json.specs.Members.{Reading, ◌>>=◌, or_refusal, object_of, ne
 use Rattle.reg_parse.specs.Bodies.Advice.{advice_of}
 use Rattle.reg_parse.specs.Bodies.Ask.{ask_of}
 use Rattle.reg_parse.specs.Bodies.Capability.{cap_of}
+use Rattle.reg_parse.specs.Bodies.Holding.{holding_of}
 use Rattle.reg_parse.specs.RangeFile.{table_of}
-use Rattle.reg_parse.specs.Route.{methods_at, operation_for, registry_path, listing_path, request_path, holding_path, agent_path, principal_path, review_path, case_path, expert_path, approval_path, decline_path, hold_path, definition_path, prefix_path, token_path, account_path, principal_times_path, day_path, actor_path, history_path}
+use Rattle.reg_parse.specs.Route.{methods_at, operation_for, registry_path, listing_path, address_path, value_path, least_path, request_path, holding_path, agent_path, principal_path, review_path, case_path, expert_path, approval_path, decline_path, hold_path, definition_path, prefix_path, place_path, token_path, account_path, principal_times_path, day_path, actor_path, history_path}
 use Rattle.reg_parse.specs.Path.{segment_named, has_empty_segment}
 
 abbrev pub empty : List ℕ → Reading ⊤
@@ -56,6 +59,26 @@ registry_csv_of path body = do
   nothing ← empty body
   name ← name_at in_path.Name listing_path path
   Ok (command.Public (public.RegistryCsv name))
+
+unfoldable pub look_up_block_of : List ℕ → List ℕ → Reading Command
+look_up_block_of path body = do
+  nothing ← empty body
+  address ← segment in_path.Address read_address address_path path
+  Ok (command.LookUp (look.Block address))
+
+unfoldable pub look_up_value_of : List ℕ → List ℕ → Reading Command
+look_up_value_of path body = do
+  nothing ← empty body
+  name ← name_at in_path.Name value_path path
+  value ← segment in_path.Value read_number value_path path
+  Ok (command.LookUp (look.Value name value))
+
+unfoldable pub look_up_least_of : List ℕ → List ℕ → Reading Command
+look_up_least_of path body = do
+  nothing ← empty body
+  name ← name_at in_path.Name least_path path
+  policy ← segment in_path.Policy read_policy least_path path
+  Ok (command.LookUp (look.Least name policy))
 
 unfoldable pub own_one_of : List ℕ → List ℕ → Reading Command
 own_one_of path body = do
@@ -166,6 +189,14 @@ add_pool_of path body = do
   prefix ← segment in_path.Prefix read_prefix prefix_path path
   Ok (command.Clerk (clerk.AddPool prefix))
 
+unfoldable pub place_block_of : List ℕ → List ℕ → Reading Command
+place_block_of path body = do
+  json ← object_of body
+  block ← segment in_path.Block read_block place_path path
+  holding ← holding_of block json
+  others ← only (item.Holder ∷ item.Organization ∷ item.Address ∷ item.Private ∷ []) json
+  Ok (command.Clerk (clerk.PlaceBlock holding))
+
 unfoldable pub grant_of : List ℕ → Reading Command
 grant_of body = do
   json ← object_of body
@@ -219,6 +250,9 @@ command_of operation.RegistryCsv path body = registry_csv_of path body
 command_of operation.BlocksCsv path body =
     without_body (command.Public public.BlocksCsv) body
 command_of operation.PoolList path body = without_body (command.Public public.PoolList) body
+command_of operation.LookUpBlock path body = look_up_block_of path body
+command_of operation.LookUpValue path body = look_up_value_of path body
+command_of operation.LookUpLeast path body = look_up_least_of path body
 command_of operation.Token path body = without_body command.Token body
 command_of operation.Own path body = without_body (command.Applicant applicant.Own) body
 command_of operation.OwnOne path body = own_one_of path body
@@ -243,6 +277,7 @@ command_of operation.Decline path body = decline_of path body
 command_of operation.SetHold path body = set_hold_of path body
 command_of operation.Define path body = define_of path body
 command_of operation.AddPool path body = add_pool_of path body
+command_of operation.PlaceBlock path body = place_block_of path body
 command_of operation.Grant path body = grant_of body
 command_of operation.Revoke path body = revoke_of body
 command_of operation.PendingRequests path body =

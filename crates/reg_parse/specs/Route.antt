@@ -8,7 +8,7 @@ use Rattle.matchit.specs.Router.{RouteOf, route_from, nearest}
 use Rattle.matchit.specs.Seek.{first}
 use Rattle.matchit.specs.declared.error.InsertError.{InsertError}
 use Rattle.reg_parse.specs.declared.route.Operation.{Operation}
-use Rattle.reg_parse.specs.declared.route.Operation.TheVariants.{Registries, Registry, RegistryCsv, BlocksCsv, PoolList, Token, Own, OwnOne, Submit, Withdraw, Holdings, SetListing, SetAgent, Agents, Principals, PrincipalRows, Times, PrincipalTimes, Queue, Advise, AllRequests, OneRequest, AssignExpert, Approve, Decline, SetHold, Define, AddPool, Grant, Revoke, PendingRequests, AllCapabilities, RevokeDigits, RevokeAccount, CountRows, ActsOn, ActsBy, ActsAbout}
+use Rattle.reg_parse.specs.declared.route.Operation.TheVariants.{Registries, Registry, RegistryCsv, BlocksCsv, PoolList, LookUpBlock, LookUpValue, LookUpLeast, Token, Own, OwnOne, Submit, Withdraw, Holdings, SetListing, SetAgent, Agents, Principals, PrincipalRows, Times, PrincipalTimes, Queue, Advise, AllRequests, OneRequest, AssignExpert, Approve, Decline, SetHold, Define, AddPool, PlaceBlock, Grant, Revoke, PendingRequests, AllCapabilities, RevokeDigits, RevokeAccount, CountRows, ActsOn, ActsBy, ActsAbout}
 use Rattle.reg_parse.specs.declared.route.Methods.{Methods}
 
 abbrev pub operation_for : List ℕ → Methods → Option Operation
@@ -24,6 +24,9 @@ is_of_desk Registry = false
 is_of_desk RegistryCsv = false
 is_of_desk BlocksCsv = false
 is_of_desk PoolList = false
+is_of_desk LookUpBlock = false
+is_of_desk LookUpValue = false
+is_of_desk LookUpLeast = false
 is_of_desk Token = false
 is_of_desk Own = false
 is_of_desk OwnOne = false
@@ -47,6 +50,7 @@ is_of_desk Decline = true
 is_of_desk SetHold = true
 is_of_desk Define = true
 is_of_desk AddPool = true
+is_of_desk PlaceBlock = true
 is_of_desk Grant = true
 is_of_desk Revoke = true
 is_of_desk PendingRequests = true
@@ -66,6 +70,17 @@ registry_path = codes "/registries/{name}"
 
 abbrev pub listing_path : List ℕ
 listing_path = codes "/listings/registries/{name}"
+
+-- of what is looked up: the block of an address, a value of a registry, and the least one under a
+-- policy
+abbrev pub address_path : List ℕ
+address_path = codes "/addresses/{address}"
+
+abbrev pub value_path : List ℕ
+value_path = codes "/registries/{name}/values/{value}"
+
+abbrev pub least_path : List ℕ
+least_path = codes "/registries/{name}/least/{policy}"
 
 -- the patterns of paths that name parts, each part in braces
 abbrev pub request_path : List ℕ
@@ -107,6 +122,9 @@ definition_path = codes "/desk/registries/{name}/{max}"
 abbrev pub prefix_path : List ℕ
 prefix_path = codes "/desk/pool/{prefix}"
 
+abbrev pub place_path : List ℕ
+place_path = codes "/desk/blocks/{block}"
+
 abbrev pub token_path : List ℕ
 token_path = codes "/desk/tokens/{digits}"
 
@@ -138,6 +156,9 @@ rows =
     ∷ row listing_path (Some RegistryCsv) None None
     ∷ row (codes "/listings/blocks") (Some BlocksCsv) None None
     ∷ row (codes "/pool") (Some PoolList) None None
+    ∷ row address_path (Some LookUpBlock) None None
+    ∷ row value_path (Some LookUpValue) None None
+    ∷ row least_path (Some LookUpLeast) None None
     ∷ row (codes "/token") (Some Token) None None
     ∷ row (codes "/requests") (Some Own) None None
     ∷ row request_path (Some OwnOne) (Some Submit) (Some Withdraw)
@@ -159,6 +180,7 @@ rows =
     ∷ row hold_path None (Some SetHold) None
     ∷ row definition_path None (Some Define) None
     ∷ row prefix_path None (Some AddPool) None
+    ∷ row place_path None (Some PlaceBlock) None
     ∷ row (codes "/desk/tokens") (Some AllCapabilities) (Some Grant) None
     ∷ row (codes "/desk/revoke") None (Some Revoke) None
     ∷ row (codes "/desk/pending") (Some PendingRequests) None None

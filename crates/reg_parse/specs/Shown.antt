@@ -1,11 +1,11 @@
 -- What a log shows of the path of a request.
 use Rattle.std.specs.Prelude.{ℕ, List, Option, Some, None, codes, if◌then◌else◌, Bool, true, false, ◌&&◌}
 use Rattle.reg_parse.specs.declared.route.Operation.{Operation}
-use Rattle.reg_parse.specs.declared.route.Operation.TheVariants.{Registries, Registry, RegistryCsv, BlocksCsv, PoolList, Token, Own, OwnOne, Submit, Withdraw, Holdings, SetListing, SetAgent, Agents, Principals, PrincipalRows, Times, PrincipalTimes, Queue, Advise, AllRequests, OneRequest, AssignExpert, Approve, Decline, SetHold, Define, AddPool, Grant, Revoke, PendingRequests, AllCapabilities, RevokeDigits, RevokeAccount, CountRows, ActsOn, ActsBy, ActsAbout}
+use Rattle.reg_parse.specs.declared.route.Operation.TheVariants.{Registries, Registry, RegistryCsv, BlocksCsv, PoolList, LookUpBlock, LookUpValue, LookUpLeast, Token, Own, OwnOne, Submit, Withdraw, Holdings, SetListing, SetAgent, Agents, Principals, PrincipalRows, Times, PrincipalTimes, Queue, Advise, AllRequests, OneRequest, AssignExpert, Approve, Decline, SetHold, Define, AddPool, PlaceBlock, Grant, Revoke, PendingRequests, AllCapabilities, RevokeDigits, RevokeAccount, CountRows, ActsOn, ActsBy, ActsAbout}
 use Rattle.reg_parse.specs.declared.route.Methods.{Methods}
 use Rattle.reg_parse.specs.declared.shown.Shown.{Shown}
 use Rattle.reg_parse.specs.Command.{routed}
-use Rattle.reg_parse.specs.Route.{registry_path, listing_path, request_path, holding_path, agent_path, principal_path, review_path, case_path, expert_path, approval_path, decline_path, hold_path, definition_path, prefix_path, token_path, account_path, principal_times_path, day_path, actor_path, history_path}
+use Rattle.reg_parse.specs.Route.{registry_path, listing_path, address_path, value_path, least_path, request_path, holding_path, agent_path, principal_path, review_path, case_path, expert_path, approval_path, decline_path, hold_path, definition_path, prefix_path, place_path, token_path, account_path, principal_times_path, day_path, actor_path, history_path}
 
 -- the text that is shown
 abbrev pub text_of : Shown → List ℕ
@@ -18,6 +18,9 @@ is_public Registry = true
 is_public RegistryCsv = true
 is_public BlocksCsv = true
 is_public PoolList = true
+is_public LookUpBlock = true
+is_public LookUpValue = true
+is_public LookUpLeast = true
 is_public Token = false
 is_public Own = false
 is_public OwnOne = false
@@ -41,6 +44,7 @@ is_public Decline = false
 is_public SetHold = false
 is_public Define = false
 is_public AddPool = false
+is_public PlaceBlock = false
 is_public Grant = false
 is_public Revoke = false
 is_public PendingRequests = false
@@ -59,6 +63,9 @@ pattern_of Registry = registry_path
 pattern_of RegistryCsv = listing_path
 pattern_of BlocksCsv = codes "/listings/blocks"
 pattern_of PoolList = codes "/pool"
+pattern_of LookUpBlock = address_path
+pattern_of LookUpValue = value_path
+pattern_of LookUpLeast = least_path
 pattern_of Token = codes "/token"
 pattern_of Own = codes "/requests"
 pattern_of OwnOne = request_path
@@ -82,6 +89,7 @@ pattern_of Decline = decline_path
 pattern_of SetHold = hold_path
 pattern_of Define = definition_path
 pattern_of AddPool = prefix_path
+pattern_of PlaceBlock = place_path
 pattern_of Grant = codes "/desk/tokens"
 pattern_of Revoke = codes "/desk/revoke"
 pattern_of PendingRequests = codes "/desk/pending"

@@ -5,4 +5,5 @@ pub mod ask;
 pub mod capability;
 pub mod early_evidence;
 pub mod evidence;
+pub mod holding;
 pub mod value;

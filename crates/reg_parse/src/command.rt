@@ -1,27 +1,29 @@
 //! Reads the command that a method, a path and a body spell.
 ghost use Rattle.std.specs.Prelude.{◌≡◌, true, IfOk, IfSome, option_map};
-ghost use Rattle.reg_blocks.specs.Digits.{read_block, read_prefix};
+ghost use Rattle.reg_blocks.specs.Digits.{read_address, read_block, read_prefix};
 ghost use Rattle.reg_core.specs.Command.{has_command_form};
 ghost use Rattle.reg_early.specs.DayReading.{read_clock_day};
 ghost use Rattle.reg_parse.specs.Route.{is_of_desk, operation_for};
 ghost use Rattle.reg_json.specs.Members.{Gives};
 ghost use Rattle.reg_ranges.specs.Numbers.{read_number};
 ghost use Rattle.reg_ranges.specs.Texts.{read_text};
-ghost use Rattle.reg_parse.specs.Command.{acts_about_of, acts_by_of, acts_on_of, add_pool_of, advise_of, approve_of, asked, assign_expert_of, command_of, decline_of, define_of, empty, grant_of, one_request_of, own_one_of, principal_rows_of, principal_times_of, registry_csv_of, registry_of, revoke_account_of, revoke_digits_of, revoke_of, routed, segment, set_agent_of, set_hold_of, set_listing_of, submit_of, withdraw_of, without_body};
+ghost use Rattle.reg_ranges.specs.Words.{read_policy};
+ghost use Rattle.reg_parse.specs.Command.{acts_about_of, acts_by_of, acts_on_of, add_pool_of, advise_of, approve_of, asked, assign_expert_of, command_of, decline_of, define_of, empty, grant_of, look_up_block_of, look_up_least_of, look_up_value_of, one_request_of, own_one_of, place_block_of, principal_rows_of, principal_times_of, registry_csv_of, registry_of, revoke_account_of, revoke_digits_of, revoke_of, routed, segment, set_agent_of, set_hold_of, set_listing_of, submit_of, withdraw_of, without_body};
 
-use crate::bodies::{advice, ask, capability};
+use crate::bodies::{advice, ask, capability, holding};
 use crate::path;
 use crate::range_file::read_table;
 use crate::route::{
-    ACCOUNT_PATH, ACTOR_PATH, AGENT_PATH, APPROVAL_PATH, CASE_PATH, DAY_PATH, DECLINE_PATH,
-    DEFINITION_PATH, EXPERT_PATH, HISTORY_PATH, HOLD_PATH, HOLDING_PATH, LISTING_PATH, Methods,
-    Operation, PREFIX_PATH, PRINCIPAL_PATH, PRINCIPAL_TIMES_PATH, REGISTRY_PATH, REQUEST_PATH,
-    REVIEW_PATH, Routes, TOKEN_PATH,
+    ACCOUNT_PATH, ACTOR_PATH, ADDRESS_PATH, AGENT_PATH, APPROVAL_PATH, CASE_PATH, DAY_PATH,
+    DECLINE_PATH, DEFINITION_PATH, EXPERT_PATH, HISTORY_PATH, HOLD_PATH, HOLDING_PATH, LEAST_PATH,
+    LISTING_PATH, Methods, Operation, PLACE_PATH, PREFIX_PATH, PRINCIPAL_PATH,
+    PRINCIPAL_TIMES_PATH, REGISTRY_PATH, REQUEST_PATH, REVIEW_PATH, Routes, TOKEN_PATH, VALUE_PATH,
 };
 use reg_blocks::block::Block;
-use reg_blocks::prefix;
+use reg_blocks::{address, prefix};
 use reg_core::command::{
-    ApplicantCommand, ClerkCommand, Command, ExpertCommand, PublicCommand, TimesCommand,
+    ApplicantCommand, ClerkCommand, Command, ExpertCommand, LookUpCommand, PublicCommand,
+    TimesCommand,
 };
 use reg_core::item::{Item, Segment};
 use reg_core::text::{Form, Word};
@@ -30,6 +32,7 @@ use reg_early::day::Day;
 use reg_early::day_reading::read_clock_day;
 use reg_json::members;
 use reg_ranges::number::read_number;
+use reg_ranges::policy::Policy;
 use std::alloc::Global;
 
 /// The command that these bytes spell. What is wrong with them is looked for in this order:
@@ -85,6 +88,9 @@ fn command_of(alloc: Global, call: Operation, path: &str, body: &[u8]) -> Result
         Operation::RegistryCsv => read_registry_csv(path, body),
         Operation::BlocksCsv => bodiless(Command::Public(PublicCommand::BlocksCsv), body),
         Operation::PoolList => bodiless(Command::Public(PublicCommand::PoolList), body),
+        Operation::LookUpBlock => read_look_up_block(path, body),
+        Operation::LookUpValue => read_look_up_value(path, body),
+        Operation::LookUpLeast => read_look_up_least(path, body),
         Operation::Token => bodiless(Command::Token, body),
         Operation::Own => bodiless(Command::Applicant(ApplicantCommand::Own), body),
         Operation::OwnOne => read_own_one(path, body),
@@ -123,6 +129,7 @@ fn desk_command_of(
         Operation::SetHold => read_set_hold(alloc, path, body),
         Operation::Define => read_define(alloc, path, body),
         Operation::AddPool => read_add_pool(path, body),
+        Operation::PlaceBlock => read_place_block(alloc, path, body),
         Operation::Grant => read_grant(alloc, body),
         Operation::Revoke => read_revoke(alloc, body),
         Operation::PendingRequests => bodiless(Command::Clerk(ClerkCommand::PendingRequests), body),
@@ -153,6 +160,35 @@ fn read_registry_csv(path: &str, body: &[u8]) -> Result<Command, ReadFault>
     empty(body)?;
     let name = word_at(LISTING_PATH, path, Segment::Name)?;
     Ok(Command::Public(PublicCommand::RegistryCsv(name)))
+}
+
+#[tactic(auto, unfolding(crate::specs::Command::look_up_block_of))]
+fn read_look_up_block(path: &str, body: &[u8]) -> Result<Command, ReadFault>
+    ensures { Gives result (look_up_block_of path.now body.now) }
+{
+    empty(body)?;
+    let address = address_at(ADDRESS_PATH, path, Segment::Address)?;
+    Ok(Command::LookUp(LookUpCommand::Block(address)))
+}
+
+#[tactic(auto, unfolding(crate::specs::Command::look_up_value_of))]
+fn read_look_up_value(path: &str, body: &[u8]) -> Result<Command, ReadFault>
+    ensures { Gives result (look_up_value_of path.now body.now) }
+{
+    empty(body)?;
+    let name = word_at(VALUE_PATH, path, Segment::Name)?;
+    let value = number_at(VALUE_PATH, path, Segment::Value)?;
+    Ok(Command::LookUp(LookUpCommand::Value(name, value)))
+}
+
+#[tactic(auto, unfolding(crate::specs::Command::look_up_least_of))]
+fn read_look_up_least(path: &str, body: &[u8]) -> Result<Command, ReadFault>
+    ensures { Gives result (look_up_least_of path.now body.now) }
+{
+    empty(body)?;
+    let name = word_at(LEAST_PATH, path, Segment::Name)?;
+    let policy = policy_at(LEAST_PATH, path, Segment::Policy)?;
+    Ok(Command::LookUp(LookUpCommand::Least(name, policy)))
 }
 
 #[tactic(auto, unfolding(crate::specs::Command::own_one_of))]
@@ -309,6 +345,25 @@ fn read_add_pool(path: &str, body: &[u8]) -> Result<Command, ReadFault>
     Ok(Command::Clerk(ClerkCommand::AddPool(prefix)))
 }
 
+#[tactic(auto, unfolding(crate::specs::Command::place_block_of))]
+fn read_place_block(alloc: Global, path: &str, body: &[u8]) -> Result<Command, ReadFault>
+    ensures { Gives result (place_block_of path.now body.now) }
+{
+    let json = members::object_of(alloc, body)?;
+    let block = block_at(PLACE_PATH, path, Segment::Block)?;
+    let holding = holding::read_holding(alloc, &json, block)?;
+    members::only(
+        &[
+            Item::Holder,
+            Item::Organization,
+            Item::Address,
+            Item::Private,
+        ],
+        &json,
+    )?;
+    Ok(Command::Clerk(ClerkCommand::PlaceBlock(holding)))
+}
+
 #[tactic(auto, unfolding(crate::specs::Command::grant_of))]
 fn read_grant(alloc: Global, body: &[u8]) -> Result<Command, ReadFault>
     ensures { Gives result (grant_of body.now) }
@@ -438,6 +493,24 @@ fn block_at(pattern: &str, path: &str, part: Segment) -> Result<Block, ReadFault
 {
     path::segment(pattern, path, part)
         .and_then(|text| Block::read(text.as_bytes()))
+        .ok_or(ReadFault::field(Item::Segment(part)))
+}
+
+// The address where the pattern names this part, in 12 hexadecimal digits.
+fn address_at(pattern: &str, path: &str, part: Segment) -> Result<u64, ReadFault>
+    ensures { Gives result (segment part read_address pattern.now path.now) }
+{
+    path::segment(pattern, path, part)
+        .and_then(|text| address::read(text.as_bytes()))
+        .ok_or(ReadFault::field(Item::Segment(part)))
+}
+
+// The policy whose word stands where the pattern names this part.
+fn policy_at(pattern: &str, path: &str, part: Segment) -> Result<Policy, ReadFault>
+    ensures { Gives result (segment part read_policy pattern.now path.now) }
+{
+    path::segment(pattern, path, part)
+        .and_then(|text| Policy::read(text.as_bytes()))
         .ok_or(ReadFault::field(Item::Segment(part)))
 }
 

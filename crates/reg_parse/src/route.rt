@@ -16,6 +16,9 @@ pub enum Operation {
     RegistryCsv,
     BlocksCsv,
     PoolList,
+    LookUpBlock,
+    LookUpValue,
+    LookUpLeast,
     Token,
     Own,
     OwnOne,
@@ -39,6 +42,7 @@ pub enum Operation {
     SetHold,
     Define,
     AddPool,
+    PlaceBlock,
     Grant,
     Revoke,
     PendingRequests,
@@ -111,6 +115,12 @@ pub(crate) const REGISTRY_PATH: &str = "/registries/{name}";
 
 pub(crate) const LISTING_PATH: &str = "/listings/registries/{name}";
 
+pub(crate) const ADDRESS_PATH: &str = "/addresses/{address}";
+
+pub(crate) const VALUE_PATH: &str = "/registries/{name}/values/{value}";
+
+pub(crate) const LEAST_PATH: &str = "/registries/{name}/least/{policy}";
+
 pub(crate) const REQUEST_PATH: &str = "/requests/{reference}";
 
 pub(crate) const HOLDING_PATH: &str = "/holdings/{block}";
@@ -137,6 +147,8 @@ pub(crate) const DEFINITION_PATH: &str = "/desk/registries/{name}/{max}";
 
 pub(crate) const PREFIX_PATH: &str = "/desk/pool/{prefix}";
 
+pub(crate) const PLACE_PATH: &str = "/desk/blocks/{block}";
+
 pub(crate) const TOKEN_PATH: &str = "/desk/tokens/{digits}";
 
 pub(crate) const ACCOUNT_PATH: &str = "/desk/accounts/{account}";
@@ -148,7 +160,7 @@ pub(crate) const ACTOR_PATH: &str = "/desk/journal/actors/{account}";
 pub(crate) const HISTORY_PATH: &str = "/desk/journal/requests/{account}/{reference}";
 
 // Each path, and what the methods do there.
-const ROWS: [(&str, Methods); 35] = [
+const ROWS: [(&str, Methods); 39] = [
     (
         "/registries",
         Methods {
@@ -181,6 +193,27 @@ const ROWS: [(&str, Methods); 35] = [
         "/pool",
         Methods {
             get: Some(Operation::PoolList),
+            ..NONE
+        },
+    ),
+    (
+        ADDRESS_PATH,
+        Methods {
+            get: Some(Operation::LookUpBlock),
+            ..NONE
+        },
+    ),
+    (
+        VALUE_PATH,
+        Methods {
+            get: Some(Operation::LookUpValue),
+            ..NONE
+        },
+    ),
+    (
+        LEAST_PATH,
+        Methods {
+            get: Some(Operation::LookUpLeast),
             ..NONE
         },
     ),
@@ -329,6 +362,13 @@ const ROWS: [(&str, Methods); 35] = [
         PREFIX_PATH,
         Methods {
             put: Some(Operation::AddPool),
+            ..NONE
+        },
+    ),
+    (
+        PLACE_PATH,
+        Methods {
+            put: Some(Operation::PlaceBlock),
             ..NONE
         },
     ),

@@ -5,10 +5,10 @@ ghost use Rattle.reg_parse.specs.Shown.{are_public, is_open, is_public, pattern_
 
 use crate::command::routed;
 use crate::route::{
-    ACCOUNT_PATH, ACTOR_PATH, AGENT_PATH, APPROVAL_PATH, CASE_PATH, DAY_PATH, DECLINE_PATH,
-    DEFINITION_PATH, EXPERT_PATH, HISTORY_PATH, HOLD_PATH, HOLDING_PATH, LISTING_PATH, Methods,
-    Operation, PREFIX_PATH, PRINCIPAL_PATH, PRINCIPAL_TIMES_PATH, REGISTRY_PATH, REQUEST_PATH,
-    REVIEW_PATH, Routes, TOKEN_PATH,
+    ACCOUNT_PATH, ACTOR_PATH, ADDRESS_PATH, AGENT_PATH, APPROVAL_PATH, CASE_PATH, DAY_PATH,
+    DECLINE_PATH, DEFINITION_PATH, EXPERT_PATH, HISTORY_PATH, HOLD_PATH, HOLDING_PATH, LEAST_PATH,
+    LISTING_PATH, Methods, Operation, PLACE_PATH, PREFIX_PATH, PRINCIPAL_PATH,
+    PRINCIPAL_TIMES_PATH, REGISTRY_PATH, REQUEST_PATH, REVIEW_PATH, Routes, TOKEN_PATH, VALUE_PATH,
 };
 
 /// What stands for a path that has no route.
@@ -87,7 +87,10 @@ impl Operation {
             | Operation::Registry
             | Operation::RegistryCsv
             | Operation::BlocksCsv
-            | Operation::PoolList => true,
+            | Operation::PoolList
+            | Operation::LookUpBlock
+            | Operation::LookUpValue
+            | Operation::LookUpLeast => true,
             _ => false,
         }
     }
@@ -102,6 +105,9 @@ impl Operation {
             Operation::RegistryCsv => LISTING_PATH,
             Operation::BlocksCsv => "/listings/blocks",
             Operation::PoolList => "/pool",
+            Operation::LookUpBlock => ADDRESS_PATH,
+            Operation::LookUpValue => VALUE_PATH,
+            Operation::LookUpLeast => LEAST_PATH,
             Operation::Token => "/token",
             Operation::Own => "/requests",
             Operation::OwnOne | Operation::Submit | Operation::Withdraw => REQUEST_PATH,
@@ -133,6 +139,7 @@ impl Operation {
             Operation::SetHold => HOLD_PATH,
             Operation::Define => DEFINITION_PATH,
             Operation::AddPool => PREFIX_PATH,
+            Operation::PlaceBlock => PLACE_PATH,
             Operation::Grant | Operation::AllCapabilities => "/desk/tokens",
             Operation::Revoke => "/desk/revoke",
             Operation::PendingRequests => "/desk/pending",

@@ -1,7 +1,7 @@
 -- The status and the body of an answer.
 use Rattle.std.specs.Prelude.{ℕ, List}
 use Rattle.reg_core.specs.declared.told.Told.{Told}
-use Rattle.reg_core.specs.declared.told.Told.TheVariants.{Names, Page, Sheet, Pool, Blocks, Made, Row, Rows, Times, Held, Holdings, Agent, Accounts, Item, Items, Desk, Desks, Filed, Marked, Defined, Pooled, Granted, InUse, Revoked, Waiting, Capabilities, Counts, Acts, ActsAbout}
+use Rattle.reg_core.specs.declared.told.Told.TheVariants.{Names, Page, Sheet, Pool, Blocks, Block, Value, Least, Made, Row, Rows, Times, Held, Holdings, Agent, Accounts, Item, Items, Desk, Desks, Filed, Marked, Defined, Pooled, Placed, Granted, InUse, Revoked, Waiting, Capabilities, Counts, Acts, ActsAbout}
 use Rattle.reg_core.specs.declared.reply.Reply.{Reply}
 use Rattle.reg_core.specs.declared.reply.Reply.TheVariants as reply
 use Rattle.reg_print.specs.declared.answer.Answer.{Answer}
@@ -10,7 +10,7 @@ use Rattle.reg_print.specs.Body.{Body, json, listing, block_listing, text_of}
 use Rattle.reg_print.specs.Trees.Act.{acts_tree}
 use Rattle.reg_print.specs.Trees.Agent.{agent_tree}
 use Rattle.reg_print.specs.Trees.File.{file_tree, waiting_list_tree}
-use Rattle.reg_print.specs.Trees.Holding.{holding_tree, holdings_tree}
+use Rattle.reg_print.specs.Trees.Holding.{holding_tree, holdings_tree, listed_tree, placed_tree}
 use Rattle.reg_print.specs.Trees.Members.{names_tree}
 use Rattle.reg_print.specs.Trees.Page.{page_tree, defined_tree, entry_tree}
 use Rattle.reg_print.specs.Trees.Pool.{pool_tree, pooled_tree}
@@ -21,6 +21,7 @@ use Rattle.reg_print.specs.Trees.Capability.{cap_rows_tree, cap_tree, revoked_tr
 use Rattle.reg_print.specs.Trees.Counts.{counts_tree}
 use Rattle.reg_print.specs.Trees.Refusal.{error_tree}
 use Rattle.reg_print.specs.Trees.Times.{times_rows_tree}
+use Rattle.reg_print.specs.Trees.Value.{least_tree, value_tree}
 
 -- ---- Status
 
@@ -31,6 +32,9 @@ told_status (Page page) = 200
 told_status (Sheet page) = 200
 told_status (Pool prefixes) = 200
 told_status (Blocks rows) = 200
+told_status (Block row) = 200
+told_status (Value row) = 200
+told_status (Least value) = 200
 told_status (Made request) = 201
 told_status (Row request) = 200
 told_status (Rows requests) = 200
@@ -47,6 +51,7 @@ told_status (Filed file) = 200
 told_status (Marked entry) = 200
 told_status (Defined name) = 200
 told_status (Pooled prefix) = 200
+told_status (Placed holding) = 200
 told_status (Granted cap) = 200
 told_status (InUse cap) = 200
 told_status Revoked = 200
@@ -75,6 +80,9 @@ told_body (Page page) = json (page_tree page)
 told_body (Sheet page) = listing page
 told_body (Pool prefixes) = json (pool_tree prefixes)
 told_body (Blocks rows) = block_listing rows
+told_body (Block row) = json (listed_tree row)
+told_body (Value row) = json (value_tree row)
+told_body (Least value) = json (least_tree value)
 told_body (Made request) = json (request_tree request)
 told_body (Row request) = json (request_tree request)
 told_body (Rows requests) = json (requests_tree requests)
@@ -91,6 +99,7 @@ told_body (Filed file) = json (file_tree file)
 told_body (Marked entry) = json (entry_tree entry)
 told_body (Defined name) = json (defined_tree name)
 told_body (Pooled prefix) = json (pooled_tree prefix)
+told_body (Placed holding) = json (placed_tree holding)
 told_body (Granted cap) = json (cap_tree cap)
 told_body (InUse cap) = json (cap_tree cap)
 told_body Revoked = json revoked_tree

@@ -59,6 +59,10 @@ abbrev pub closed_status : Treatment → Option RowStatus
 closed_status (treatment.Under p) = closed_under p
 closed_status treatment.Reserved = Some Reserved
 
+-- how a value without an entry stands in such a range
+abbrev pub free_status : Treatment → RowStatus
+free_status treatment = unwrap_or (closed_status treatment) Unassigned
+
 abbrev pub policy_of : Treatment → Option Policy
 policy_of (treatment.Under p) = Some p
 policy_of treatment.Reserved = None

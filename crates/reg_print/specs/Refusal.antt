@@ -1,7 +1,7 @@
 -- How refusals are answered: the status, the name and the item of each.
 use Rattle.std.specs.Prelude.{ℕ, List, Option, Some, None, codes}
 use Rattle.reg_core.specs.declared.refusal.Refusal.{Refusal}
-use Rattle.reg_core.specs.declared.refusal.Refusal.TheVariants.{Clock, Token, Kind, Ref, Request, Principal, Closed, Registry, Range, Policy, Early, Evidence, Entry, Permanent, Renewed, Expired, Taken, Exhausted, Advice, Own, Several, Holding, Exists, Bits}
+use Rattle.reg_core.specs.declared.refusal.Refusal.TheVariants.{Clock, Token, Kind, Ref, Request, Principal, Closed, Registry, Range, Policy, Early, Evidence, Entry, Permanent, Renewed, Expired, Taken, Exhausted, Advice, Own, Several, Holding, Block, Exists, Pool, Bits}
 use Rattle.reg_core.specs.declared.wire_refusal.WireRefusal.{WireRefusal}
 use Rattle.reg_core.specs.declared.wire_refusal.WireRefusal.TheVariants.{Line, Route, Method, Body, Field, Ranges}
 use Rattle.reg_print.specs.declared.detail.Detail.{Detail}
@@ -47,7 +47,9 @@ office_row Advice = row 409 (codes "advice")
 office_row Own = row 409 (codes "own")
 office_row Several = row 409 (codes "several")
 office_row Holding = row 404 (codes "holding")
+office_row Block = row 404 (codes "block")
 office_row Exists = row 409 (codes "exists")
+office_row Pool = row 409 (codes "pool")
 office_row Bits = row 422 (codes "bits")
 
 -- of bytes that spell no command

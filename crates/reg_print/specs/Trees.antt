@@ -6,6 +6,7 @@ pub mod Advice
 pub mod Queue
 pub mod File
 pub mod Page
+pub mod Value
 pub mod Pool
 pub mod Holding
 pub mod Agent

@@ -3,19 +3,23 @@ ghost use Rattle.std.specs.Prelude.{◌≡◌, IfOk};
 ghost use Rattle.reg_print.specs.Answer.{status_of, reply_status, told_status, answer_body, reply_body, told_body, body_text};
 ghost use Rattle.reg_print.specs.Body.{format_of, json, text_of, ReadsBack};
 ghost use Rattle.reg_print.specs.Refusal.{row_view};
+ghost use Rattle.reg_print.specs.Trees.Agent.{agent_tree};
 ghost use Rattle.reg_print.specs.Trees.Refusal.{error_tree};
 
 use crate::bodies::agent::Agent;
 use crate::bodies::capability::Revoked;
+use crate::bodies::holding::Placed;
 use crate::bodies::page::Defined;
 use crate::bodies::pool::Pooled;
 use crate::bodies::request::Desk;
+use crate::bodies::value::Least;
 use crate::listing::blocks::block_listing;
 use crate::listing::registry::listing;
 use crate::printing::{Itself, printed};
 use crate::refusal::{RefusalRow, office_row, storage_row, wire_row};
 use http::StatusCode;
 use reg_core::reply::Reply;
+use reg_core::text::Account;
 use reg_core::told::Told;
 use reg_core::wire_refusal::WireRefusal;
 use std::alloc::{AllocError, Global};
@@ -93,6 +97,9 @@ fn told_status(told: &Told) -> StatusCode
         | Told::Sheet(_)
         | Told::Pool(_)
         | Told::Blocks(_)
+        | Told::Block(_)
+        | Told::Value(_)
+        | Told::Least(_)
         | Told::Row(_)
         | Told::Rows(_)
         | Told::Times(_)
@@ -108,6 +115,7 @@ fn told_status(told: &Told) -> StatusCode
         | Told::Marked(_)
         | Told::Defined(_)
         | Told::Pooled(_)
+        | Told::Placed(_)
         | Told::Granted(_)
         | Told::InUse(_)
         | Told::Revoked
@@ -148,6 +156,13 @@ fn refusal_bytes(alloc: Global, row: &RefusalRow) -> Result<Vec<u8>, AllocError>
     printed(alloc, row)
 }
 
+fn agent_bytes(alloc: Global, agent: Account, reads: bool) -> Result<Vec<u8>, AllocError>
+    ensures text { IfOk result (λ v. v.items ≡ text_of (json (agent_tree agent reads))) }
+    ensures reads_back { IfOk result (λ v. ReadsBack (json (agent_tree agent reads)) v.items) }
+{
+    printed(alloc, &Agent { agent, reads })
+}
+
 fn told_bytes(alloc: Global, told: &Told) -> Result<Vec<u8>, AllocError>
     ensures text { IfOk result (λ v. v.items ≡ text_of (told_body told.now)) }
     ensures reads_back { IfOk result (λ v. ReadsBack (told_body told.now) v.items) }
@@ -158,18 +173,15 @@ fn told_bytes(alloc: Global, told: &Told) -> Result<Vec<u8>, AllocError>
         Told::Sheet(page) => listing(alloc, page),
         Told::Pool(pool) => printed(alloc, pool),
         Told::Blocks(rows) => block_listing(alloc, rows.as_slice()),
+        Told::Block(row) => printed::<Itself, _>(alloc, row),
+        Told::Value(row) => printed(alloc, row),
+        Told::Least(value) => printed::<Least, _>(alloc, value),
         Told::Made(request) | Told::Row(request) => printed::<Itself, _>(alloc, request),
         Told::Rows(requests) => printed::<Itself, _>(alloc, requests),
         Told::Times(rows) => printed::<Itself, _>(alloc, rows),
-        Told::Held(holding) => printed(alloc, holding),
+        Told::Held(holding) => printed::<Itself, _>(alloc, holding),
         Told::Holdings(holdings) => printed::<Itself, _>(alloc, holdings),
-        Told::Agent(agent, reads) => printed(
-            alloc,
-            &Agent {
-                agent: *agent,
-                reads: *reads,
-            },
-        ),
+        Told::Agent(agent, reads) => agent_bytes(alloc, *agent, *reads),
         Told::Accounts(accounts) => printed::<Itself, _>(alloc, accounts),
         Told::Item(row) => printed(alloc, row),
         Told::Items(rows) => printed::<Itself, _>(alloc, rows),
@@ -179,6 +191,7 @@ fn told_bytes(alloc: Global, told: &Told) -> Result<Vec<u8>, AllocError>
         Told::Marked(entry) => printed(alloc, entry),
         Told::Defined(name) => printed::<Defined, _>(alloc, name),
         Told::Pooled(prefix) => printed::<Pooled, _>(alloc, prefix),
+        Told::Placed(holding) => printed::<Placed, _>(alloc, holding),
         Told::Granted(cap) | Told::InUse(cap) => printed(alloc, cap),
         Told::Revoked => printed(alloc, &Revoked),
         Told::Waiting(files) => printed::<Itself, _>(alloc, files),

@@ -14,3 +14,4 @@ pub mod queue;
 pub mod refusal;
 pub mod request;
 pub mod times;
+pub mod value;

@@ -45,7 +45,9 @@ pub fn office_row(refusal: Refusal) -> RefusalRow
         Refusal::Own => row(StatusCode::CONFLICT, "own"),
         Refusal::Several => row(StatusCode::CONFLICT, "several"),
         Refusal::Holding => row(StatusCode::NOT_FOUND, "holding"),
+        Refusal::Block => row(StatusCode::NOT_FOUND, "block"),
         Refusal::Exists => row(StatusCode::CONFLICT, "exists"),
+        Refusal::Pool => row(StatusCode::CONFLICT, "pool"),
         Refusal::Bits => row(StatusCode::UNPROCESSABLE_ENTITY, "bits"),
     }
 }

@@ -1,5 +1,5 @@
 -- The JSON of registries.
-use Rattle.std.specs.Prelude.{ℕ, List, [], ◌∷◌, map, Option, Some, option_map, unwrap_or, codes}
+use Rattle.std.specs.Prelude.{ℕ, List, [], ◌∷◌, ◌++◌, map, Option, Some, option_map, unwrap_or, codes}
 use Rattle.serde_json.specs.Data.{Data, boolean, string, array}
 use Rattle.serde_json.specs.View.{items_of}
 use Rattle.reg_ranges.specs.Words.{treatment_word}
@@ -42,17 +42,25 @@ expires_if term = option_map day_data term.expires
 abbrev pub renewed_if : Term → Option Data
 renewed_if term = option_map (λ day. boolean term.renewed) term.expires
 
-abbrev pub entry_members : PageEntry → Listed
-entry_members entry =
+-- the members of an entry: of its assignment, and of how it stands
+abbrev pub assignment_members : PageEntry → Listed
+assignment_members entry =
     (codes "assignee", text entry.assignee)
     ∷ (codes "expires", expires_if entry.term)
     ∷ (codes "first", Some (day_data entry.term.first))
     ∷ (codes "held", true_if entry.term.held)
     ∷ (codes "label", text entry.label)
-    ∷ (codes "renewed", renewed_if entry.term)
+    ∷ []
+
+abbrev pub standing_members : PageEntry → Listed
+standing_members entry =
+    (codes "renewed", renewed_if entry.term)
     ∷ (codes "status", text (status_word entry.status))
     ∷ (codes "value", whole_number entry.value)
     ∷ []
+
+abbrev pub entry_members : PageEntry → Listed
+entry_members entry = assignment_members entry ++ standing_members entry
 
 abbrev pub entry_tree : PageEntry → Data
 entry_tree entry = object_with (entry_members entry)

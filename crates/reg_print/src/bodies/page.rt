@@ -1,7 +1,7 @@
 //! Prints registries.
 ghost use Rattle.std.specs.Prelude.{[], ◌∷◌, codes, Some};
 ghost use Rattle.reg_print.specs.Printed.{IfWhole, PrintedMembers};
-ghost use Rattle.reg_print.specs.Trees.Page.{day_data, defined_tree, entries_tree, entry_tree, expires_if, frame_members, frame_tree, page_tree, range_tree, ranges_tree, renewed_if};
+ghost use Rattle.reg_print.specs.Trees.Page.{assignment_members, day_data, defined_tree, entries_tree, entry_tree, expires_if, frame_members, frame_tree, page_tree, range_tree, ranges_tree, renewed_if, standing_members};
 
 use crate::note::note_text;
 use crate::printing::{Itself, Print, Printer};
@@ -83,16 +83,32 @@ impl Print<Itself> for PageEntry {
 
     fn print(&self, out: &mut Printer) {
         out.open_object();
-        out.put("assignee", &self.assignee);
-        put_expires_if(out, self.term);
-        put_day(out, "first", self.term.first);
-        out.put_true_if("held", self.term.held);
-        out.put("label", &self.label);
-        put_renewed_if(out, self.term);
-        out.put_text("status", self.status.word());
-        out.put_number("value", u64::from(self.value));
+        put_assignment(out, self);
+        put_standing(out, self);
         out.close_object();
     }
+}
+
+/// The members of an entry that are of its assignment.
+pub(crate) fn put_assignment(out: &mut Printer, entry: &PageEntry)
+    ensures { IfWhole out.old out.new
+        (PrintedMembers out.old.json out.new.json 0 (assignment_members entry.now)) }
+{
+    out.put("assignee", &entry.assignee);
+    put_expires_if(out, entry.term);
+    put_day(out, "first", entry.term.first);
+    out.put_true_if("held", entry.term.held);
+    out.put("label", &entry.label);
+}
+
+/// The members of an entry that tell how it stands.
+pub(crate) fn put_standing(out: &mut Printer, entry: &PageEntry)
+    ensures { IfWhole out.old out.new
+        (PrintedMembers out.old.json out.new.json 0 (standing_members entry.now)) }
+{
+    put_renewed_if(out, entry.term);
+    out.put_text("status", entry.status.word());
+    out.put_number("value", u64::from(entry.value));
 }
 
 // Whether the term was renewed, where it has an expiry.

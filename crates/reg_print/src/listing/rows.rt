@@ -1,7 +1,7 @@
 //! A registry as a listing: a row for each entry and for each run of values without one, and how
 //! they stand.
 ghost use Rattle.std.specs.Prelude.{◌≡◌, ◌≤◌, ◌^◌, ◌++◌, map, Some, IfOk, OnOk};
-ghost use Rattle.reg_print.specs.Listing.{status_word, run_text, closed_status, policy_of, whole, row_view, closed_row, free_row, entry_row, free_rows, rows_from, range_rows, page_rows};
+ghost use Rattle.reg_print.specs.Listing.{status_word, run_text, closed_status, free_status, policy_of, whole, row_view, closed_row, free_row, entry_row, free_rows, rows_from, range_rows, page_rows};
 
 use crate::note::note_text;
 use reg_core::entry::PageEntry;
@@ -227,4 +227,11 @@ pub fn closed_status(treatment: Treatment) -> Option<RowStatus>
             | Policy::IesgApproval,
         ) => None,
     }
+}
+
+/// How a value without an entry stands in a range that is treated so.
+pub fn free_status(treatment: Treatment) -> RowStatus
+    ensures { result ≡ free_status treatment }
+{
+    closed_status(treatment).unwrap_or(RowStatus::Unassigned)
 }
