@@ -4,10 +4,13 @@ use Rattle.std.specs.Prelude.{option_map}
 use Rattle.std.specs.FinMap.{get}
 use Rattle.std.specs.Io.KnownBytes.{Appends}
 use Rattle.reg_early.specs.Moment.{is_in_clock, utc_day}
-use Rattle.reg_core.specs.Allowance.{◌>>=◌, or_refusal}
-use Rattle.reg_core.specs.Answer.{Answer, admitted, answer as answered, answer_at, as_kind, change_of, expert_answer, in_force, own_answer, own_row, public_answer, reply_of, times_answer, token_answer, unchanged}
+use Rattle.reg_ranges.specs.Tables.{Table, treatment_of}
+use Rattle.reg_ranges.specs.declared.policy.Treatment.{Treatment}
+use Rattle.reg_core.specs.Allowance.{◌>>=◌, least_allowed, or_refusal, value_ground}
+use Rattle.reg_core.specs.Answer.{Answer, admitted, answer as answered, answer_at, as_kind, change_of, expert_answer, in_force, look_up_answer, own_answer, own_row, public_answer, reply_of, times_answer, token_answer, unchanged}
 use Rattle.reg_core.specs.File.{file}
 use Rattle.reg_core.specs.Laws.{is_refused}
+use Rattle.reg_core.specs.LookUps.{listed_with, value_row}
 use Rattle.reg_core.specs.Page.{page}
 use Rattle.reg_core.specs.Request.{request_rows}
 use Rattle.reg_core.specs.Step.{acts_as_clerk, answer_to, clerk_answer, clerk_answer_to, stamp_in, Stepped, stepped}
@@ -19,7 +22,10 @@ use Rattle.reg_core.specs.declared.capability.Cap.{Cap}
 use Rattle.reg_core.specs.declared.capability.Kind.{Kind}
 use Rattle.reg_core.specs.declared.capability.Kind.TheVariants as kind
 use Rattle.reg_core.specs.declared.command.Command.{Command}
-use Rattle.reg_core.specs.declared.command.Command.TheVariants.{Public, Token, Applicant, Times, Expert, Clerk}
+use Rattle.reg_core.specs.declared.command.Command.TheVariants.{Public, LookUp, Token, Applicant, Times, Expert, Clerk}
+use Rattle.reg_core.specs.declared.ask.Want.TheVariants as want
+use Rattle.reg_core.specs.declared.command.LookUpCommand.{LookUpCommand}
+use Rattle.reg_core.specs.declared.command.LookUpCommand.TheVariants as look
 use Rattle.reg_core.specs.declared.command.TimesCommand.{TimesCommand}
 use Rattle.reg_core.specs.declared.command.TimesCommand.TheVariants as times
 use Rattle.reg_core.specs.declared.command.PublicCommand.{PublicCommand}
@@ -128,6 +134,21 @@ public_stays p today (RegistryCsv name) =
 public_stays p today PoolList = refl
 public_stays p today BlocksCsv = refl
 
+look_up_stays : (p : Published) (today : ℕ) (command : LookUpCommand)
+    → change_of (look_up_answer p today command) ≡ None
+look_up_stays p today (look.Block address) =
+    after_found no.Block (listed_with p.blocks address) (λ row. unchanged (tells.Block row))
+    (λ row. refl)
+look_up_stays p today (look.Value name value) =
+    let shown : Treatment → Answer = λ treatment.
+    unchanged (tells.Value (value_row today value treatment (get p.entries (name, value)))) in
+    after_found no.Registry (get p.registries name)
+    (λ (table : Table). or_refusal no.Range (treatment_of table value) >>= shown)
+    (λ table. after_found no.Range (treatment_of table value) shown (λ treatment. refl))
+look_up_stays p today (look.Least name policy) =
+    after_part (least_allowed (value_ground p name (want.Least policy)) policy)
+    (λ value. unchanged (tells.Least value)) (λ value. refl)
+
 applicant_stays : (p : Published) (account : List ℕ) (my : Personal) (command : ApplicantCommand)
     → applicant_looks command ≡ true → change_of (own_answer p account my command) ≡ None
 applicant_stays p account my Own h = refl
@@ -212,6 +233,9 @@ answer_stays : (w : World) (caller : Option (List ℕ)) (moment : ℕ) (command 
 answer_stays w caller moment (Public command) h =
     seen_stays w caller moment (Public command)
     (public_stays (view_of w caller).published (utc_day moment) command)
+answer_stays w caller moment (LookUp command) h =
+    seen_stays w caller moment (LookUp command)
+    (look_up_stays (view_of w caller).published (utc_day moment) command)
 answer_stays w caller moment Token h =
     seen_stays w caller moment Token (token_stays (view_of w caller).me moment)
 answer_stays w caller moment (Applicant command) h =

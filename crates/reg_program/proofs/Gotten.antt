@@ -12,20 +12,24 @@ use Rattle.matchit.specs.declared.error.InsertError.{InsertError}
 use Rattle.reg_core.specs.declared.command.Command.{Command}
 use Rattle.reg_core.specs.declared.command.Command.TheVariants as command
 use Rattle.reg_core.specs.declared.command.PublicCommand.TheVariants as public
+use Rattle.reg_core.specs.declared.command.LookUpCommand.TheVariants as look
 use Rattle.reg_core.specs.declared.command.ApplicantCommand.TheVariants as applicant
 use Rattle.reg_core.specs.declared.command.ClerkCommand.TheVariants as clerk
 use Rattle.reg_core.specs.declared.command.ExpertCommand.TheVariants as expert
 use Rattle.reg_core.specs.declared.command.TimesCommand.TheVariants as times
+use Rattle.reg_blocks.specs.Digits.{read_address}
+use Rattle.reg_ranges.specs.Numbers.{read_number}
+use Rattle.reg_ranges.specs.Words.{read_policy}
 use Rattle.reg_early.specs.DayReading.{read_clock_day}
 use Rattle.reg_core.specs.declared.item.Segment.TheVariants as in_path
 use Rattle.reg_core.specs.declared.wire_refusal.WireRefusal.TheVariants as refusal
 use Rattle.reg_json.specs.Members.{Reading, ◌>>=◌, or_refusal}
-use Rattle.reg_parse.specs.Command.{acts_about_of, acts_by_of, acts_on_of, asked, command_of, empty, name_at, one_request_of, own_one_of, principal_rows_of, principal_times_of, registry_csv_of, registry_of, routed, segment as read_segment}
+use Rattle.reg_parse.specs.Command.{acts_about_of, acts_by_of, acts_on_of, asked, command_of, empty, look_up_block_of, look_up_least_of, look_up_value_of, name_at, one_request_of, own_one_of, principal_rows_of, principal_times_of, registry_csv_of, registry_of, routed, segment as read_segment}
 use Rattle.reg_parse.specs.Path.{has_empty_segment}
-use Rattle.reg_parse.specs.Route.{Row, RouteTable, actor_path, case_path, day_path, history_path, listing_path, principal_times_path, methods_at, operation_for, principal_path, registry_path, request_path, routes, rows, with_row, with_rows, with_scan}
+use Rattle.reg_parse.specs.Route.{Row, RouteTable, actor_path, address_path, case_path, day_path, history_path, least_path, listing_path, principal_times_path, methods_at, operation_for, principal_path, registry_path, request_path, routes, rows, value_path, with_row, with_rows, with_scan}
 use Rattle.reg_parse.specs.declared.route.Methods.{Methods}
 use Rattle.reg_parse.specs.declared.route.Operation.{Operation}
-use Rattle.reg_parse.specs.declared.route.Operation.TheVariants.{Registries, Registry, RegistryCsv, BlocksCsv, PoolList, Token, Own, OwnOne, Holdings, Agents, Principals, PrincipalRows, Times, PrincipalTimes, Queue, AllRequests, OneRequest, PendingRequests, AllCapabilities, CountRows, ActsOn, ActsBy, ActsAbout}
+use Rattle.reg_parse.specs.declared.route.Operation.TheVariants.{Registries, Registry, RegistryCsv, BlocksCsv, PoolList, LookUpBlock, LookUpValue, LookUpLeast, Token, Own, OwnOne, Holdings, Agents, Principals, PrincipalRows, Times, PrincipalTimes, Queue, AllRequests, OneRequest, PendingRequests, AllCapabilities, CountRows, ActsOn, ActsBy, ActsAbout}
 use Rattle.reg_parse.proofs.Formed.{Passes, err-passes, ok-passes}
 use Rattle.reg_program.specs.Looking.{only_looks}
 
@@ -106,6 +110,9 @@ is_look Registry = true
 is_look RegistryCsv = true
 is_look BlocksCsv = true
 is_look PoolList = true
+is_look LookUpBlock = true
+is_look LookUpValue = true
+is_look LookUpLeast = true
 is_look Token = true
 is_look Own = true
 is_look OwnOne = true
@@ -149,7 +156,7 @@ rows-has [] table p h = h
 rows-has (r ∷ more) table p h = rows-has more (with_row r table) p.1 (row-has r table p.0 h)
 
 rows_look : AllByRecursion (λ (r : Row). GetLooks r.1) rows
-rows_look = (refl, (refl, (refl, (refl, (refl, (refl, (refl, (refl, (refl, (tt, (refl, (tt, (refl, (refl, (refl, (refl, (refl, (tt, (refl, (refl, (tt, (tt, (tt, (tt, (tt, (tt, (refl, (tt, (refl, (tt, (tt, (refl, (refl, (refl, (refl, tt)))))))))))))))))))))))))))))))))))
+rows_look = (refl, (refl, (refl, (refl, (refl, (refl, (refl, (refl, (refl, (refl, (refl, (refl, (tt, (refl, (tt, (refl, (refl, (refl, (refl, (refl, (tt, (refl, (refl, (tt, (tt, (tt, (tt, (tt, (tt, (tt, (refl, (tt, (refl, (tt, (tt, (refl, (refl, (refl, (refl, tt)))))))))))))))))))))))))))))))))))))))
 
 routes_look : All RouteLooks routes
 unfolding routes
@@ -187,9 +194,9 @@ named make h (Ok n) (Ok r) = ok-passes only_looks (make r) (h r)
 named make h (Ok n) (Err e) = err-passes only_looks e
 named make h (Err e) r = err-passes only_looks e
 
-two_named : (make : List ℕ → List ℕ → Command)
-    → ((a r : List ℕ) → only_looks (make a r) ≡ true)
-    → (n : Reading ⊤) (a : Reading (List ℕ)) (r : Reading (List ℕ))
+two_named : {A B : Type 0} (make : A → B → Command)
+    → ((a : A) (r : B) → only_looks (make a r) ≡ true)
+    → (n : Reading ⊤) (a : Reading A) (r : Reading B)
     → Passes only_looks
     (n >>= (λ nothing. a >>= (λ account. r >>= (λ reference. Ok (make account reference)))))
 two_named make h (Ok n) (Ok a) (Ok r) = ok-passes only_looks (make a r) (h a r)
@@ -200,7 +207,7 @@ two_named make h (Err e) a r = err-passes only_looks e
 operation_looks : (o : Operation) (path body : List ℕ) → is_look o ≡ true
     → Passes only_looks (command_of o path body)
 unfolding registry_of registry_csv_of own_one_of principal_rows_of principal_times_of one_request_of
-    acts_on_of acts_by_of acts_about_of
+    acts_on_of acts_by_of acts_about_of look_up_block_of look_up_value_of look_up_least_of
 operation_looks Registries path body h = plain (empty body) (command.Public public.Registries) refl
 operation_looks Registry path body h =
     named (λ s. command.Public (public.Registry s)) (λ s. refl) (empty body)
@@ -211,6 +218,15 @@ operation_looks RegistryCsv path body h =
 operation_looks BlocksCsv path body h =
     plain (empty body) (command.Public public.BlocksCsv) refl
 operation_looks PoolList path body h = plain (empty body) (command.Public public.PoolList) refl
+operation_looks LookUpBlock path body h =
+    named (λ a. command.LookUp (look.Block a)) (λ a. refl) (empty body)
+    (read_segment in_path.Address read_address address_path path)
+operation_looks LookUpValue path body h =
+    two_named (λ n v. command.LookUp (look.Value n v)) (λ n v. refl) (empty body)
+    (name_at in_path.Name value_path path) (read_segment in_path.Value read_number value_path path)
+operation_looks LookUpLeast path body h =
+    two_named (λ n p. command.LookUp (look.Least n p)) (λ n p. refl) (empty body)
+    (name_at in_path.Name least_path path) (read_segment in_path.Policy read_policy least_path path)
 operation_looks Token path body h = plain (empty body) command.Token refl
 operation_looks Own path body h = plain (empty body) (command.Applicant applicant.Own) refl
 operation_looks OwnOne path body h =

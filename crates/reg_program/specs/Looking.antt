@@ -1,7 +1,7 @@
 -- Commands that only look.
 use Rattle.std.specs.Prelude.{Bool, true, false}
 use Rattle.reg_core.specs.declared.command.Command.{Command}
-use Rattle.reg_core.specs.declared.command.Command.TheVariants.{Public, Token, Applicant, Times, Expert, Clerk}
+use Rattle.reg_core.specs.declared.command.Command.TheVariants.{Public, LookUp, Token, Applicant, Times, Expert, Clerk}
 use Rattle.reg_core.specs.declared.command.ApplicantCommand.{ApplicantCommand}
 use Rattle.reg_core.specs.declared.command.ApplicantCommand.TheVariants.{Own, OwnOne, Submit, Withdraw, Holdings, SetListing, SetAgent, Agents, Principals, PrincipalRows}
 use Rattle.reg_core.specs.declared.command.ExpertCommand.{ExpertCommand}
@@ -39,6 +39,7 @@ clerk_looks _ = false
 -- all of anybody's commands, and those of the others by which something is shown
 abbrev pub only_looks : Command → Bool
 only_looks (Public command) = true
+only_looks (LookUp command) = true
 only_looks Token = true
 only_looks (Applicant command) = applicant_looks command
 only_looks (Times command) = true
