@@ -15,7 +15,7 @@ const PARTS = {
   value: 'Ask either for a value, a whole number of 0 to 4294967295, or for the lowest free one.', max: 'Use a whole number of 0 to 4294967295.',
   rfc: 'An RFC needs its number, 1 to 99999, its stream and its status.', least: 'Choose a policy.', kind: 'Choose one of the kinds.',
   size: 'Choose MA-L, MA-M or MA-S.', verdict: 'Choose for or against.', block: 'A block has 6, 7 or 9 hexadecimal digits.',
-  until: 'Use a number of seconds, 0 to 32503680000.', digits: 'Use 8 to 64 of the digits 0 to 9 and a to f.',
+  holder: formOf('account'), policy: 'Choose a policy.', until: 'Use a number of seconds, 0 to 32503680000.', digits: 'Use 8 to 64 of the digits 0 to 9 and a to f.',
   extra: 'Leave out the member that does not belong here.',
 };
 

@@ -43,6 +43,7 @@ export function actInWords({ kind, account, agent, block, digest, expert, pool, 
     define: `Defined the registry ${registry}`, pool: `Added the prefix ${pool}`,
     submit: `Made the request ${request}`, withdraw: `Withdrew ${request}`, decline: `Declined ${request}`,
     assign: `Assigned ${request} to ${expert}`, advise: `Advised ${verdict} ${request}`, approve: `Approved ${request}: ${given}`,
+    place: `Gave ${given} to ${account} without a request`,
     private: `Made the holder of ${given} private`, public: `Made the holder of ${given} public`, hold: `Held ${given}`, release: `Released ${given}`,
     appoint: `Added the agent ${agent}`, dismiss: `Removed the agent ${agent}`,
   }[kind] ?? kind;

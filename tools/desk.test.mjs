@@ -182,13 +182,15 @@ test('lists are ordered by date or number, and searched in what is seen', () => 
 });
 
 test('acts of the transcripts are told in words, each kind', () => {
-  const lists = [...read('crates/reg_cli/transcripts/journal.txt').matchAll(/GET \/desk\/journal\/\S+\n< 200 (\[\{.*\])$/gm)].map(([, body]) => JSON.parse(body));
+  const lines = ['journal', 'place'].map(name => read(`crates/reg_cli/transcripts/${name}.txt`)).join('');
+  const lists = [...lines.matchAll(/GET \/desk\/journal\/\S+\n< 200 (\[\{.*\])$/gm)].map(([, body]) => JSON.parse(body));
   const acts = lists.flat(), told = new Map(acts.map(act => [act.kind, times.actInWords(act)]));
   for (const act of acts) assert.doesNotMatch(Object.values(times.ACT).map(text => text(act)).join(' '), /undefined/, act.kind);
   assert.deepEqual(Object.fromEntries(told), {
     grant: 'Gave dave the token 76e2f0335d43', revoke: 'Revoked the token a011b0e796b3 of bob', define: 'Defined the registry flags', pool: 'Added the prefix 001A2B',
     submit: 'Made the request a-3 of alice', withdraw: 'Withdrew b-1 of bob', decline: 'Declined a-2 of alice', assign: 'Assigned a-3 of alice to xan',
-    advise: 'Advised for a-3 of alice', approve: 'Approved e-9 of alice: value 9 of flags', private: 'Made the holder of block 8C1F640 private',
+    advise: 'Advised for a-3 of alice', approve: 'Approved e-9 of alice: value 9 of flags',
+    place: 'Gave block 001A2B6 to alice without a request', private: 'Made the holder of block 8C1F640 private',
     public: 'Made the holder of block 8C1F640 public', hold: 'Held value 9 of flags', release: 'Released value 9 of flags', appoint: 'Added the agent bob',
     dismiss: 'Removed the agent bob',
   });
