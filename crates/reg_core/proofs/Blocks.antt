@@ -4,7 +4,7 @@ use Rattle.std.specs.Prelude.{Option, Some, None, IsSome, IfSome, is_some, optio
 use Rattle.reg_core.proofs.Common.{FinMap, get, keys, contains_key, entries, bytes_eq-Decides, same_text}
 use Rattle.reg_core.proofs.Common.{only_if, keyed, SizedPrefix, Clash, block_cmp, leading_24, Size}
 use Rattle.reg_core.proofs.Common.{masked, masked_blocks, published, holdings_of, World, Holder}
-use Rattle.reg_core.proofs.Common.{ends_meet, is_taken_in, get-select, listed_in, listed_row}
+use Rattle.reg_core.proofs.Common.{ends_meet, is_taken_in, listed_in, listed_row}
 use Rattle.reg_core.proofs.Common.{block_keys, get-chosen}
 use Rattle.std.proofs.lemmas.List.Elements.{All-contains}
 use Rattle.std.proofs.lemmas.List.Folds.{Any-from_list_any, list_any_at}
