@@ -3,10 +3,11 @@ import { ask } from './office.js';
 import { Told, attempt, button, choice, control, details, drafts, element, form, say, sure } from './dom.js';
 import { table } from './list.js';
 import {
-  KINDS, POLICIES, STATES, askOf, easiest, evidenceFor, faultsOf, freeUnder, inWords, isNew, noteOn, openPolicies, optionsFor, outcome, policyOf, rowsOf,
+  KINDS, POLICIES, STATES, askOf, easiest, evidenceFor, faultOf, faultsOf, inWords, isNew, noteOn, offerOf, openPolicies, optionsFor, outcome, policyOf, rowsOf,
   stateOf, valuesOf, waitingTwin,
 } from './forms.js';
 import { ENTRY, endingBy, entryOf, valuesHeld } from './cases.js';
+import { groundOf, rowAt } from './lookups.js';
 import { dayAfter, dayOf, newReference, newestFirst } from './times.js';
 
 /** The caller's own requests, and which values expire soon. */
@@ -74,7 +75,7 @@ export async function fresh(app) {
   const draft = new Draft(names, own, drafts.get('request'));
   const node = form({
     controls: () => draft.controls(), verb: 'Send the request',
-    parts: [draft.kinds, draft.top, draft.wishes, draft.note, draft.naming, draft.evidence, draft.last],
+    parts: [draft.kinds, draft.top, draft.wishes, draft.trouble, draft.note, draft.naming, draft.evidence, draft.last],
     check: () => draft.faults(), send: () => draft.send(own, app),
   });
   Object.assign(draft, { calm: node.calm, allow: node.allow });
@@ -87,13 +88,15 @@ export async function fresh(app) {
 const EARLY = 'An early allocation needs an Internet-Draft, a stable specification, enough interest, and the approval of the working group chairs and'
   + ' of the area director (RFC 7120). Under Specification Required, a designated expert must also recommend it.';
 const noteOf = text => element('p', { class: 'note' }, text);
+// How long somebody types no more before the office is asked about a value.
+const TYPED = 300;
 
 class Draft {
   constructor(names, own, { kind = 'code', values } = {}) {
-    Object.assign(this, { names, own, kind, page: null, pages: new Map(), parts: {}, shape: '' });
+    Object.assign(this, { names, own, kind, ground: null, grounds: new Map(), held: new Map(), parts: {}, shape: '' });
     this.values = { wish: 'least', reference: newReference(dayAfter(0), own), ...values };
     this.kinds = choice('What do you need?', 'need', KINDS, kind, chosen => this.choose(chosen));
-    for (const name of ['top', 'wishes', 'naming', 'evidence', 'last']) this[name] = element('div');
+    for (const name of ['top', 'wishes', 'trouble', 'naming', 'evidence', 'last']) this[name] = element('div');
     this.note = element('p', { class: 'note', role: 'status' });
     const needs = Object.values(POLICIES).map(({ title, says }) => [title, says]);
     this.needs = element('details', {}, element('summary', {}, 'What each policy needs'), details(needs));
@@ -124,7 +127,7 @@ class Draft {
   isOfMine() { return this.kind === 'renew' || this.kind === 'permanent'; }
 
   faults() {
-    const faults = faultsOf(this.kind, this.read(), this.page);
+    const faults = faultsOf(this.kind, this.read(), this.ground);
     if (this.isOfMine() && !this.values.allocation) faults.allocation = 'Choose one.';
     return faults;
   }
@@ -132,7 +135,7 @@ class Draft {
   async choose(kind) {
     this.read();
     this.calm();
-    Object.assign(this, { kind, page: null });
+    Object.assign(this, { kind, ground: null });
     for (const part of ['top', 'wishes', 'naming', 'evidence']) this.put(part, []);
     this.shape = '';
     if (kind === 'block') this.put('top', ['size', 'organization', 'address'].map(name => control(name, { value: this.values[name] })));
@@ -151,10 +154,10 @@ class Draft {
 
   async offerAllocations() {
     const { kind } = this, mine = this.own.filter(({ ask: { kind }, state }) => kind === 'early' && state === 'approved');
-    await attempt(this.top, async () => { for (const { ask: { registry } } of mine) await this.load(registry); });
+    await attempt(this.top, async () => { for (const row of mine) await this.look(row); });
     if (kind !== this.kind) return;
-    const options = {};
-    for (const { registry, value, label, status, expires } of valuesHeld(mine, this.pages)) {
+    const options = {}, pages = new Map([...this.held].map(([name, { rows }]) => [name, { entries: [...rows.values()] }]));
+    for (const { registry, value, label, status, expires } of valuesHeld(mine, pages)) {
       const until = `${status === 'Expired' ? 'expired on' : 'until'} ${expires}`;
       if (expires) options[`${registry}/${value}`] = `Value ${value} of ${registry}, "${label}", ${until}`;
     }
@@ -164,34 +167,54 @@ class Draft {
   }
 
   async load(registry) {
-    if (!this.pages.has(registry)) this.pages.set(registry, await ask('GET', `/registries/${registry}`));
-    return this.pages.get(registry);
+    if (!this.grounds.has(registry)) this.grounds.set(registry, await groundOf(registry));
+    return this.grounds.get(registry);
+  }
+
+  /** Asks how the value stands that a request gave. */
+  async look({ ask: { registry }, given }) {
+    if (!this.held.has(registry)) this.held.set(registry, { least: new Map(), rows: new Map() });
+    const { rows } = this.held.get(registry), value = Number(given);
+    if (!rows.has(value)) rows.set(value, await rowAt(registry, value));
+  }
+
+  /** Asks how the value stands that is in the form once nobody types. */
+  later() {
+    clearTimeout(this.timer);
+    this.timer = setTimeout(() => this.lookUp(), TYPED);
+  }
+
+  async lookUp() {
+    const { registry, value = '', wish } = this.read(), { ground } = this, number = Number(value);
+    if (!ground || this.isOfMine() || wish !== 'value' || faultOf('value', value) || ground.rows.has(number)) return;
+    await attempt(this.trouble, async () => ground.rows.set(number, await rowAt(registry, number)));
+    if (ground === this.ground) this.refresh();
   }
 
   async offerWishes() {
     const { registry } = this.read(), { kind } = this;
-    this.page = null;
+    this.ground = null;
     for (const part of ['wishes', 'naming']) this.put(part, []);
-    const page = registry ? await attempt(this.wishes, () => this.load(registry)) ?? null : null;
+    const ground = registry ? await attempt(this.wishes, () => this.load(registry)) ?? null : null;
     if (kind !== this.kind || registry !== this.read().registry) return;
-    this.page = page;
-    if (this.page) this.wish(this.values.wish);
+    this.ground = ground;
+    if (ground) this.wish(this.values.wish);
     this.refresh();
   }
 
   wish(wish) {
-    const policies = openPolicies(this.page, this.kind);
+    const policies = openPolicies(this.ground, this.kind);
     if (!policies.length) {
       this.put('wishes', [], noteOf(`No range of this registry allows ${this.kind === 'early' ? 'early allocations' : 'requests'}.`));
       return;
     }
     const options = { least: { title: 'The lowest free value' }, value: { title: 'A value that I choose' } };
     const known = policies.includes(this.values.least) ? this.values.least : easiest(policies);
-    const titles = Object.fromEntries(policies.map(policy => [policy, `${POLICIES[policy].title} (${freeUnder(this.page, policy)} free)`]));
-    const change = { onchange: () => this.refresh() };
-    const least = { options: titles, value: known, hint: 'What the request needs depends on the policy.', ...change };
-    const own = wish === 'least' ? control('least', least) : control('value', { value: this.values.value, hint: `0 to ${this.page.max}.`, ...change });
-    this.put('wishes', [own]);
+    const titles = Object.fromEntries(policies.map(policy => [policy, offerOf(this.ground, policy)]));
+    const least = { options: titles, value: known, hint: 'What the request needs depends on the policy.', onchange: () => this.refresh() };
+    const value = { value: this.values.value, onchange: () => { this.refresh(); this.later(); } };
+    this.put('wishes', [wish === 'least' ? control('least', least) : control('value', value)]);
+    this.later();
     this.put('naming', [control('label', { value: this.values.label })]);
     this.wishes.prepend(choice('Which value?', 'wish', options, wish, chosen => this.change(chosen)));
   }
@@ -206,14 +229,14 @@ class Draft {
   /** Asks for what the policy needs, once it is known. */
   refresh() {
     const values = this.read();
-    if (this.isOfMine()) this.page = this.pages.get(values.registry) ?? null;
-    this.allow(this.parts.top.length > 0 && (!isNew(this.kind) || !this.page || this.parts.wishes.length > 0));
-    const entry = this.page?.entries.find(({ value }) => value === Number(values.value));
+    if (this.isOfMine()) this.ground = this.held.get(values.registry) ?? null;
+    this.allow(this.parts.top.length > 0 && (!isNew(this.kind) || !this.ground || this.parts.wishes.length > 0));
+    const entry = this.ground?.rows.get(Number(values.value));
     this.values.renewed = values.renewed = Boolean(this.isOfMine() && entry?.renewed);
-    const policy = policyOf(this.kind, values, this.page), { needed, optional } = evidenceFor(this.kind, policy, values.renewed);
+    const policy = policyOf(this.kind, values, this.ground), { needed, optional } = evidenceFor(this.kind, policy, values.renewed);
     // A policy with one stream chooses it. Where the next policy needs no RFC, it would be half of one.
     if (!needed.includes('rfc-number') && !values['rfc-number']) Object.assign(this.values, { 'rfc-stream': '', 'rfc-track': '' });
-    this.note.textContent = noteOn(this.kind, values, this.page);
+    this.note.textContent = noteOn(this.kind, values, this.ground);
     const shape = JSON.stringify([policy, needed]);
     if (shape === this.shape) return;
     this.shape = shape;
@@ -229,7 +252,7 @@ class Draft {
   }
 
   async send(own, app) {
-    const values = this.read(), body = askOf(this.kind, values, this.page);
+    const values = this.read(), body = askOf(this.kind, values, this.ground);
     const twin = waitingTwin(body, own.filter(({ reference }) => reference !== values.reference));
     if (twin) throw new Told(`You have asked for just this already: request ${twin} is waiting. You need not send it again.`);
     await ask('PUT', `/requests/${values.reference}`, body);

@@ -1,14 +1,12 @@
 // What an approval would do, what stands in its way, who else wants the same, and what approvals gave. Nothing here needs a page.
-import { POLICIES, isNew, leastFree, policyOf, valuesOf } from './forms.js';
+import { POLICIES, isNew } from './forms.js';
 
 /** Whether two rows are of one request. */
 export const isSame = (one, other) => one.account === other.account && one.reference === other.reference;
 
-/** The policy under which an ask falls, if the page of its registry is known. */
-export const policyFor = (ask, page) => policyOf(ask.kind, valuesOf(ask), page);
-
-/** The value or block that an approval would give now; undefined if none is free. `page` is that of the registry, or has `prefixes` and `blocks`. */
-export const valueDue = (ask, page) => (ask.kind === 'block' ? blockDue(ask.size, page) : ask.least ? leastFree(page, ask.least) : ask.value);
+/** The value or block that an approval would give now; undefined if none is free. `ground` says how the wanted value stands, with its `policy` and
+ * its entry if it has one, or has `prefixes` and `blocks`. */
+export const valueDue = (ask, ground) => (ask.kind === 'block' ? blockDue(ask.size, ground) : ground.value);
 
 // The first block of a size that is in one of the prefixes, which ascend, and has no address of another block.
 function blockDue(size, { prefixes, blocks }) {
@@ -24,8 +22,8 @@ function blockDue(size, { prefixes, blocks }) {
 }
 
 /** What an approval would do now, as a sentence. */
-export function effectOf({ account, ask }, page) {
-  const lowest = ask.least ? ', the lowest that is free now' : '', due = valueDue(ask, page), value = `value ${due} of ${ask.registry}`;
+export function effectOf({ account, ask }, ground) {
+  const lowest = ask.least ? ', the lowest that is free now' : '', due = valueDue(ask, ground), value = `value ${due} of ${ask.registry}`;
   return {
     code: `Approve gives ${account} ${value}${lowest}.`, early: `Approve gives ${account} ${value}${lowest}, for one year.`,
     renew: `Approve renews ${value} for one year.`, permanent: `Approve makes ${value} permanent.`,
@@ -34,8 +32,8 @@ export function effectOf({ account, ask }, page) {
 }
 
 /** Why a request cannot be approved now, whatever an expert says, and what to do; undefined if it can. */
-export function lossOf({ ask }, page) {
-  const value = valueDue(ask, page), entry = page.entries?.find(one => one.value === value), decline = 'Decline this request.';
+export function lossOf({ ask }, ground) {
+  const value = valueDue(ask, ground), entry = ground.assignee ? ground : undefined, decline = 'Decline this request.';
   if (value === undefined && ask.kind === 'block') return `No block of size ${ask.size} is free. Add a prefix, or decline this request.`;
   if (value === undefined) return `No value is free under ${POLICIES[ask.least]?.title ?? ask.least}. ${decline}`;
   if (isNew(ask.kind)) return entry && `Value ${value} was assigned to ${entry.assignee} meanwhile. ${decline}`;
@@ -45,8 +43,8 @@ export function lossOf({ ask }, page) {
 }
 
 /** Which advice a request still lacks, as sentences; undefined if it needs none. */
-export function adviceLacking({ ask, experts, advice }, page) {
-  const needsExpert = ['expert-review', 'specification-required'].includes(policyFor(ask, page)) && ask.kind !== 'renew';
+export function adviceLacking({ ask, experts, advice }, { policy }) {
+  const needsExpert = ['expert-review', 'specification-required'].includes(policy) && ask.kind !== 'renew';
   if (!needsExpert || advice.some(({ verdict }) => verdict === 'for')) return undefined;
   const silent = experts.filter(expert => !advice.some(one => one.expert === expert)), against = advice.map(({ expert }) => expert);
   const all = names => names.join(', ').replace(/, ([^,]*)$/, ' and $1');
@@ -59,8 +57,8 @@ export function adviceLacking({ ask, experts, advice }, page) {
 const named = ({ ask }) => (isNew(ask.kind) && !ask.least ? `${ask.registry} ${ask.value}` : undefined);
 
 /** The waiting requests, in order of arrival, that want just the value that this one would get, with this one; none if nobody else wants it. */
-export function rivalsOf(row, page, rows) {
-  const value = isNew(row.ask.kind) ? valueDue(row.ask, page) : undefined;
+export function rivalsOf(row, ground, rows) {
+  const value = isNew(row.ask.kind) ? valueDue(row.ask, ground) : undefined;
   const all = rows.filter(one => isSame(one, row) || (named(one) === `${row.ask.registry} ${value}` && one.state === 'pending'));
   return value !== undefined && all.length > 1 ? all : [];
 }

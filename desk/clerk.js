@@ -5,9 +5,10 @@ import { placeIn, table } from './list.js';
 import { CAPABILITIES, COUNTS, POLICIES, STATES, csvOf, faultOf, grantOf, hexOf, inWords, opinionsOf, outcome, rangesOf, rowsOf, stateOf } from './forms.js';
 import { ACT, dayAfter, endOf, waitOf } from './times.js';
 import {
-  ENTRY, adviceLacking, byExpiry, effectOf, endingBy, expertsAmong, isSame, lossOf, nextWaiting, noteLine, policyFor, rivalry, rivalsOf, wanted,
+  ENTRY, adviceLacking, byExpiry, effectOf, endingBy, expertsAmong, isSame, lossOf, nextWaiting, noteLine, rivalry, rivalsOf, wanted,
 } from './cases.js';
 import { faultInWords } from './errors.js';
+import { leastOf, rowAt } from './lookups.js';
 
 /** The requests that wait, each with its experts and what they recommend. */
 export async function waiting(app) {
@@ -45,14 +46,15 @@ async function openCase(app, asked, seen, { message, before } = {}) {
   }, message);
 }
 
-// What a decision depends on: the registry, or the prefixes and blocks, as they are now, and who else wants the same.
+// What a decision depends on: how the wanted value stands, or the prefixes and blocks, as they are now, and who else wants the same.
 async function groundOf(row) {
-  if (row.ask.kind !== 'block') {
-    const page = await ask('GET', `/registries/${row.ask.registry}`);
-    return { page, rivals: rivalsOf(row, page, await ask('GET', '/desk/pending')) };
+  const { kind, registry, least, value } = row.ask;
+  if (kind !== 'block') {
+    const ground = least ? { policy: least, value: await leastOf(registry, least) } : await rowAt(registry, value);
+    return { ground, rivals: rivalsOf(row, ground, await ask('GET', '/desk/pending')) };
   }
   const prefixes = await ask('GET', '/pool'), [, ...given] = csvOf(await ask('GET', '/listings/blocks'));
-  return { page: { prefixes, blocks: given.map(([, block]) => block) }, rivals: [] };
+  return { ground: { prefixes, blocks: given.map(([, block]) => block) }, rivals: [] };
 }
 
 function experts({ experts, advice }) {
@@ -66,10 +68,10 @@ function experts({ experts, advice }) {
 const MOVED = ['taken', 'exhausted', 'permanent', 'renewed', 'advice', 'closed'];
 
 // What an approval would do, and the ways to decide.
-function decision({ row, page, rivals, listed, next, onward, go }) {
+function decision({ row, ground, rivals, listed, next, onward, go }) {
   const { account, reference } = row, path = `${account}/${reference}`, place = element('div');
-  const loss = lossOf(row, page), bar = loss ?? adviceLacking(row, page), needsExpert = !loss && bar && !row.experts.length;
-  const policy = POLICIES[policyFor(row.ask, page)], told = bar ?? effectOf(row, page);
+  const loss = lossOf(row, ground), bar = loss ?? adviceLacking(row, ground), needsExpert = !loss && bar && !row.experts.length;
+  const policy = POLICIES[ground.policy], told = bar ?? effectOf(row, ground);
   const says = policy ? `${policy.title} (RFC 8126, section ${policy.section}). ${told}` : told;
   const note = element('div', { class: 'note', id: 'prospect' }, element('p', {}, says), others(row, rivals, go));
   const done = async (decided, answer) => {
@@ -219,7 +221,7 @@ function fileFault(file, max) {
   return file.ranges.at(-1).hi === max ? null : 'The last range of the file does not end at the largest value.';
 }
 
-/** The prefixes that blocks are cut from. */
+/** The prefixes that blocks are cut from, and forms that add one and assign a block of them. */
 export async function pool(app) {
   const rows = await ask('GET', '/pool');
   const add = form({
@@ -231,7 +233,22 @@ export async function pool(app) {
     },
   });
   const empty = 'There are no prefixes yet, so no block can be assigned.';
-  return element('div', {}, table({ caption: 'Prefixes that blocks are cut from', columns: { Prefix: prefix => prefix }, rows, empty }), add);
+  const list = table({ caption: 'Prefixes that blocks are cut from', columns: { Prefix: prefix => prefix }, rows, empty });
+  return element('div', {}, list, element('div', { class: 'columns' }, add, placing(app)));
+}
+
+// A block of a register that is moved in keeps its place, so no request can ask for it.
+function placing(app) {
+  const fields = ['block', 'holder', 'organization', 'address'].map(name => control(name));
+  return form({
+    title: 'Assign a block without a request', verb: 'Assign', look: 'plain', key: 'place', controls: [...fields, control('private', { type: 'checkbox' })],
+    send: async ({ block, ...holder }, sent) => {
+      const digits = block.toUpperCase(), question = `Assign block ${digits} to ${holder.holder}? A block cannot be taken back.`;
+      if (!await sure(question, 'Assign')) return;
+      await ask('PUT', `/desk/blocks/${block}`, holder).then(sent);
+      await app.go('pool', `Block ${digits} is assigned to ${holder.holder}.`);
+    },
+  });
 }
 
 /** A form that grants a token, the list of all tokens, and a form that revokes one that the clerk has. */

@@ -14,8 +14,7 @@ const PARTS = {
   stable: MARK, interest: MARK, will_be_rfc: MARK, private: MARK, reads: MARK, held: MARK,
   value: 'Ask either for a value, a whole number of 0 to 4294967295, or for the lowest free one.', max: 'Use a whole number of 0 to 4294967295.',
   rfc: 'An RFC needs its number, 1 to 99999, its stream and its status.', least: 'Choose a policy.', kind: 'Choose one of the kinds.',
-  size: 'Choose MA-L, MA-M or MA-S.', verdict: 'Choose for or against.', block: 'A block has 6, 7 or 9 hexadecimal digits.',
-  holder: formOf('account'), policy: 'Choose a policy.', until: 'Use a number of seconds, 0 to 32503680000.', digits: 'Use 8 to 64 of the digits 0 to 9 and a to f.',
+  size: 'Choose MA-L, MA-M or MA-S.', verdict: 'Choose for or against.', policy: 'Choose a policy.', until: 'Use a number of seconds, 0 to 32503680000.', digits: 'Use 8 to 64 of the digits 0 to 9 and a to f.',
   extra: 'Leave out the member that does not belong here.',
 };
 
@@ -60,7 +59,8 @@ export function inWords(error, item) {
 
 /** The field of a form to which an error belongs, if it belongs to one. */
 export function fieldOf(error, item) {
-  const own = { ref: 'reference', registry: 'registry', range: 'value', taken: 'value', renewed: 'iesg', bits: 'prefix', ranges: 'file', principal: 'account' };
+  const own = { ref: 'reference', registry: 'registry', range: 'value', taken: 'value', renewed: 'iesg', bits: 'prefix', pool: 'block', ranges: 'file',
+    principal: 'account' };
   if (error !== 'field' && error !== 'evidence') return own[error];
   return { rfc: 'rfc-number', stream: 'rfc-stream', track: 'rfc-track', policy: 'value' }[item] ?? (item === 'extra' ? undefined : item);
 }

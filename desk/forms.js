@@ -68,6 +68,9 @@ export const FIELDS = {
   name: { label: 'Name of the registry', form: 'name', hint: 'Small letters, digits and hyphens, at most 32. Its title on the site comes from notes.csv.' },
   max: { label: 'Largest value', form: 'number', hint: 'The last range must end here.' },
   prefix: { label: 'Prefix', form: 'prefix', hint: 'Six hexadecimal digits, for example 001A2B.' },
+  block: { label: 'Block', form: 'block', hint: '6, 7 or 9 hexadecimal digits, for example 001A2B0. Its first six must be one of the prefixes.' },
+  holder: { label: 'Account of the holder', form: 'name', hint: 'Small letters, digits and hyphens, at most 32. Check the spelling.' },
+  private: { label: 'Keep the holder private: the public sees neither the organization nor its address.' },
   text: { label: 'Your advice', rows: 3, hint: `The clerks read it. The applicant does not. ${PLAIN}` },
   verdict: { label: 'Your recommendation', options: VERDICTS },
   reason: { label: 'Reason', rows: 3, hint: `The applicant reads this. ${PLAIN}` },
@@ -82,6 +85,7 @@ const FORMS = {
   number: [/^(0|[1-9][0-9]{0,9})$/, 'Use a whole number, written with digits only.'],
   rfc: [/^[1-9][0-9]{0,4}$/, 'Use the number of the RFC, 1 to 99999.'],
   prefix: [/^[0-9A-Fa-f]{6}$/, 'Use six hexadecimal digits: 0 to 9, A to F.'],
+  block: [/^(?:[0-9A-Fa-f]{6,7}|[0-9A-Fa-f]{9})$/, 'A block has 6, 7 or 9 hexadecimal digits.'],
   token: [/^[A-Za-z0-9._~-]{16,64}$/, 'A token has 16 to 64 letters, digits, hyphens, dots, underscores and tildes. Copy it again, all of it.'],
   day: [/^2[0-9]{3}-[0-9]{2}-[0-9]{2}$/, 'Choose a day of the years 2000 to 2999.'],
   text: [/^[ -~]{1,200}$/, 'Use letters without accents, digits and punctuation.'],
@@ -105,33 +109,21 @@ export function faultOf(name, text, needed = true) {
   return `"${odd}" is not possible here. ${SPELLED[odd] ? `Write "${SPELLED[odd]}", for example.` : sentence}`;
 }
 
-/** The range of a registry in which a value lies, if one does. */
-export const rangeOf = (page, value) => page.ranges.find(({ lo, hi }) => lo <= value && value <= hi);
 /** Whether a kind of request can be made under a policy. */
 export const isOpen = (kind, policy) => (kind === 'early' || kind === 'renew' ? EARLY.includes(policy) : Boolean(POLICIES[policy]?.items));
 /** Whether a kind of request asks for a value that nobody has. */
 export const isNew = kind => kind === 'code' || kind === 'early';
 
-/** How many values under a policy have no entry. */
-export function freeUnder(page, policy) {
-  const ranges = page.ranges.filter(({ treatment }) => treatment === policy);
-  const taken = page.entries.filter(({ value }) => rangeOf(page, value)?.treatment === policy).length;
-  return ranges.reduce((sum, { lo, hi }) => sum + hi - lo + 1, 0) - taken;
-}
-
-/** The lowest value under a policy that has no entry, if there is one. */
-export function leastFree(page, policy) {
-  const taken = new Set(page.entries.map(({ value }) => value));
-  for (const { lo, hi } of page.ranges.filter(({ treatment }) => treatment === policy)) {
-    for (let value = lo; value <= hi; value += 1) if (!taken.has(value)) return value;
-  }
-  return undefined;
-}
-
-/** The policies of a registry under which a kind of request can be made, each once. */
-export const openPolicies = (page, kind) => [...new Set(page.ranges.map(({ treatment }) => treatment))].filter(policy => isOpen(kind, policy));
+/** The policies of a registry under which a kind of request can be made, each once. `ground` is what is known of the registry: by policy, the
+ * lowest value that is free (`least`), and the values that were looked up (`rows`). */
+export const openPolicies = (ground, kind) => [...ground.least.keys()].filter(policy => isOpen(kind, policy));
 /** Under which policy the least values are offered first: the one that asks for least. */
 export const easiest = policies => Object.keys(POLICIES).find(policy => policies.includes(policy));
+/** A policy, and what is free under it, in a few words. */
+export function offerOf(ground, policy) {
+  const least = ground.least.get(policy);
+  return `${POLICIES[policy].title} (${least === undefined ? 'none free' : `lowest free: ${least}`})`;
+}
 
 /** The fields of evidence that a kind of request asks for under a policy, and those that it may add; none as long as the policy is not known. */
 export function evidenceFor(kind, policy, renewed = false) {
@@ -160,9 +152,9 @@ export function fieldsOf(kind, wish) {
   return ['registry', wish === 'least' ? 'least' : 'value', 'label'];
 }
 
-/** What is wrong with the values of a request, as a sentence for each field at fault. `page` is that of its registry, if there is one. */
-export function faultsOf(kind, values, page) {
-  const { needed, optional } = evidenceFor(kind, policyOf(kind, values, page), values.renewed), faults = {}, own = fieldsOf(kind, values.wish);
+/** What is wrong with the values of a request, as a sentence for each field at fault. `ground` is what is known of its registry, if it has one. */
+export function faultsOf(kind, values, ground) {
+  const { needed, optional } = evidenceFor(kind, policyOf(kind, values, ground), values.renewed), faults = {}, own = fieldsOf(kind, values.wish);
   for (const name of [...own, ...needed, ...optional, 'reference']) {
     const isNeeded = !optional.includes(name), text = values[name] ?? '';
     const fault = name === 'least' ? (text ? null : 'Choose one.')
@@ -172,55 +164,53 @@ export function faultsOf(kind, values, page) {
   }
   const rfc = ['rfc-number', 'rfc-stream', 'rfc-track'], lacking = rfc.filter(name => optional.includes(name) && !values[name]);
   if (rfc.some(name => values[name])) lacking.forEach(name => { faults[name] = 'An RFC needs its number, its stream and its status.'; });
-  const value = valueFault(kind, values, page);
+  const value = valueFault(kind, values, ground);
   if (own.includes('value') && !faults.value && value) faults.value = value;
   return faults;
 }
 
-function valueFault(kind, values, page) {
-  if (!page || faultOf('value', values.value ?? '')) return null;
-  const value = Number(values.value);
-  if (value > page.max) return `The largest value of this registry is ${page.max}.`;
-  const { treatment, lo, hi } = rangeOf(page, value);
-  if (!isOpen(kind, treatment)) return whyClosed(kind, treatment, `${lo} to ${hi}`);
-  const entry = isNew(kind) && page.entries.find(one => one.value === value);
-  return entry ? `Value ${value} is taken: ${entry.label}. Choose another, or ask for the lowest free one.` : null;
+// How the value stands that a form names, once it was looked up.
+const rowOf = (values, ground) => (faultOf('value', values.value ?? '') ? undefined : ground?.rows.get(Number(values.value)));
+
+function valueFault(kind, values, ground) {
+  if (!ground || faultOf('value', values.value ?? '')) return null;
+  const row = rowOf(values, ground);
+  if (!row) return 'How this value stands is not known yet. Try again in a moment.';
+  if (row.isAbove) return `This registry has no value as large as ${row.value}.`;
+  if (!isOpen(kind, row.policy)) return whyClosed(row);
+  return isNew(kind) && row.label ? `Value ${row.value} is taken: ${row.label}. Choose another, or ask for the lowest free one.` : null;
 }
 
-function whyClosed(kind, treatment, values) {
-  if (treatment === 'reserved') return `Values ${values} are reserved. Choose another.`;
-  if (POLICIES[treatment].items) return `Values ${values} are under ${POLICIES[treatment].title}, where there are no early allocations. Ask for a permanent value.`;
-  return `Values ${values} are under ${POLICIES[treatment].title}. ${POLICIES[treatment].says} Choose another.`;
+function whyClosed({ policy, value }) {
+  if (policy === 'reserved') return `Value ${value} is reserved. Choose another.`;
+  const { title, items, says } = POLICIES[policy];
+  if (items) return `Value ${value} is under ${title}, where there are no early allocations. Ask for a permanent value.`;
+  return `Value ${value} is under ${title}. ${says} Choose another.`;
 }
 
-/** What the policy of the wanted value says, or why the value cannot be had; an empty text as long as it is not known. */
-export function noteOn(kind, values, page) {
-  const policy = policyOf(kind, values, page);
-  if (!page || !policy) return '';
-  const isLeast = values.wish === 'least' && isNew(kind);
-  const fault = isLeast ? null : valueFault(kind, values, page);
+/** What the policy of the wanted value says, and what is free, or why the value cannot be had; an empty text as long as it is not known. */
+export function noteOn(kind, values, ground) {
+  const policy = policyOf(kind, values, ground), isLeast = values.wish === 'least' && isNew(kind), row = isLeast ? undefined : rowOf(values, ground);
+  if (!ground || !(policy || row)) return '';
+  const fault = row && valueFault(kind, values, ground);
   if (fault) return fault;
-  const { title, section, says } = POLICIES[policy], free = isLeast ? ` ${freeInWords(page, policy)}` : '';
+  const { title, section, says } = POLICIES[policy], free = isLeast ? freeInWords(ground.least.get(policy)) : isNew(kind) ? ` Value ${row.value} is free.` : '';
   const expert = policy === 'specification-required' ? ' A designated expert must recommend your request.' : '';
   const years = { early: `An early allocation lasts one year.${expert}`, renew: 'A renewal adds one year.' };
   return `${title} (RFC 8126, section ${section}): ${years[kind] ?? says}${free}`;
 }
 
-function freeInWords(page, policy) {
-  const free = freeUnder(page, policy), lowest = `the lowest is ${leastFree(page, policy)} now.`;
-  return free === 0 ? 'No value is free under this policy.' : `${free === 1 ? '1 value is' : `${free} values are`} free: ${lowest}`;
-}
+const freeInWords = least => (least === undefined ? ' No value is free under this policy.' : ` The lowest free value is ${least} now.`);
 
 /** Under which policy a request falls, as far as its values say so. */
-export function policyOf(kind, values, page) {
-  if (kind === 'block' || !page) return undefined;
-  if (values.wish === 'least' && isNew(kind)) return values.least;
-  return faultOf('value', values.value ?? '') ? undefined : rangeOf(page, Number(values.value))?.treatment;
+export function policyOf(kind, values, ground) {
+  if (kind === 'block' || !ground) return undefined;
+  return values.wish === 'least' && isNew(kind) ? values.least : rowOf(values, ground)?.policy;
 }
 
 /** The ask that a form's values spell: the members that have a value, in the order of their names. */
-export function askOf(kind, values, page) {
-  const { needed, optional } = evidenceFor(kind, policyOf(kind, values, page), values.renewed);
+export function askOf(kind, values, ground) {
+  const { needed, optional } = evidenceFor(kind, policyOf(kind, values, ground), values.renewed);
   const ask = { kind };
   for (const name of [...fieldsOf(kind, values.wish), ...needed, ...optional]) {
     const value = values[name];

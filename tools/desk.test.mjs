@@ -23,6 +23,21 @@ const PAGE = {
     range(40, 49, 'ietf-review'), range(50, 59, 'standards-action'), range(60, 69, 'iesg-approval'), range(70, 79, 'private-use'),
     range(80, 89, 'experimental-use'), range(90, 99, 'hierarchical-allocation'), range(100, 199, 'first-come-first-served'), range(200, 255, 'reserved')],
 };
+// What the office says of a value of a registry, and of what is free under its policies.
+function rowOf({ max, ranges, entries }, value) {
+  if (value > max) return { value, isAbove: true };
+  const entry = entries.find(one => one.value === value), { treatment } = ranges.find(({ lo, hi }) => lo <= value && value <= hi);
+  return { status: entry ? 'Assigned' : 'Unassigned', ...entry, policy: treatment, value };
+}
+function groundOf(page) {
+  const least = new Map(), { ranges, entries } = page;
+  for (const { lo, hi, treatment } of ranges.filter(({ treatment }) => forms.POLICIES[treatment]?.items)) {
+    const free = Array.from({ length: hi - lo + 1 }, (_, place) => lo + place).find(value => !entries.some(one => one.value === value));
+    least.set(treatment, least.get(treatment) ?? free);
+  }
+  return { least, rows: { get: value => rowOf(page, value) } };
+}
+const KNOWN = groundOf(PAGE);
 const RFC = { 'rfc-number': '9999', 'rfc-stream': 'ietf', 'rfc-track': 'standards' };
 const EARLY = { draft: 'draft-x-00', stable: true, interest: true, chair: 'wg', director: 'ad' };
 const wish = (value, more = {}) => ({ registry: 'codes', wish: 'value', value: String(value), label: 'L', contact: 'C', reference: 'r-1', ...more });
@@ -58,21 +73,21 @@ test('early allocations and renewals ask for the evidence of RFC 7120', () => {
   assert.deepEqual(forms.evidenceFor('renew', 'ietf-review', true).needed, [...five, 'iesg']);
   assert.deepEqual(forms.evidenceFor('early', undefined), { needed: [], optional: [] });
   assert.deepEqual(forms.evidenceFor('early', 'expert-review'), { needed: [], optional: [] });
-  assert.deepEqual(forms.openPolicies(PAGE, 'early'), ['specification-required', 'rfc-required', 'ietf-review', 'standards-action']);
-  assert.deepEqual(forms.openPolicies(PAGE, 'code').length, 7);
+  assert.deepEqual(forms.openPolicies(KNOWN, 'early'), ['specification-required', 'rfc-required', 'ietf-review', 'standards-action']);
+  assert.deepEqual(forms.openPolicies(KNOWN, 'code').length, 7);
 });
 
 test('forms become asks', () => {
-  assert.deepEqual(forms.askOf('code', wish(5), PAGE), { contact: 'C', kind: 'code', label: 'L', registry: 'codes', value: 5 });
-  assert.deepEqual(forms.askOf('code', { ...wish(5), wish: 'least', least: 'expert-review', specification: 'S' }, PAGE),
+  assert.deepEqual(forms.askOf('code', wish(5), KNOWN), { contact: 'C', kind: 'code', label: 'L', registry: 'codes', value: 5 });
+  assert.deepEqual(forms.askOf('code', { ...wish(5), wish: 'least', least: 'expert-review', specification: 'S' }, KNOWN),
     { contact: 'C', kind: 'code', label: 'L', least: 'expert-review', registry: 'codes', specification: 'S' });
-  assert.deepEqual(forms.askOf('code', wish(55, { ...RFC, minute: '' }), PAGE),
+  assert.deepEqual(forms.askOf('code', wish(55, { ...RFC, minute: '' }), KNOWN),
     { contact: 'C', kind: 'code', label: 'L', registry: 'codes', rfc: { number: 9999, stream: 'ietf', track: 'standards' }, value: 55 });
-  assert.deepEqual(forms.askOf('early', wish(45, EARLY), PAGE),
+  assert.deepEqual(forms.askOf('early', wish(45, EARLY), KNOWN),
     { chair: 'wg', director: 'ad', draft: 'draft-x-00', interest: true, kind: 'early', label: 'L', registry: 'codes', stable: true, value: 45 });
-  assert.deepEqual(forms.askOf('renew', wish(45, { ...EARLY, iesg: 'M-7', renewed: true }), PAGE),
+  assert.deepEqual(forms.askOf('renew', wish(45, { ...EARLY, iesg: 'M-7', renewed: true }), KNOWN),
     { chair: 'wg', director: 'ad', draft: 'draft-x-00', iesg: 'M-7', interest: true, kind: 'renew', registry: 'codes', stable: true, value: 45 });
-  assert.deepEqual(forms.askOf('permanent', wish(45, RFC), PAGE),
+  assert.deepEqual(forms.askOf('permanent', wish(45, RFC), KNOWN),
     { contact: 'C', kind: 'permanent', registry: 'codes', rfc: { number: 9999, stream: 'ietf', track: 'standards' }, value: 45 });
   assert.deepEqual(forms.askOf('block', { size: 'MA-S', organization: 'O', address: 'A', contact: 'C', registry: 'codes' }),
     { address: 'A', kind: 'block', organization: 'O', size: 'MA-S' });
@@ -80,12 +95,12 @@ test('forms become asks', () => {
 
 test('what another kind or policy asked for stays out of the ask', () => {
   const full = wish(5, { ...RFC, ...EARLY, minute: 'M', iesg: 'I', will_be_rfc: true });
-  assert.deepEqual(Object.keys(forms.askOf('early', { ...full, value: '45' }, PAGE)), ['chair', 'director', 'draft', 'interest', 'kind', 'label', 'registry', 'stable', 'value']);
-  assert.equal(forms.askOf('early', { ...full, value: '25' }, PAGE).will_be_rfc, true);
+  assert.deepEqual(Object.keys(forms.askOf('early', { ...full, value: '45' }, KNOWN)), ['chair', 'director', 'draft', 'interest', 'kind', 'label', 'registry', 'stable', 'value']);
+  assert.equal(forms.askOf('early', { ...full, value: '25' }, KNOWN).will_be_rfc, true);
 });
 
 test('faults are found before anything is sent', () => {
-  const faults = (kind, values) => Object.keys(forms.faultsOf(kind, values, PAGE)).sort();
+  const faults = (kind, values) => Object.keys(forms.faultsOf(kind, values, KNOWN)).sort();
   assert.deepEqual(faults('code', wish(5)), []);
   assert.deepEqual(faults('code', wish(5, { label: '', contact: '', reference: 'R 1' })), ['contact', 'label', 'reference']);
   assert.deepEqual(faults('code', wish(55)), ['rfc-number', 'rfc-stream', 'rfc-track']);
@@ -98,8 +113,7 @@ test('faults are found before anything is sent', () => {
 
 test('texts are printable ASCII, 1 to 200', () => {
   const printable = Array.from({ length: 95 }, (_, place) => String.fromCharCode(32 + place)).join('');
-  assert.equal(forms.faultOf('label', printable), null);
-  assert.equal(forms.faultOf('label', 'x'.repeat(200)), null);
+  for (const text of [printable, 'x'.repeat(200)]) assert.equal(forms.faultOf('label', text), null);
   assert.match(forms.faultOf('label', 'x'.repeat(201)), /201/);
   assert.equal(forms.faultOf('label', 'M\u00fcller'), '"\u00fc" is not possible here. Write "ue", for example.');
   assert.match(forms.faultOf('label', 'a\tb'), /is not possible here\. Use letters without accents/);
@@ -137,7 +151,7 @@ test('what a request names leads to where it can be read about', () => {
   assert.deepEqual(names, ['Registry', 'Specification']);
 });
 
-test('tokens, references and days', () => {
+test('tokens, references, days and blocks', () => {
   const token = forms.hexOf(new Uint8Array([0, 1, 255, 16, 0, 1, 255, 16, 0, 1, 255, 16, 0, 1, 255, 16]));
   assert.equal(token, '0001ff100001ff100001ff100001ff10');
   assert.equal(forms.faultOf('token', token), null);
@@ -145,6 +159,8 @@ test('tokens, references and days', () => {
   assert.deepEqual(forms.grantOf({ account: 'alice', kind: 'applicant', until: '2027-01-14' }, token), { account: 'alice', kind: 'applicant', token, until: 1799971200 });
   assert.equal(forms.grantOf({ until: '2999-12-31' }, token).until, 32503680000);
   assert.notEqual(forms.faultOf('until', ''), null);
+  const isBlock = text => forms.faultOf('block', text) === null;
+  assert.deepEqual(['001A2B', '001a2b0', '001A2B0FF', '001A2', '001A2B00', '00-1A-2B'].map(isBlock), [true, true, true, false, false, false]);
 });
 
 test('days and moments, in UTC', () => {
@@ -212,25 +228,30 @@ test('what clerks list of tokens and waiting requests, and what they count', () 
 });
 
 test('the same ask that waits is found, whatever its reference', () => {
-  const ask = forms.askOf('code', wish(5), PAGE), other = forms.askOf('code', wish(6), PAGE);
-  assert.equal(forms.waitingTwin(ask, [{ reference: 'a', state: 'withdrawn', ask }, { reference: 'b', state: 'pending', ask: other }, { reference: 'c', state: 'pending', ask }]), 'c');
-  assert.equal(forms.waitingTwin(ask, []), undefined);
+  const ask = forms.askOf('code', wish(5), KNOWN), other = forms.askOf('code', wish(6), KNOWN);
+  const rows = [{ reference: 'a', state: 'withdrawn', ask }, { reference: 'b', state: 'pending', ask: other }, { reference: 'c', state: 'pending', ask }];
+  assert.deepEqual([rows, []].map(rows => forms.waitingTwin(ask, rows)), ['c', undefined]);
 });
 
-test('what a policy says, how much is free, and which is offered first', () => {
-  assert.equal(forms.freeUnder(PAGE, 'first-come-first-served'), 109);
-  assert.equal(forms.easiest(forms.openPolicies(PAGE, 'code')), 'first-come-first-served');
-  assert.match(forms.noteOn('code', wish(15), PAGE), /^Expert Review \(RFC 8126, section 4\.5\)/);
-  assert.match(forms.noteOn('early', wish(25), PAGE), /lasts one year\. A designated expert/);
-  assert.match(forms.noteOn('renew', wish(45), PAGE), /adds one year\.$/);
-  assert.match(forms.noteOn('code', wish(3), PAGE), /taken: Three/);
-  assert.match(forms.noteOn('code', wish(250), PAGE), /reserved/);
-  assert.equal(forms.noteOn('code', wish(''), PAGE), '');
-  const free = page => forms.noteOn('code', { ...wish(''), wish: 'least', least: 'iesg-approval' }, page).split(': ').slice(1).join(': ');
-  assert.match(free(PAGE), / 9 values are free: the lowest is 61 now\.$/);
-  const few = taken => ({ max: 1, ranges: [range(0, 1, 'iesg-approval')], entries: Array.from({ length: taken }, (_, value) => ({ value })) });
-  assert.match(free(few(1)), / 1 value is free: the lowest is 1 now\.$/);
+test('what a policy says, what is free, and which is offered first', () => {
+  assert.equal(forms.easiest(forms.openPolicies(KNOWN, 'code')), 'first-come-first-served');
+  assert.match(forms.noteOn('code', wish(15), KNOWN), /^Expert Review \(RFC 8126, section 4\.5\): .* Value 15 is free\.$/);
+  assert.match(forms.noteOn('early', wish(25), KNOWN), /lasts one year\. A designated expert .* Value 25 is free\.$/);
+  assert.match(forms.noteOn('renew', wish(45), KNOWN), /adds one year\.$/);
+  assert.match(forms.noteOn('code', wish(3), KNOWN), /taken: Three/);
+  assert.match(forms.noteOn('code', wish(250), KNOWN), /^Value 250 is reserved\. Choose another\.$/);
+  assert.match(forms.noteOn('code', wish(256), KNOWN), /^This registry has no value as large as 256\.$/);
+  assert.equal(forms.noteOn('code', wish(''), KNOWN), '');
+  const free = ground => forms.noteOn('code', { ...wish(''), wish: 'least', least: 'iesg-approval' }, ground);
+  assert.match(free(KNOWN), /: The IESG .* The lowest free value is 61 now\.$/);
+  const few = taken => groundOf({ ranges: [range(0, 1, 'iesg-approval')], entries: [{ value: 0 }, { value: 1 }].slice(0, taken) });
   assert.match(free(few(2)), / No value is free under this policy\.$/);
+  assert.deepEqual([0, 2].map(taken => forms.offerOf(few(taken), 'iesg-approval')), ['IESG Approval (lowest free: 0)', 'IESG Approval (none free)']);
+});
+
+test('nothing is said or sent of a value before the office has said how it stands', () => {
+  const ground = { ...KNOWN, rows: new Map() };
+  assert.deepEqual([forms.noteOn('code', wish(5), ground), Object.keys(forms.faultsOf('code', wish(5), ground))], ['', ['value']]);
 });
 
 const SOME = { code: { contact: 'C', kind: 'code', label: 'L', registry: 'codes' }, draft: { ...EARLY, label: 'L', registry: 'codes' } };
@@ -242,16 +263,18 @@ const HELD = {
     { value: 26, assignee: 'acme' }, { value: 3, assignee: 'bob' }],
 };
 
+// How the value stands that an ask wants.
+const wanted = (ask, page) => (ask.least ? { policy: ask.least, value: groundOf(page).least.get(ask.least) } : rowOf(page, ask.value));
+
 test('what an approval would do now', () => {
-  const effect = ask => cases.effectOf(waits('acme', ask), HELD);
+  const effect = ask => cases.effectOf(waits('acme', ask), wanted(ask, HELD)), least = code({ least: 'first-come-first-served' });
   assert.equal(effect(code({ value: 5 })), 'Approve gives acme value 5 of codes.');
-  assert.equal(effect(code({ least: 'first-come-first-served' })), 'Approve gives acme value 2 of codes, the lowest that is free now.');
+  assert.equal(effect(least), 'Approve gives acme value 2 of codes, the lowest that is free now.');
   assert.equal(effect({ ...SOME.draft, kind: 'early', least: 'specification-required' }), 'Approve gives acme value 20 of codes, the lowest that is free now, for one year.');
   assert.equal(effect({ ...SOME.draft, kind: 'renew', value: 25 }), 'Approve renews value 25 of codes for one year.');
   assert.equal(effect({ ...SOME.code, kind: 'permanent', value: 25 }), 'Approve makes value 25 of codes permanent.');
   const block = cases.effectOf(waits('acme', { kind: 'block', size: 'MA-S' }), { prefixes: ['001A2B'], blocks: ['001A2B000'] });
   assert.equal(block, 'Approve gives acme block 001A2B001, the first of this size that is free now.');
-  assert.equal(forms.leastFree({ ranges: [range(0, 0, 'iesg-approval'), range(1, 1, 'reserved'), range(2, 2, 'iesg-approval')], entries: [{ value: 0 }] }, 'iesg-approval'), 2);
 });
 
 test('the block that is due is the first of its size that has no address of another', () => {
@@ -274,7 +297,7 @@ test('CSV is read as the office reads it', () => {
 });
 
 test('a request that cannot be approved any more says why, and what to do', () => {
-  const loss = ask => cases.lossOf(waits('zoe', ask), HELD);
+  const loss = ask => cases.lossOf(waits('zoe', ask), wanted(ask, HELD));
   assert.equal(loss(code({ value: 3 })), 'Value 3 was assigned to bob meanwhile. Decline this request.');
   assert.equal(loss(code({ value: 4 })), undefined);
   assert.equal(loss({ ...SOME.code, kind: 'permanent', value: 26 }), 'Value 26 was made permanent meanwhile. Decline this request.');
@@ -283,12 +306,11 @@ test('a request that cannot be approved any more says why, and what to do', () =
   const blocks = prefixes => cases.lossOf(waits('zoe', { kind: 'block', size: 'MA-L' }), { prefixes, blocks: ['001A2B0'] });
   assert.equal(blocks(['001A2B']), 'No block of size MA-L is free. Add a prefix, or decline this request.');
   assert.equal(blocks(['001A2B', '8C1F64']), undefined);
-  const none = { entries: [], ranges: [range(0, 9, 'iesg-approval')] };
-  assert.equal(cases.lossOf(waits('zoe', code({ least: 'rfc-required' })), none), 'No value is free under RFC Required. Decline this request.');
+  assert.equal(cases.lossOf(waits('zoe', code({ least: 'rfc-required' })), {}), 'No value is free under RFC Required. Decline this request.');
 });
 
 test('which expert has not advised yet, until one recommends it', () => {
-  const lacking = (ask, experts, advice) => cases.adviceLacking(waits('acme', ask, { experts, advice: advice.map(([expert, verdict]) => ({ expert, verdict })) }), PAGE);
+  const lacking = (ask, experts, advice) => cases.adviceLacking(waits('acme', ask, { experts, advice: advice.map(([expert, verdict]) => ({ expert, verdict })) }), wanted(ask, PAGE));
   const ends = 'You can approve once an expert recommends it.', least = code({ least: 'specification-required' });
   assert.equal(lacking(code({ value: 10 }), [], []), `No expert is assigned. ${ends}`);
   assert.equal(lacking(code({ value: 10 }), ['xan'], []), `xan has not advised yet. ${ends}`);
@@ -302,7 +324,7 @@ test('which expert has not advised yet, until one recommends it', () => {
 test('others who want just this value, and the next that waits', () => {
   const rows = [waits('acme', code({ value: 2 })), waits('bob', code({ least: 'first-come-first-served' })), waits('cid', code({ value: 2 }), { state: 'declined' }),
     waits('dan', { ...SOME.draft, kind: 'early', value: 2 }), waits('eve', code({ value: 2, registry: 'other' })), waits('fay', { kind: 'block', size: 'MA-S' })];
-  const rivals = row => cases.rivalsOf(row, HELD, rows).map(({ account }) => account);
+  const rivals = row => cases.rivalsOf(row, row.ask.kind === 'block' ? {} : wanted(row.ask, HELD), rows).map(({ account }) => account);
   assert.deepEqual([0, 1, 3, 4, 5].map(place => rivals(rows[place])), [['acme', 'dan'], ['acme', 'bob', 'dan'], ['acme', 'dan'], [], []]);
   const next = row => cases.nextWaiting(rows, row)?.account;
   assert.deepEqual([next(rows[0]), next(rows[1]), next(rows[5]), next({ account: 'old', reference: 'o' })], ['bob', 'dan', 'acme', 'acme']);
@@ -342,10 +364,10 @@ test('the line for notes.csv, experts to choose from, and what expires next', ()
 test('an ask that is asked again is the same ask', () => {
   const asks = [['code', wish(5)], ['code', { ...wish(5), wish: 'least', least: 'specification-required', specification: 'S' }], ['code', wish(55, RFC)], ['early', wish(25, { ...EARLY, will_be_rfc: true })],
     ['renew', wish(45, { ...EARLY, iesg: 'M-7', renewed: true })], ['permanent', wish(45, RFC)], ['block', { size: 'MA-S', organization: 'O', address: 'A' }]];
-  for (const ask of asks.map(([kind, values]) => forms.askOf(kind, values, PAGE))) {
+  for (const ask of asks.map(([kind, values]) => forms.askOf(kind, values, KNOWN))) {
     const values = forms.valuesOf(ask), [registry, value] = values.allocation.split('/');
     if (['renew', 'permanent'].includes(ask.kind)) assert.deepEqual([registry, value], [ask.registry, String(ask.value)]);
-    assert.deepEqual(forms.askOf(ask.kind, { ...values, renewed: ask.iesg !== undefined }, PAGE), ask);
+    assert.deepEqual(forms.askOf(ask.kind, { ...values, renewed: ask.iesg !== undefined }, KNOWN), ask);
   }
 });
 
@@ -429,7 +451,7 @@ test('errors belong to fields', () => {
   assert.equal(errors.fieldOf('field', 'label'), 'label');
   assert.equal(errors.fieldOf('evidence', 'rfc'), 'rfc-number');
   assert.equal(errors.fieldOf('ref'), 'reference');
-  assert.equal(errors.fieldOf('taken'), 'value');
+  assert.deepEqual(['taken', 'pool', 'exists'].map(error => errors.fieldOf(error)), ['value', 'block', undefined]);
   assert.equal(errors.fieldOf('storage'), undefined);
   assert.equal(errors.fieldOf('field', 'extra'), undefined);
 });

@@ -50,7 +50,7 @@ def asking(office, person):
     """The lowest free value, a withdrawal, and a value that needs an expert."""
     with within(person, 3, 'ask for the lowest free value'):
         begun(person)
-        person.sees('values are free: the lowest is ')
+        person.sees('The lowest free value is ')
         person.fill('Name of the value', 'Plain')
         person.fill('Contact', 'Acme')
         person.click('Send the request')
@@ -65,7 +65,7 @@ def asking(office, person):
         person.status('is withdrawn.')
     with within(person, 4, 'ask under Specification Required'):
         begun(person)
-        person.choose('Policy', 'Specification Required (99 free)')
+        person.choose('Policy', 'Specification Required (lowest free: 3001)')
         person.sees('a designated expert must recommend your request.')
         person.fill('Name of the value', 'Suite')
         person.fill('Contact', 'Acme')

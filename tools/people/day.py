@@ -26,6 +26,7 @@ def a_day(office, people, folder):
     clerk.click('Add')
     clerk.status('Blocks can now be cut from 001A2B.')
     judge([row[0] for row in clerk.rows('Prefixes that blocks are cut from')] == office.ask('GET', '/pool'), 'the prefixes are others')
+    placed(office, clerk)
     tokens = {account: granted(office, clerk, account, kind) for account, kind in [('alice', 'Applicant'), ('xan', 'Expert'), ('bob', 'Applicant')]}
     requests(office, alice, tokens['alice'])
     experts_and_clerks(office, xan, clerk, tokens['xan'])
@@ -54,6 +55,20 @@ def defined(clerk, folder):
     judge(clerk.control('Name of the registry').get_attribute('value') == '', 'what was sent is still in the form')
 
 
+def placed(office, clerk):
+    """A block of a register that is moved in; and one that shares its addresses."""
+    for block, says in (('001a2b5', 'Block 001A2B5 is assigned to edna.'), ('001A2B500', None)):
+        for label, text in (('Block', block), ('Account of the holder', 'edna'), ('Organization', 'Edna'), ('Address of the organization', '3 Lane')):
+            clerk.fill(label, text)
+        clerk.tick('Keep the holder private: the public sees neither the organization nor its address.')
+        clerk.click('Assign')
+        clerk.click('Assign')
+        if says:
+            clerk.status(says)
+    clerk.sees('a block with some of these addresses, already.')
+    judge(office.ask('GET', '/addresses/001A2B5FFFFF') == {'block': '001A2B5', 'private': True, 'size': 'MA-M'}, 'the block is not assigned')
+
+
 def granted(office, clerk, account, kind):
     clerk.go('Tokens')
     clerk.fill('Account', account)
@@ -75,17 +90,17 @@ def requests(office, alice, token):
     alice.sign_in(token)
     alice.sees('You have no requests yet.')
     alice.click('New request')
-    alice.sees('100 values are free')
+    alice.sees('The lowest free value is 0 now.')
     alice.tick('Renew an early allocation')
     alice.sees('You have no early allocation to renew.')
     judge('Send the request' not in alice.text(), 'there is a button that sends nothing')
     alice.tick('A value')
-    alice.sees('100 values are free')
+    alice.sees('The lowest free value is 0 now.')
     alice.tick('A value that I choose')
     alice.fill('Value', '200')
     alice.sees('Standards Action (RFC 8126')
     alice.tick('The lowest free value')
-    alice.sees('100 values are free')
+    alice.sees('The lowest free value is 0 now.')
     # (the stream that Standards Action chose is no part of this request)
     alice.click('Send the request')
     alice.sees('2 fields need your attention')
@@ -115,7 +130,7 @@ def requests(office, alice, token):
 def chosen(alice):
     for value, policy, name in [('100', 'Expert Review', 'Green'), ('200', 'Standards Action', 'Red')]:
         alice.go('New request')
-        alice.sees('values are free')
+        alice.sees('The lowest free value is ')
         alice.tick('A value that I choose')
         alice.fill('Value', value)
         alice.sees(f'{policy} (RFC 8126')
@@ -148,7 +163,7 @@ def twice(office, alice, token, told):
     """The same ask is not sent under a second reference, and another ask not under a reference that is in use."""
     for reference, label, says in [(None, 'Blue', 'You have asked for just this already'), (told[0]['reference'], 'Other', 'You have used this reference for another request.')]:
         alice.go('New request')
-        alice.sees('values are free')
+        alice.sees('The lowest free value is ')
         alice.fill('Name of the value', label)
         alice.fill('Contact', 'Alice <alice@example.org>')
         if reference:

@@ -26,7 +26,7 @@ def take_pictures(office, people, tokens, folder):
     alice.sees('Details')
     pictures(alice, folder, 'requests')
     alice.go('New request')
-    alice.sees('values are free')
+    alice.sees('The lowest free value is ')
     pictures(alice, folder, 'new')
     alice.tick('A value that I choose')
     alice.fill('Value', '210')

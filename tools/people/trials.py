@@ -24,7 +24,7 @@ def hostile(office, alice, xan, clerk):
     alice.sign_in('mallory-token-00000001')
     for place, text in enumerate(HOSTILE):
         alice.go('New request')
-        alice.sees('values are free')
+        alice.sees('The lowest free value is ')
         alice.fill('Name of the value', text)
         alice.fill('Contact', text)
         alice.fill('Your reference', f'h-{place}')
@@ -71,7 +71,7 @@ def by_keys(office, alice):
     alice.sees('You have no requests yet.')
     reach('New request')
     press(Keys.ENTER)
-    alice.sees('values are free')
+    alice.sees('The lowest free value is ')
     reach('Name of the value')
     press('By keys')
     reach('Contact')
@@ -93,7 +93,7 @@ def by_keys(office, alice):
 def begun(office, alice, label, *modes):
     """A request with this label is filled in, and the relay hands it on in these modes."""
     alice.go('New request')
-    alice.sees('values are free')
+    alice.sees('The lowest free value is ')
     alice.fill('Name of the value', label)
     alice.fill('Contact', 'Dora')
     office.relay.log.clear()
