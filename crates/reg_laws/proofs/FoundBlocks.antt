@@ -1,5 +1,5 @@
 -- The block that is found for an address among those that the public sees is the one that has it.
-use Rattle.std.proofs.Common.{◌≡◌, ℕ, Bool, true, false, inl, inr, refl, sym, ap, subst, ◌∙◌}
+use Rattle.std.proofs.Common.{◌≡◌, ◌/◌, ℕ, Bool, true, false, inl, inr, refl, sym, ap, subst, ◌∙◌}
 use Rattle.std.specs.Prelude.{Option, Some, None, IsSome, is_some, option_and_then, option_map, ◌⊎◌, if◌then◌else◌}
 use Rattle.std.specs.Option.{option_or}
 use Rattle.reg_blocks.specs.Size.{address_count}

@@ -26,7 +26,7 @@ use Rattle.reg_laws.proofs.FoundBlocks.{found_has, has_found}
 
 -- ---- What a reply tells
 
-row_reply : Option Listed → Reply
+abbrev row_reply : Option Listed → Reply
 row_reply o = reply_of (or_refusal no.Block o >>= (λ (row : Listed). unchanged (tells.Block row)))
 
 told_row : (o : Option Listed) (row : Listed)
@@ -37,7 +37,7 @@ told_row (Some other) row = (
   (λ is. ap row_reply is),
 )
 
-least_reply : Result ℕ Refusal → Reply
+abbrev least_reply : Result ℕ Refusal → Reply
 least_reply r = reply_of (r >>= (λ (value : ℕ). unchanged (tells.Least value)))
 
 told_least : (r : Result ℕ Refusal) (value : ℕ) → least_reply r ≡ Accepted (tells.Least value)
@@ -46,7 +46,7 @@ told_least (Ok v) value is = let same : v ≡ value = cc in ap Ok same
 told_least (Err refusal) value is = absurd (cc)
 
 -- the value that is told is given to an ask, or the same refusal
-least_given : Result ℕ Refusal → Result Given Refusal
+abbrev least_given : Result ℕ Refusal → Result Given Refusal
 least_given r = r >>= (λ (value : ℕ). Ok (given.Value value))
 
 tells_given : (r : Result ℕ Refusal) → TellsGiven (least_reply r) (least_given r)
