@@ -4,6 +4,7 @@ mod SpanSteps
 mod SizeSteps
 mod Pooling
 mod Following
+mod PlacesTaken
 mod TakenLaws
 mod PrefixSets
 mod Leaving

@@ -1,13 +1,14 @@
 -- What the steps over runs leave: which numbers lie in the runs, where they are cut, and that they
 -- stay apart.
-use Rattle.std.proofs.Common.{◌≡◌, ◌≢◌, ℕ, ◌+◌, ◌-◌, ◌<◌, ◌≤◌, Some, None, sym, ◌∙◌, ◌⊎◌, inl, inr, arith}
+use Rattle.std.proofs.Common.{◌≡◌, ◌≢◌, ℕ, ◌+◌, ◌-◌, ◌<◌, ◌≤◌, true, false, nat_le, Some, None, sym, ◌∙◌, ◌⊎◌, inl, inr, arith}
 use Rattle.std.specs.Prelude.{◌↔◌, List, [], ◌∷◌, ◌++◌}
+use Rattle.std.specs.Bool.{Decides}
 use Rattle.std.specs.BTreeMap.{IsUnchanged, Updates}
 use Rattle.std.specs.BTreeMap.Range.{IsRangeOf, IsLtBy}
 use Rattle.std.specs.Ordering.{nat_cmp}
 use Rattle.std.proofs.lemmas.Bool.{cases_eq, cases_lt, cases_order}
 use Rattle.std.specs.declared.ops.Bound.TheVariants.{Excluded, Unbounded}
-use Rattle.std.proofs.lemmas.Bool.Decides.{nat_tests}
+use Rattle.std.proofs.lemmas.Bool.Decides.{leb_tells, nat_tests}
 use Rattle.std.proofs.lemmas.Map.Keys.{ge_from_not_lt}
 use Rattle.reg_maps.specs.Spans.{Spans, IsRun, Lies}
 use Rattle.reg_maps.proofs.Runs.{apart_keys, is_some_at, run_unchanged, same_run}
@@ -255,33 +256,46 @@ below_found spans at between range first last rest is =
 
 -- ---- whether a number lies in a run
 
-pub lies_in_none : (spans : Spans) (n : ℕ) → IsBelow spans (n + 1) None → ¬ Lies spans n
-lies_in_none spans n none l =
-    let past = none l.first l.last l.run in let low = l.low in omega arith
+at_most : (n last : ℕ) → nat_le n last ≡ true → n ≤ last
+at_most n last test = grind (arith, nat_tests)
+
+tests : (n last : ℕ) → n ≤ last → nat_le n last ≡ true
+tests n last high = elim (leb_tells n last) [
+  | inl holds ↦ holds.0
+  | inr fails ↦ let past = fails.1 in absurd (omega arith)
+]
+
+pub lies_in_none : (spans : Spans) (n : ℕ) → IsBelow spans (n + 1) None
+    → Decides false (Lies spans n)
+lies_in_none spans n none = (
+  λ test. absurd (cc),
+  λ l.
+      let past = none l.first l.last l.run in let low = l.low in absurd (omega arith),
+)
 
 -- a number that lies in a run lies in the last one that begins at or below it
-pub lies_in_last : (spans : Spans) → AreDisjoint spans → (n : ℕ) (run : ℕ × ℕ)
-    → IsBelow spans (n + 1) (Some run) → Lies spans n ↔ (n ≤ run.1)
-lies_in_last spans apart n run last = (
-  up,
-  λ high. record {
-    first = run.0;
-    last = run.1;
-    run = last.0;
-    low = let low = last.1 in omega arith;
-    high = high;
+pub lies_in_last : (spans : Spans) → AreDisjoint spans → (n first last : ℕ)
+    → IsBelow spans (n + 1) (Some (first, last)) → Decides (nat_le n last) (Lies spans n)
+lies_in_last spans apart n first last below = (
+  λ test. record {
+    first = first;
+    last = last;
+    run = below.0;
+    low = let low = below.1 in omega arith;
+    high = at_most n last test;
   },
+  λ l. tests n last (up l),
 )
   where
-    up : Lies spans n → n ≤ run.1
+    up : Lies spans n → n ≤ last
     up l =
         let low = l.low in
         let high = l.high in
-        let begins = last.2 l.first l.last l.run (omega arith) in
-        elim (cases_eq l.first run.0) [
+        let begins = below.2 l.first l.last l.run (omega arith) in
+        elim (cases_eq l.first first) [
           | inl same ↦
-              let end = same_run spans run.0 run.1 l.first l.last same last.0 l.run in omega arith
+              let end = same_run spans first last l.first l.last same below.0 l.run in omega arith
           | inr other ↦
-              let gap = apart.apart l.first l.last run.0 run.1 l.run last.0 (omega arith) in
+              let gap = apart.apart l.first l.last first last l.run below.0 (omega arith) in
               omega arith
         ]

@@ -1,18 +1,21 @@
-use Rattle.std.proofs.Common.{sym, subst}
-use Rattle.std.specs.Cmp.{nat_cmp_total}
-use Rattle.std.proofs.lemmas.Map.Lookups.{exact_unsigned}
-use Rattle.std.proofs.lemmas.Map.Views.{btree_set_contains_iff}
-use Rattle.reg_vacancies.specs.PoolPlaces.{IsFreeIn, pool_of}
-use Rattle.reg_vacancies.proofs.Following.{taken_followed}
+use Rattle.std.proofs.Common.{sym, ap, ◌∙◌}
+use Rattle.std.specs.Prelude.{◌&&◌, not}
+use Rattle.reg_vacancies.proofs.PlacesTaken.{is_taken}
 use Rattle.reg_vacancies.proofs.pool_places.Places.is_taken.Goals as goal
 
-pub returns : goal.returns
-unfolding IsFreeIn pool_of
-returns c = λ given follows.
-    let places = c.args.self.now in
-    let block = c.args.block.now in
-    taken_followed (IsFreeIn places) (pool_of places) given (follows.free, follows.in_pool) block
-    c.contains.result c.lies.result
-    (subst (λ b. Decides b _) (sym c.contains.ensures)
-    (btree_set_contains_iff nat_cmp_total exact_unsigned places.prefixes _))
-    (c.lies.ensures.0, c.lies.ensures.1)
+pub returns-then-is_pooled : goal.returns-then-is_pooled
+returns-then-is_pooled c = λ given follows.
+    ap (λ b. b && not c.lies-is_free.result) (sym c.if-is_pooled.true)
+    ∙ is_taken c.args.self.now c.args.block.now c.contains-is_pooled.result c.lies-is_free.result
+    c.leading.result c.runs.result.now c.size.result c.prefix.result c.leading.ensures
+    c.contains-is_pooled.ensures c.runs.ensures.runs c.size.ensures c.prefix.ensures.value
+    c.lies-is_free.ensures given follows
+
+pub returns-else-is_pooled : goal.returns-else-is_pooled
+returns-else-is_pooled c = λ given follows.
+    c.if-is_pooled.false
+    ∙ ap (λ b. b && not c.lies-is_free.result) (sym c.if-is_pooled.false)
+    ∙ is_taken c.args.self.now c.args.block.now c.contains-is_pooled.result c.lies-is_free.result
+    c.leading.result c.runs.result.now c.size.result c.prefix.result c.leading.ensures
+    c.contains-is_pooled.ensures c.runs.ensures.runs c.size.ensures c.prefix.ensures.value
+    c.lies-is_free.ensures given follows
