@@ -1,79 +1,76 @@
--- The script of rows, from one row to the next.
+-- The rows of a register, from one to the next.
 use Rattle.std.proofs.Common.{◌≡◌, ◌∙◌, ℕ, suc, ◌+◌, ◌<◌, ◌≤◌, List, [], ◌∷◌, ◌++◌, length, map, drop, get_or, Result, Ok, Err, refl, sym, ap, append_assoc, add-one}
 use Rattle.std.proofs.Math.Seq.{drop-cons}
 use Rattle.std.proofs.Math.ListN.{drop_of_length-le}
 use Rattle.std.proofs.lemmas.List.{drop-map}
 use Rattle.std.proofs.lemmas.List.{append-nil}
-use Rattle.reg_import.specs.Faults.{IsImportFaultOf}
+use Rattle.std.specs.BTreeSet.{BTreeSet}
 use Rattle.reg_import.specs.Lines.{Line, lines_text}
 use Rattle.reg_import.specs.Rows.{row_in}
-use Rattle.reg_import.specs.Scripts.{◌>>=◌, IsAppended, lines_from, lines_if, numbered, rows_script, text_if}
-use Rattle.reg_import.specs.declared.fault.ImportFault.{ImportFault}
-use Rattle.reg_import.specs.declared.fault.ImportFault.TheVariants as import
+use Rattle.reg_import.specs.Scripts.{AreSeen, IsReadAfter, fault_after, fault_if, faults_from, lines_if_read, lines_of, rows_script, text_if, unless, values_after}
+use Rattle.reg_import.specs.declared.fault.FaultyRow.{FaultyRow}
 use Rattle.reg_import.specs.declared.import.Import.{Import}
 use Rattle.reg_import.proofs.LineTexts.{lines_text_append, lines_text_nil}
 
--- a script with this before it
-abbrev pub prepended : List ℕ → Result (List ℕ) ImportFault → Result (List ℕ) ImportFault
-prepended before (Ok script) = Ok (before ++ script)
-prepended before (Err fault) = Err fault
+-- what was read of rows, of which these are left, from number n on
+pub record IsReadTo (by : Import) (header : List (List ℕ)) (rows : List (List (List ℕ))) (n : ℕ)
+    (left : List (List (List ℕ))) (script : List ℕ) (faults : List FaultyRow) (seen : BTreeSet ℕ) :
+    Type 0 where
+  pub values : List ℕ
+  pub are_seen : AreSeen seen values
+  pub lines : lines_text (lines_of by header rows) ≡ script ++ lines_text (lines_of by header left)
+  pub faulty : faults_from by header 2 [] rows ≡ faults ++ faults_from by header n values left
 
-prepended_twice : (a b : List ℕ) (r : Result (List ℕ) ImportFault)
-    → prepended a (prepended b r) ≡ prepended (a ++ b) r
-prepended_twice a b (Ok script) = ap Ok (sym (append_assoc a b script))
-prepended_twice a b (Err fault) = refl
+pub read_first : (by : Import) (header : List (List ℕ)) (rows : List (List (List ℕ)))
+    (script : List ℕ) (faults : List FaultyRow) (seen : BTreeSet ℕ) → script ≡ [] → faults ≡ []
+    → AreSeen seen [] → IsReadTo by header rows 2 rows script faults seen
+read_first by header rows script faults seen none nothing unseen = record {
+  values = [];
+  are_seen = unseen;
+  lines = ap (λ s. s ++ lines_text (lines_of by header rows)) (sym none);
+  faulty = ap (λ f. f ++ faults_from by header 2 [] rows) (sym nothing);
+}
 
-text_of_more : (lines : List Line) (r : Result (List Line) ImportFault)
-    → text_if (r >>= (λ more. Ok (lines ++ more))) ≡ prepended (lines_text lines) (text_if r)
-text_of_more lines (Ok more) = ap Ok (lines_text_append lines more)
-text_of_more lines (Err fault) = refl
+pub read_next : (by : Import) (header : List (List ℕ)) (rows : List (List (List ℕ))) (n : ℕ)
+    (row : List (List ℕ)) (left : List (List (List ℕ))) (script more : List ℕ)
+    (faults with_it : List FaultyRow) (seen then : BTreeSet ℕ)
+    → IsReadTo by header rows n (row ∷ left) script faults seen
+    → IsReadAfter n by (row_in by header row) script more faults with_it seen then
+    → IsReadTo by header rows (n + 1) left more with_it then
+read_next by header rows n row left script more faults with_it seen then was next =
+    let read = row_in by header row in
+    let rest = lines_text (lines_of by header left) in
+    let others = faults_from by header (n + 1) (values_after was.values read) left in
+    record {
+      values = values_after was.values read;
+      are_seen = next.values was.values was.are_seen;
+      lines = was.lines
+          ∙ ap (λ t. script ++ t)
+          (lines_text_append (lines_if_read by read) (lines_of by header left))
+          ∙ sym (append_assoc script (lines_text (lines_if_read by read)) rest)
+          ∙ ap (λ t. t ++ rest) (sym next.lines);
+      faulty = was.faulty
+          ∙ sym (append_assoc faults (fault_if n (fault_after was.values read)) others)
+          ∙ ap (λ t. t ++ others) (sym (next.faulty was.values was.are_seen));
+    }
 
--- the whole is what was written and the script of the rows that are left
-abbrev pub HasWritten : Import → List (List ℕ) → List (List (List ℕ)) → ℕ → List (List (List ℕ))
-    → List ℕ → Type 0
-HasWritten by header all n left script =
-    rows_script by header 1 all ≡ prepended script (rows_script by header n left)
+-- the text of lines, unless rows are at fault
+text_unless : (faults : List FaultyRow) (lines : List Line)
+    → text_if (unless faults lines) ≡ unless faults (lines_text lines)
+text_unless [] lines = refl
+text_unless (row ∷ rows) lines = refl
 
-pub written_first : (by : Import) (header : List (List ℕ)) (all : List (List (List ℕ)))
-    → HasWritten by header all 1 all []
-written_first by header all = sym (same (rows_script by header 1 all))
-  where
-    same : (r : Result (List ℕ) ImportFault) → prepended [] r ≡ r
-    same (Ok script) = refl
-    same (Err fault) = refl
-
-pub written_next : (by : Import) (header : List (List ℕ)) (all : List (List (List ℕ))) (n : ℕ)
-    (row : List (List ℕ)) (left : List (List (List ℕ))) (old new : List ℕ)
-    → HasWritten by header all n (row ∷ left) old → IsAppended by n header row old new
-    → HasWritten by header all (n + 1) left new
-written_next by header all n row left old new whole next =
-    let step : rows_script by header n (row ∷ left)
-    ≡ prepended (lines_text (lines_if by next.0)) (rows_script by header (n + 1) left) =
-    rw next.1 (text_of_more (lines_if by next.0) (lines_from by header (n + 1) left)) in
-    whole ∙ ap (prepended old) step
-    ∙ prepended_twice old (lines_text (lines_if by next.0)) (rows_script by header (n + 1) left)
-    ∙ ap (λ t. prepended t (rows_script by header (n + 1) left)) (sym next.2)
-
-pub written_all : (by : Import) (header : List (List ℕ)) (all : List (List (List ℕ))) (n : ℕ)
-    (script : List ℕ) → HasWritten by header all n [] script → rows_script by header 1 all ≡ Ok script
-written_all by header all n script whole = whole ∙ ap Ok (rw lines_text_nil (append-nil script))
-
-fault_met : (by : Import) (header : List (List ℕ)) (all : List (List (List ℕ))) (n : ℕ)
-    (row : List (List ℕ)) (left : List (List (List ℕ))) (old : List ℕ) (fault : ImportFault)
-    → HasWritten by header all n (row ∷ left) old → numbered n (row_in by header row) ≡ Err fault
-    → rows_script by header 1 all ≡ Err fault
-fault_met by header all n row left old fault whole met = whole ∙ rw met refl
-
-pub is_fault_met : (by : Import) (header : List (List ℕ)) (all : List (List (List ℕ))) (n : ℕ)
-    (row : List (List ℕ)) (left : List (List (List ℕ))) (old : List ℕ) (fault : ImportFault)
-    → HasWritten by header all n (row ∷ left) old
-    → IsImportFaultOf (numbered n (row_in by header row)) fault
-    → IsImportFaultOf (rows_script by header 1 all) fault
-is_fault_met by header all n row left old import.Memory whole met = tt
-is_fault_met by header all n row left old import.Header whole met =
-    fault_met by header all n row left old import.Header whole met
-is_fault_met by header all n row left old (import.Row m f) whole met =
-    fault_met by header all n row left old (import.Row m f) whole met
+-- where no row is left, that is the script
+pub read_all : (by : Import) (header : List (List ℕ)) (rows : List (List (List ℕ))) (n : ℕ)
+    (script : List ℕ) (faults : List FaultyRow) (seen : BTreeSet ℕ)
+    → IsReadTo by header rows n [] script faults seen
+    → unless faults script ≡ rows_script by header rows
+read_all by header rows n script faults seen whole =
+    let all : script ++ lines_text [] ≡ script = rw lines_text_nil (append-nil script) in
+    let lines = whole.lines ∙ all in
+    let faulty = whole.faulty ∙ append-nil faults in
+    (λ i. unless (sym faulty i) (sym lines i))
+    ∙ sym (text_unless (faults_from by header 2 [] rows) (lines_of by header rows))
 
 -- the row at a place is the first of those that are left there
 pub row_at : {X Y : Type 0} (f : X → Y) (xs : List X) (i : ℕ) (x : X) → i < length xs

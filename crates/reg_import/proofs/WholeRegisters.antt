@@ -12,14 +12,13 @@ use Rattle.reg_import.specs.Imported.{FilingIsNew, RenewalsAreNew, SameRest, eve
 use Rattle.reg_import.specs.Lines.{Filing, Line, applicant_token, entry_filing, entry_lines, expert_token, reference_of, registry_mark, renewal_filing}
 use Rattle.reg_import.specs.Rows.{row_in}
 use Rattle.reg_import.specs.Columns.{is_header}
-use Rattle.reg_import.specs.Scripts as script
-use Rattle.reg_import.specs.Scripts.{lines_from, lines_if, numbered, register_lines}
+use Rattle.reg_import.specs.Faults.{Unscripted, NoHeader}
+use Rattle.reg_import.specs.Scripts.{fault_after, fault_if, faults_from, lines_if_read, lines_of, rows_lines, unless, values_after}
 use Rattle.reg_import.specs.WholeRegisters.{AreAllMade, HaveOwnTokens, RegistersAreMade, entries_said, entry_if_read, renewal_token, renewal_tokens, tokens_of}
 use Rattle.reg_import.specs.declared.entry.ListedEntry.{ListedEntry}
 use Rattle.reg_import.specs.declared.entry.ListedStanding.{ListedStanding}
 use Rattle.reg_import.specs.declared.entry.ListedStanding.TheVariants.{ForGood, Early}
-use Rattle.reg_import.specs.declared.fault.ImportFault.{ImportFault}
-use Rattle.reg_import.specs.declared.fault.ImportFault.TheVariants.{Header}
+use Rattle.reg_import.specs.declared.fault.FaultyRow.{FaultyRow}
 use Rattle.reg_import.specs.declared.fault.ImportRowFault.{ImportRowFault}
 use Rattle.reg_import.specs.declared.import.Import.{Import}
 use Rattle.reg_import.proofs.Made.{IsMadeIn, entry_is_made, rest_stays, rest_then, same_rest}
@@ -206,15 +205,16 @@ module _ {A : Type 0} (R : A → A → Type 0) (x : A) (xs : List A) (pairs : Al
   rest_apart i j d below inside =
       pairs (suc i) (suc j) d (omega (arith, below)) (omega (arith, inside))
 
--- a step of the lines that went on
-lines_went : {A B : Type 0} (a : Result A ImportFault) (g : A → Result B ImportFault) (y : B)
-    → script.◌>>=◌ a g ≡ Ok y → (x : A) × (a ≡ Ok x) × (g x ≡ Ok y)
-lines_went {A} {B} (Ok x) g y h = (x, refl, h)
-lines_went {A} {B} (Err e) g y h = absurd (cc)
+-- where no row is at fault, neither is the first nor one below it
+none_first : (one others : List FaultyRow) → one ++ others ≡ [] → (one ≡ []) × (others ≡ [])
+none_first [] others h = (refl, h)
+none_first (row ∷ rows) others h = absurd (cc)
 
-row_was : {A : Type 0} (n : ℕ) (a : Result A ImportRowFault) (x : A) → numbered n a ≡ Ok x → a ≡ Ok x
-row_was {A} n (Ok y) x h = let same : y ≡ x = cc in ap Ok same
-row_was {A} n (Err fault) x h = absurd (cc)
+-- what is there unless rows are at fault is there where none is
+none_faulty : {A : Type 0} (faults : List FaultyRow) (x y : A) → unless faults x ≡ Ok y
+    → (faults ≡ []) × (x ≡ y)
+none_faulty {A} [] x y h = (refl, cc)
+none_faulty {A} (row ∷ rows) x y h = absurd (cc)
 
 module _ (digest_of : List ℕ → List ℕ) (by : Import) (header : List (List ℕ)) where
   abbrev at_place : ListedEntry → Place
@@ -297,48 +297,48 @@ module _ (digest_of : List ℕ → List ℕ) (by : Import) (header : List (List 
           (first_apart (HaveOwnTokens digest_of by) entry entries tokens k d inside)
           (All-tail (CanMake digest_of w by) entry entries can k d inside)
 
+  -- the entry of a row that was read, if it says one, and those of the rows below it
+  row_made : (n : ℕ) (values : List ℕ) (row : List (List ℕ)) (entries : List ListedEntry)
+      (lines : List Line) (w : World) (read : Result (Option ListedEntry) ImportRowFault)
+      → row_in by header row ≡ read → fault_if n (fault_after values read) ≡ []
+      → ((v : World) → MakesAll v entries lines)
+      → MakesAll w (cons_option (entry_if_read read) entries) (lines_if_read by read ++ lines)
+  row_made n values row entries lines w (Err fault) is none more = absurd (cc)
+  row_made n values row entries lines w (Ok None) is none more = more w
+  row_made n values row entries lines w (Ok (Some entry)) is none more =
+      one_more w row entry entries lines is more
+
   -- a row after the other
-  rows_made : (n : ℕ) (rows : List (List (List ℕ))) (lines : List Line)
-      → lines_from by header n rows ≡ Ok lines
-      → (w : World) → MakesAll w (entries_said by header rows) lines
-  rows_made n [] lines h w =
-      let none : ◌≡◌ {A = List Line} [] lines = cc in
-      subst (MakesAll w []) none (none_made w)
-  rows_made n (row ∷ rows) lines h w =
-      let first = lines_went (numbered n (row_in by header row))
-      (λ entry. script.◌>>=◌ (lines_from by header (n + 1) rows)
-      (λ lines. Ok (lines_if by entry ++ lines))) lines h in
-      let below = lines_went (lines_from by header (n + 1) rows)
-      (λ lines. Ok (lines_if by first.0 ++ lines)) lines first.2 in
-      let same : lines_if by first.0 ++ below.0 ≡ lines = let e = below.2 in cc in
-      let is = row_was n (row_in by header row) first.0 first.1 in
-      subst (MakesAll w (entries_said by header (row ∷ rows))) same
-      (subst (λ read. MakesAll w (cons_option (entry_if_read read) (entries_said by header rows))
-      (lines_if by first.0 ++ below.0)) (sym is)
-      (by_row first.0 below.0 is (rows_made (n + 1) rows below.0 below.1)))
-    where
-      by_row : (entry : Option ListedEntry) (others : List Line) → row_in by header row ≡ Ok entry
-          → ((v : World) → MakesAll v (entries_said by header rows) others)
-          → MakesAll w (cons_option entry (entries_said by header rows))
-          (lines_if by entry ++ others)
-      by_row None others is makes = makes w
-      by_row (Some entry) others is makes =
-          one_more w row entry (entries_said by header rows) others is makes
+  rows_made : (n : ℕ) (values : List ℕ) (rows : List (List (List ℕ)))
+      → faults_from by header n values rows ≡ []
+      → (w : World) → MakesAll w (entries_said by header rows) (lines_of by header rows)
+  rows_made n values [] h w = none_made w
+  rows_made n values (row ∷ rows) h w =
+      let read = row_in by header row in
+      let none = none_first (fault_if n (fault_after values read))
+      (faults_from by header (n + 1) (values_after values read) rows) h in
+      row_made n values row (entries_said by header rows) (lines_of by header rows) w read refl none.0
+      (λ v. rows_made (n + 1) (values_after values read) rows none.1 v)
 
 -- ---- Registers
 
 pub registers_made : (digest_of : List ℕ → List ℕ) → RegistersAreMade digest_of
 registers_made digest_of w by header rows lines h ready = by_header (is_header header) h
   where
-    by_header : (b : Bool) → (if b then lines_from by header 1 rows else Err Header) ≡ Ok lines
+    by_header : (b : Bool) → (if b then rows_lines by header rows else Err NoHeader) ≡ Ok lines
         → AreAllMade digest_of w by (entries_said by header rows) (events_of digest_of lines)
         (world_after digest_of w (events_of digest_of lines))
     by_header false h = absurd (cc)
     by_header true h =
-        let made = rows_made digest_of by header 1 rows lines h w (small_values by header rows)
+        let none = none_faulty (faults_from by header 2 [] rows) (lines_of by header rows) lines h in
+        let made : (after : World) × AllAreMade digest_of by header w (entries_said by header rows)
+        lines after =
+        subst (λ (all : List Line). (after : World)
+        × AllAreMade digest_of by header w (entries_said by header rows) all after) none.1
+        (rows_made digest_of by header 2 [] rows none.0 w (small_values by header rows)
         (λ k d inside.
         can_make digest_of w by (slice_index_or (entries_said by header rows) k d)
-        (ready.each k d inside)) ready.values ready.tokens in
+        (ready.each k d inside)) ready.values ready.tokens) in
         subst (AreAllMade digest_of w by (entries_said by header rows) (events_of digest_of lines))
         (sym made.1.runs.ends) (record {
           accepted = made.1.runs.accepted;

@@ -4,6 +4,7 @@ use Rattle.reg_ranges.specs.Words.{item_word}
 use Rattle.reg_import.specs.Columns.{column_word}
 use Rattle.reg_import.specs.declared.column.Column.{Column}
 use Rattle.reg_import.specs.declared.column.Column.TheVariants as column
+use Rattle.reg_import.specs.declared.fault.FaultyRow.{FaultyRow}
 use Rattle.reg_import.specs.declared.fault.ImportFault.{ImportFault}
 use Rattle.reg_import.specs.declared.fault.ImportFault.TheVariants as import
 use Rattle.reg_import.specs.declared.fault.ImportRowFault.{ImportRowFault}
@@ -41,6 +42,7 @@ row_fault_text fault.Expiry = codes "Expires is not a day on which such an entry
 row_fault_text fault.Held = codes "Held is set, but the entry does not expire"
 row_fault_text (fault.Lacks item) = codes "it lacks what its policy needs: " ++ item_word item
 row_fault_text fault.Own = codes "Assignee is the expert"
+row_fault_text fault.Again = codes "Value is that of an earlier row"
 row_fault_text fault.Memory = codes "memory"
 
 -- the fault is the one that reading finds, unless memory ran out
@@ -53,12 +55,18 @@ IsFaultOfImport read fault.Expiry = read ≡ Err fault.Expiry
 IsFaultOfImport read fault.Held = read ≡ Err fault.Held
 IsFaultOfImport read (fault.Lacks item) = read ≡ Err (fault.Lacks item)
 IsFaultOfImport read fault.Own = read ≡ Err fault.Own
+IsFaultOfImport read fault.Again = read ≡ Err fault.Again
+
+-- why a register has no script: it has no header, or these rows are at fault
+pub data Unscripted : Type 0 where
+  pub NoHeader : Unscripted
+  pub AreFaulty : List FaultyRow → Unscripted
 
 -- so it is of a whole register
-abbrev pub IsImportFaultOf : {A : Type 0} → Result A ImportFault → ImportFault → Type 0
+abbrev pub IsImportFaultOf : {A : Type 0} → Result A Unscripted → ImportFault → Type 0
 IsImportFaultOf read import.Memory = Unit {0}
-IsImportFaultOf read import.Header = read ≡ Err import.Header
-IsImportFaultOf read (import.Row n f) = read ≡ Err (import.Row n f)
+IsImportFaultOf read import.Header = read ≡ Err NoHeader
+IsImportFaultOf read (import.Rows rows) = read ≡ Err (AreFaulty rows.items)
 
 -- each step in turn, as far as none is at fault
 infixl 10 ◌>>=◌

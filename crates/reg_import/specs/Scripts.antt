@@ -1,63 +1,106 @@
 -- What a register is as a script.
-use Rattle.std.specs.Prelude.{◌≡◌, ℕ, ◌+◌, List, [], ◌∷◌, ◌++◌, Option, Some, None, Result, Ok, Err, if◌then◌else◌}
+use Rattle.std.specs.Prelude.{◌≡◌, ℕ, ◌+◌, Bool, List, [], ◌∷◌, ◌++◌, Option, Some, None, Result, Ok, Err, if◌then◌else◌}
+use Rattle.std.specs.BTreeSet as set
+use Rattle.std.specs.BTreeSet.{BTreeSet}
+use Rattle.std.specs.List.{list_any}
+use Rattle.std.specs.Ordering.{eq_by_cmp, nat_cmp}
 use Rattle.reg_ranges.specs.RowReading.{text_rows}
 use Rattle.reg_import.specs.Columns.{is_header}
+use Rattle.reg_import.specs.Faults.{Unscripted, NoHeader, AreFaulty}
 use Rattle.reg_import.specs.Lines.{Line, entry_lines, lines_text}
 use Rattle.reg_import.specs.Rows.{row_in}
 use Rattle.reg_import.specs.declared.entry.ListedEntry.{ListedEntry}
-use Rattle.reg_import.specs.declared.fault.ImportFault.{ImportFault}
-use Rattle.reg_import.specs.declared.fault.ImportFault.TheVariants.{Header, Row}
+use Rattle.reg_import.specs.declared.fault.FaultyRow.{FaultyRow}
 use Rattle.reg_import.specs.declared.fault.ImportRowFault.{ImportRowFault}
+use Rattle.reg_import.specs.declared.fault.ImportRowFault.TheVariants.{Again}
 use Rattle.reg_import.specs.declared.import.Import.{Import}
 
-infixl 10 ◌>>=◌
-abbrev pub ◌>>=◌ : {A B : Type 0} → Result A ImportFault → (A → Result B ImportFault)
-    → Result B ImportFault
-(Ok x) >>= f = f x
-(Err e) >>= f = Err e
+-- ---- Faults
+
+-- a value is among these
+abbrev pub is_among : List ℕ → ℕ → Bool
+is_among values value = list_any (eq_by_cmp nat_cmp value) values
+
+-- what is wrong with a row that was read, after rows with entries at these values
+abbrev pub fault_after : List ℕ → Result (Option ListedEntry) ImportRowFault → Option ImportRowFault
+fault_after values (Err fault) = Some fault
+fault_after values (Ok None) = None
+fault_after values (Ok (Some entry)) = if is_among values entry.value then Some Again else None
+
+-- the values of entries after it
+abbrev pub values_after : List ℕ → Result (Option ListedEntry) ImportRowFault → List ℕ
+values_after values (Err fault) = values
+values_after values (Ok None) = values
+values_after values (Ok (Some entry)) = entry.value ∷ values
+
+-- the fault of the row of a number, if it has one
+abbrev pub fault_if : ℕ → Option ImportRowFault → List FaultyRow
+fault_if n None = []
+fault_if n (Some fault) = record { number = n; fault = fault } ∷ []
+
+-- the faults of the rows from number n on, after rows with entries at these values
+abbrev pub faults_from : Import → List (List ℕ) → ℕ → List ℕ → List (List (List ℕ)) → List FaultyRow
+faults_from by header n values [] = []
+faults_from by header n values (row ∷ rows) =
+    fault_if n (fault_after values (row_in by header row))
+    ++ faults_from by header (n + 1) (values_after values (row_in by header row)) rows
+
+-- ---- Lines
 
 -- the lines of a row that says an entry; none of one that says none
 abbrev pub lines_if : Import → Option ListedEntry → List Line
 lines_if by None = []
 lines_if by (Some entry) = entry_lines by entry
 
--- what the row of a number says
-abbrev pub numbered : {A : Type 0} → ℕ → Result A ImportRowFault → Result A ImportFault
-numbered n (Ok x) = Ok x
-numbered n (Err fault) = Err (Row n fault)
+-- the lines of a row that was read; none of one at fault
+abbrev pub lines_if_read : Import → Result (Option ListedEntry) ImportRowFault → List Line
+lines_if_read by (Ok entry) = lines_if by entry
+lines_if_read by (Err fault) = []
 
--- the lines of the rows from number n on, or the first fault
-abbrev pub lines_from : Import → List (List ℕ) → ℕ → List (List (List ℕ))
-    → Result (List Line) ImportFault
-lines_from by header n [] = Ok []
-lines_from by header n (row ∷ rows) = do
-  entry ← numbered n (row_in by header row)
-  lines ← lines_from by header (n + 1) rows
-  Ok (lines_if by entry ++ lines)
+abbrev pub lines_of : Import → List (List ℕ) → List (List (List ℕ)) → List Line
+lines_of by header [] = []
+lines_of by header (row ∷ rows) =
+    lines_if_read by (row_in by header row) ++ lines_of by header rows
 
--- the lines of a header and the rows below it, which count from 1
-abbrev pub register_lines : Import → List (List (List ℕ)) → Result (List Line) ImportFault
-register_lines by [] = Err Header
+-- these, where no row is at fault
+abbrev pub unless : {A : Type 0} → List FaultyRow → A → Result A Unscripted
+unless [] x = Ok x
+unless (row ∷ rows) x = Err (AreFaulty (row ∷ rows))
+
+-- the lines of a header and the rows below it; the header is row 1
+abbrev pub rows_lines : Import → List (List ℕ) → List (List (List ℕ)) → Result (List Line) Unscripted
+rows_lines by header rows = unless (faults_from by header 2 [] rows) (lines_of by header rows)
+
+abbrev pub register_lines : Import → List (List (List ℕ)) → Result (List Line) Unscripted
+register_lines by [] = Err NoHeader
 register_lines by (header ∷ rows) =
-    if is_header header then lines_from by header 1 rows else Err Header
+    if is_header header then rows_lines by header rows else Err NoHeader
 
--- the text of all lines, or the first fault
-abbrev pub text_if : Result (List Line) ImportFault → Result (List ℕ) ImportFault
-text_if lines = lines >>= (λ all. Ok (lines_text all))
+-- the text of all lines, or why there are none
+abbrev pub text_if : Result (List Line) Unscripted → Result (List ℕ) Unscripted
+text_if (Ok lines) = Ok (lines_text lines)
+text_if (Err why) = Err why
 
-abbrev pub rows_script : Import → List (List ℕ) → ℕ → List (List (List ℕ))
-    → Result (List ℕ) ImportFault
-rows_script by header n rows = text_if (lines_from by header n rows)
+abbrev pub rows_script : Import → List (List ℕ) → List (List (List ℕ)) → Result (List ℕ) Unscripted
+rows_script by header rows = text_if (rows_lines by header rows)
 
-abbrev pub records_script : Import → List (List (List ℕ)) → Result (List ℕ) ImportFault
+abbrev pub records_script : Import → List (List (List ℕ)) → Result (List ℕ) Unscripted
 records_script by records = text_if (register_lines by records)
 
--- the script of a register, whole; or its first fault
-unfoldable pub script_of : Import → List ℕ → Result (List ℕ) ImportFault
+-- the script of a register, whole; or why there is none, with each row at fault
+unfoldable pub script_of : Import → List ℕ → Result (List ℕ) Unscripted
 script_of by text = records_script by (text_rows text)
 
--- the lines of the row of a number were appended
-abbrev pub IsAppended : Import → ℕ → List (List ℕ) → List (List ℕ) → List ℕ → List ℕ → Type 0
-IsAppended by n header row old new =
-    (entry : Option ListedEntry) × (numbered n (row_in by header row) ≡ Ok entry)
-    × (new ≡ old ++ lines_text (lines_if by entry))
+-- ---- A row after the other
+
+-- the set has these values
+abbrev pub AreSeen : BTreeSet ℕ → List ℕ → Type 0
+AreSeen seen values = (value : ℕ) → set.contains nat_cmp seen value ≡ is_among values value
+
+-- the row of a number was read: its lines and its fault are behind the others, and its value is seen
+pub record IsReadAfter (n : ℕ) (by : Import) (read : Result (Option ListedEntry) ImportRowFault)
+    (script more : List ℕ) (faults with_it : List FaultyRow) (seen then : BTreeSet ℕ) : Type 0 where
+  pub lines : more ≡ script ++ lines_text (lines_if_read by read)
+  pub faulty : (values : List ℕ) → AreSeen seen values
+      → with_it ≡ faults ++ fault_if n (fault_after values read)
+  pub values : (values : List ℕ) → AreSeen seen values → AreSeen then (values_after values read)

@@ -26,17 +26,27 @@ pub enum ImportRowFault {
     Lacks(EvidenceItem),
     /// An expert has to look at it, and the expert is its assignee.
     Own,
+    /// An earlier row has an entry at its value.
+    Again,
     /// There was no memory.
     Memory,
 }
 
-/// Why a register is not imported.
+/// A row that is at fault, and why.
 #[derive(Clone, Copy, Debug, PartialEq, Eq)]
+pub struct FaultyRow {
+    /// Counted from the header, which is row 1.
+    pub number: usize,
+    pub fault: ImportRowFault,
+}
+
+/// Why a register is not imported.
+#[derive(Debug, Drop)]
 pub enum ImportFault {
     /// The first record is no header of a register, or there is none.
     Header,
-    /// The row of this number, counted from 1 below the header, is at fault.
-    Row(usize, ImportRowFault),
+    /// These rows are at fault, at least one.
+    Rows(Vec<FaultyRow>),
     /// There was no memory.
     Memory,
 }
@@ -85,6 +95,7 @@ impl fmt::Display for ImportRowFault {
                 write!(f, "it lacks what its policy needs: {}", item.word())
             }
             ImportRowFault::Own => write!(f, "Assignee is the expert"),
+            ImportRowFault::Again => write!(f, "Value is that of an earlier row"),
             ImportRowFault::Memory => write!(f, "memory"),
         }
     }

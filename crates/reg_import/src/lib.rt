@@ -11,6 +11,7 @@ pub mod import;
 pub mod laws;
 pub mod lines;
 mod marks;
+mod reading;
 mod records;
 mod row;
 mod years;

@@ -1,10 +1,13 @@
 -- The job that turns a register into a script.
-use Rattle.std.specs.Prelude.{◌≡◌, ⊤, ℕ, List, Option, Some, Result, Ok, Err, codes}
+use Rattle.std.specs.Prelude.{◌≡◌, ⊤, ℕ, List, [], ◌∷◌, ◌++◌, Option, Some, Result, Ok, Err, codes}
+use Rattle.std.specs.Fmt.{decimal}
+use Rattle.std.specs.List.{flat_map}
 use Rattle.std.specs.Io.KnownBytes.{Appends}
 use Rattle.std.specs.String.{string_bytes}
 use Rattle.reg_early.specs.Moment.{day_of_moment}
-use Rattle.reg_import.specs.Faults.{row_fault_text}
+use Rattle.reg_import.specs.Faults.{IsImportFaultOf, Unscripted, row_fault_text}
 use Rattle.reg_import.specs.Scripts.{script_of}
+use Rattle.reg_import.specs.declared.fault.FaultyRow.{FaultyRow}
 use Rattle.reg_import.specs.declared.fault.ImportFault.{ImportFault}
 use Rattle.reg_import.specs.declared.fault.ImportFault.TheVariants as import
 use Rattle.reg_import.specs.declared.import.Import.{Import}
@@ -25,7 +28,7 @@ pub record IsImporting (order : Importation) (token : List ℕ) (moment : ℕ) (
   pub today : day_of_moment moment ≡ Some by.today
 
 -- a register has this script, which is printed whole
-abbrev pub IsScripted : Result (List ℕ) ImportFault → Option (List ℕ) → Option (List ℕ) → Type 0
+abbrev pub IsScripted : Result (List ℕ) Unscripted → Option (List ℕ) → Option (List ℕ) → Type 0
 IsScripted found had has = (script : List ℕ) × (found ≡ Ok script) × Appends had has script
 
 -- the script of some register is printed whole, for what the words say at the moment
@@ -37,19 +40,41 @@ pub record Imports (order : Importation) (moment : ℕ) (had has : Option (List 
   pub register : List ℕ
   pub scripted : IsScripted (script_of by register) had has
 
+-- a row at fault as a line
+abbrev pub row_line : FaultyRow → List ℕ
+row_line row = codes "row " ++ (decimal row.number ++ (codes ": " ++ row_fault_text row.fault))
+
+-- the lines of rows, with a line feed before each but the first
+abbrev pub next_line : FaultyRow → List ℕ
+next_line row = 10 ∷ row_line row
+
+abbrev pub row_lines : List FaultyRow → List ℕ
+row_lines [] = []
+row_lines (row ∷ rows) = row_line row ++ flat_map next_line rows
+
+-- the number of the first row
+abbrev pub first_number : List FaultyRow → ℕ
+first_number [] = 0
+first_number (row ∷ rows) = row.number
+
+-- the header that a register has
+abbrev pub wanted_header : List ℕ
+wanted_header =
+    codes "the first row is not the header of a register: Value,Description,Status,Policy,First,Expires,Assignee and then any of Contact,Specification,Rfc,Stream,Track,Minute,Draft,Stable,Interest,Chair,Director,WillBeRfc,Held"
+
 -- why a register has no script, as a job says it, and for people
 abbrev pub IsSaidOf : ImportFault → Undone → Type 0
 IsSaidOf import.Memory why = why ≡ Fault Memory
 IsSaidOf import.Header (Explained failure text) =
-    (failure ≡ Header) × (string_bytes text ≡ codes "the first row is not the header of a register")
-IsSaidOf (import.Row n fault) (Explained failure text) =
-    (failure ≡ Row n) × (string_bytes text ≡ row_fault_text fault)
+    (failure ≡ Header) × (string_bytes text ≡ wanted_header)
+IsSaidOf (import.Rows rows) (Explained failure text) =
+    (failure ≡ Row (first_number rows.items)) × (string_bytes text ≡ row_lines rows.items)
 IsSaidOf fault why = ⊥
 
--- a register has no script, by this fault; or there was no memory, or the script could not be written
-abbrev pub IsUnscripted : Result (List ℕ) ImportFault → Undone → Type 0
+-- a register has no script, for this reason; or there was no memory, or the script could not be written
+abbrev pub IsUnscripted : Result (List ℕ) Unscripted → Undone → Type 0
 IsUnscripted found (Explained failure text) =
-    (fault : ImportFault) × (found ≡ Err fault) × IsSaidOf fault (Explained failure text)
+    (fault : ImportFault) × IsImportFaultOf found fault × IsSaidOf fault (Explained failure text)
 IsUnscripted found (Fault Memory) = ⊤
 IsUnscripted found (Fault Write) = ⊤
 IsUnscripted found why = ⊥

@@ -1,10 +1,11 @@
 //! The job that turns a register into a script.
 ghost use Rattle.std.specs.Prelude.{◌≡◌, Some, IfOk, IfErr, OnOk};
+ghost use Rattle.std.specs.String.{string_bytes};
 ghost use Rattle.reg_early.specs.Moment.{day_of_moment};
 ghost use Rattle.reg_core.specs.declared.wire_refusal.WireRefusal.TheVariants.{Field};
 ghost use Rattle.reg_import.specs.Scripts.{script_of};
 ghost use Rattle.reg_print.specs.declared.answer.Answer.TheVariants as answer;
-ghost use Rattle.reg_program.specs.Importing.{IsImporting, IsSaidOf, IsScripted, IsUnscripted, PrintsOrSaysWhy};
+ghost use Rattle.reg_program.specs.Importing.{IsImporting, IsSaidOf, IsScripted, IsUnscripted, PrintsOrSaysWhy, first_number, row_line, row_lines};
 ghost use Rattle.reg_program.specs.Undone.{IsSaidBy, answer_line as line_of};
 ghost use Rattle.reg_program.specs.declared.faults.JobFailure.TheVariants.{Write};
 ghost use Rattle.reg_program.specs.declared.faults.Undone.TheVariants.{Fault};
@@ -18,15 +19,18 @@ use reg_core::refusal::Refusal;
 use reg_core::text::{Account, Name, Token};
 use reg_core::wire_refusal::WireRefusal;
 use reg_early::day::{Day, day_of};
-use reg_import::fault::ImportFault;
+use reg_import::fault::{FaultyRow, ImportFault};
 use reg_import::import::{Import, script_of};
 use reg_jobs::jobs::Importation;
 use reg_print::answer::Answer;
 use std::alloc::{AllocError, Global};
 use std::io::Write;
 
+const WANTED_HEADER: &str =
+    "the first row is not the header of a register: Value,Description,Status,Policy,First,Expires,Assignee and then any of Contact,Specification,Rfc,Stream,Track,Minute,Draft,Stable,Interest,Chair,Director,WillBeRfc,Held";
+
 /// Prints the script that makes the entries of a register, at a moment. Nothing is printed where a
-/// row of it is at fault.
+/// row of it is at fault: then each such row is told.
 pub fn import<W: Write>(
     rt: &HostRuntime,
     moment: u64,
@@ -127,12 +131,45 @@ fn explained(alloc: Global, fault: ImportFault) -> Result<Undone, AllocError>
     match fault {
         ImportFault::Header => Ok(Undone::Explained(
             JobFailure::Header,
-            format!(in alloc; "the first row is not the header of a register")?,
+            String::from_str(alloc, WANTED_HEADER)?,
         )),
-        ImportFault::Row(number, fault) => Ok(Undone::Explained(
-            JobFailure::Row(number),
-            format!(in alloc; "{fault}")?,
-        )),
+        ImportFault::Rows(rows) => {
+            let first = JobFailure::Row(first_number(rows.as_slice()));
+            Ok(Undone::Explained(first, row_lines(alloc, rows.as_slice())?))
+        }
         ImportFault::Memory => Ok(Undone::Fault(JobFailure::Memory)),
     }
+}
+
+fn first_number(rows: &[FaultyRow]) -> usize
+    ensures { result ≡ first_number rows.now }
+{
+    match rows.first() {
+        Some(row) => row.number,
+        None => 0,
+    }
+}
+
+// Rows at fault, each as a line.
+fn row_lines(alloc: Global, rows: &[FaultyRow]) -> Result<String, AllocError>
+    ensures { IfOk result (λ text. string_bytes text ≡ row_lines rows.now) }
+{
+    let Some((first, others)) = rows.split_first() else {
+        return Ok(String::new(alloc));
+    };
+    let mut text = row_line(alloc, first)?;
+    for row in others {
+        let line = row_line(alloc, row)?;
+        text.push('\n')?;
+        text.push_str(line.as_str())?;
+    }
+    Ok(text)
+}
+
+fn row_line(alloc: Global, row: &FaultyRow) -> Result<String, AllocError>
+    ensures { IfOk result (λ text. string_bytes text ≡ row_line row.now) }
+{
+    let number = row.number;
+    let fault = row.fault;
+    format!(in alloc; "row {number}: {fault}")
 }
