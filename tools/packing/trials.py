@@ -48,7 +48,7 @@ DAMAGED_SERVED = [(f'{KEEP}; for file in {DATABASE}*; do dd if=/dev/zero of=$fil
                   (f'systemctl stop registry; {MEND}; systemctl start registry; dpkg --configure reg-cli', '..'), (IN_USE, 'program'),
                   (f'{SERVED} | cmp - before && echo same', 'same')]
 DAMAGED_STOPPED = [(f'systemctl stop registry; {KEEP}; sqlite3 {DATABASE} "UPDATE entries SET first = -1"; chown registry: {DATABASE}*; sha256sum {DATABASE} >sum', '..'),
-                   (REFUSED.format(2), '1,  fault: not ours,  a row of the table entries is malformed'), (IN_USE, 'former'),
+                   (REFUSED.format(2), '1,  fault: not ours,  ..: a row of the table entries is malformed'), (IN_USE, 'former'),
                    ('systemctl is-active registry || true', 'inactive'),
                    ('sha256sum --quiet -c sum && echo same', 'same'), (f'{MEND}; dpkg --configure reg-cli', '..'), (IN_USE, 'program'),
                    (f'systemctl start registry; {SERVED} | cmp - before && echo same', 'same')]

@@ -362,7 +362,7 @@ def judge_rivals(office, site):
 
 def judge_faults(office):
     for source, folder, wanted in [
-        (office.folder / 'absent.db', office.folder / 'x', 'fault: not ours\n'),
+        (office.folder / 'absent.db', office.folder / 'x', f'fault: not ours\n{office.folder / "absent.db"}: there is no such file\n'),
         (office.file, office.folder / 'many.csv', 'fault: write\n'),
         (office.file, office.folder / 'many.csv' / 'x', 'fault: write\n'),
         ('http://127.0.0.1:1', office.folder / 'x', 'fault: read\n'),

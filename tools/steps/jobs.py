@@ -24,6 +24,8 @@ OPENINGS = ['init FILE --clerk short', 'script --file FILE --clerk short', 'requ
             'listing FILE', 'listing FILE --registry codes', 'publish FILE a-site-that-is-not-published',
             'due FILE --within 30', 'tokens FILE',
             'revoke FILE --account alice', 'revoke FILE --digest ff2676003e48']
+# Jobs that say why they are not done in one line, but for a terminal.
+TOLD_IN_A_LINE = ['init', 'script', 'serve', 'define', 'listing']
 
 
 def is_done(case, words, given, wanted):
@@ -86,7 +88,12 @@ def is_not_read(case, words, given, wanted):
 def is_unopened(case, file, given, wanted):
     before = case.path(file).read_bytes()
     for words in OPENINGS:
-        is_undone(case, words.replace('FILE', file), given, wanted)
+        job, path = words.split()[0], f'{file}: '.encode()
+        is_explained = wanted == b'fault: not ours\n' and job not in TOLD_IN_A_LINE
+        status, output, errors = case.run(words.replace('FILE', file), given)
+        fault, _, why = errors.partition(b'\n')
+        found = status, output, fault + b'\n', why[:len(path)], why.count(b'\n')
+        wants(found, (1, b'', wanted, path if is_explained else b'', int(is_explained)), words)
     wants(case.path(file).read_bytes(), before, file)
 
 

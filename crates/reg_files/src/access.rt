@@ -28,6 +28,14 @@ pub fn make_private<H: Files>(rt: &H, path: &str) -> io::Result<()> {
     }
 }
 
+/// Whether there is nothing at a path.
+pub fn is_absent<H: Files>(rt: &H, path: &str) -> bool {
+    match fs::metadata(rt, path) {
+        Err(error) => error.kind() == io::ErrorKind::NotFound,
+        Ok(_) => false,
+    }
+}
+
 /// Warns in one line of a file at a path that others than its owner may read, and in one of its log.
 pub fn warn_of_readers<H: Files, E: Write>(alloc: Global, rt: &H, path: &str, errors: &mut E) {
     if have_readers(rt, path) {

@@ -16,7 +16,7 @@ pub mod private_disk;
 pub mod sites;
 pub mod targets;
 
-use crate::access::{make_private, warn_of_readers};
+use crate::access::{is_absent, make_private, warn_of_readers};
 use crate::front::SitePorts;
 use crate::sites::{SitePlace, site_at};
 use reg_client::peer::exchange;
@@ -36,9 +36,13 @@ use std::alloc::{AllocError, Global};
 use std::io::{Read, Write};
 
 /// The offices in files, of which nothing is known before they are opened. They are served on the ports
-/// of the system, and published in its folders. A file that is made is its owner's alone.
+/// of the system, and published in its folders. A file is made only for a task that begins an office, and is
+/// its owner's alone.
 #[derive(Drop)]
-pub struct Files;
+pub struct Files {
+    /// Whether it is said for people too why no office is found.
+    pub explains: bool,
+}
 
 impl Offices for Files {
     ghost Carried = { λ _ _ _ _ _ _. Unit {0} };
@@ -60,10 +64,15 @@ impl Offices for Files {
             None => None,
         };
         // Where it cannot be made, opening it says why.
-        let _ = make_private(rt, path);
+        if task.begins() {
+            let _ = make_private(rt, path);
+        } else if is_absent(rt, path) {
+            return Err(self.not_ours(rt.alloc(), path, Trouble::NoFile)?);
+        }
         match opened(rt, Unknown, path, task.begins()) {
             Ok(keeper) => do_and_close(rt, keeper, site, dates, path, task, console),
-            Err(undone) => Err(undone),
+            Err(OpenFault::NotOurs) => Err(self.looked_into(rt, path)?),
+            Err(fault) => Err(Undone::Fault(failure(fault))),
         }
     }
 
@@ -76,7 +85,7 @@ impl Offices for Files {
     ) -> Result<(), Undone> {
         match look_at(rt, path) {
             Ok(look) => check_and_close(rt, look, dates, console),
-            Err(trouble) => Err(explained(rt.alloc(), trouble)?),
+            Err(trouble) => Err(explained(rt.alloc(), path, trouble)?),
         }
     }
 
@@ -87,6 +96,30 @@ impl Offices for Files {
         request: &[u8],
     ) -> Result<Vec<u8>, Unpublished> {
         exchange(rt, port, request)
+    }
+}
+
+impl Files {
+    // Why there is no office in the file at a path, by a look at a copy of it in memory.
+    fn looked_into(&self, rt: &HostRuntime, path: &str) -> Result<Undone, AllocError> {
+        if !self.explains {
+            return Ok(Undone::Fault(JobFailure::NotOurs));
+        }
+        match look_at(rt, path) {
+            Err(trouble) if trouble.fault() == OpenFault::NotOurs => {
+                explained(rt.alloc(), path, trouble)
+            }
+            // Meanwhile it is another.
+            _ => Ok(Undone::Fault(JobFailure::NotOurs)),
+        }
+    }
+
+    fn not_ours(&self, alloc: Global, path: &str, trouble: Trouble) -> Result<Undone, AllocError> {
+        if self.explains {
+            explained(alloc, path, trouble)
+        } else {
+            Ok(Undone::Fault(JobFailure::NotOurs))
+        }
     }
 }
 
@@ -130,18 +163,15 @@ fn opened<T: Start>(
     start: T,
     path: &str,
     begins: bool,
-) -> Result<SqlKeeper<FileStore<FileFrom<T>>>, Undone> {
-    match SqlKeeper::open_at(rt, path, begins, start) {
-        Ok(keeper) => Ok(keeper),
-        Err(fault) => Err(Undone::Fault(failure(fault))),
-    }
+) -> Result<SqlKeeper<FileStore<FileFrom<T>>>, OpenFault> {
+    SqlKeeper::open_at(rt, path, begins, start)
 }
 
-// Why a job finds no office, with the reason for people.
-fn explained(alloc: Global, trouble: Trouble) -> Result<Undone, AllocError>
+// Why a job finds no office in the file at a path, with the reason for people.
+fn explained(alloc: Global, path: &str, trouble: Trouble) -> Result<Undone, AllocError>
     ensures { IfOk result (λ why. why ≢ Fault job_failure.Journal) }
 {
-    let why = format!(in alloc; "{trouble}")?;
+    let why = format!(in alloc; "{path}: {trouble}")?;
     Ok(Undone::Explained(failure(trouble.fault()), why))
 }
 

@@ -40,7 +40,7 @@ impl Originals for SystemOriginals<'_> {
     fn take(&self, path: &str) -> Result<Snapshot, Undone> {
         match snapshot_at(self.rt, path) {
             Ok(snapshot) => Ok(snapshot),
-            Err(trouble) => Err(explained(self.rt.alloc(), trouble)?),
+            Err(trouble) => Err(explained(self.rt.alloc(), path, trouble)?),
         }
     }
 }

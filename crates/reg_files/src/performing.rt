@@ -7,7 +7,7 @@ use reg_http::dates::ClockDates;
 use reg_jobs::jobs::Job;
 use reg_program::console::Console;
 use reg_program::performing;
-use std::io::{Read, Write};
+use std::io::{IsTerminal, Read, Write};
 
 /// Does a job over this standard input, output and error, and gives the exit status: 0, or 1 with
 /// why on standard error.
@@ -26,5 +26,20 @@ pub fn perform<R: Read, W: Write, E: Write>(
         output,
         errors,
     };
-    performing::perform(rt, &mut dates, &mut Files, &FileCopies, job, &mut console)
+    let mut files = Files {
+        explains: !is_told_in_a_line(&job) || rt.stderr().is_terminal(),
+    };
+    performing::perform(rt, &mut dates, &mut files, &FileCopies, job, &mut console)
+}
+
+// Whether programs read one line of standard error of this job.
+fn is_told_in_a_line(job: &Job) -> bool {
+    matches!(
+        job,
+        Job::Script { .. }
+            | Job::Init { .. }
+            | Job::Serve(_)
+            | Job::Define(_)
+            | Job::Listing { .. }
+    )
 }

@@ -78,10 +78,10 @@ fn target_of<'a>(
 {
     let alloc = rt.alloc();
     let Ok(real) = fs::canonicalize(rt, path) else {
-        return Err(explained(alloc, Trouble::NoFile)?);
+        return Err(explained(alloc, path, Trouble::NoFile)?);
     };
     let Some((own, name)) = split(real.as_str()) else {
-        return Err(explained(alloc, Trouble::NoFile)?);
+        return Err(explained(alloc, path, Trouble::NoFile)?);
     };
     if fs::create_dir_all(rt, folder).is_err() {
         return Err(Undone::Fault(JobFailure::Write));
