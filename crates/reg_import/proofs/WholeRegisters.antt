@@ -1,8 +1,10 @@
 -- The lines of a whole register make the entries of its rows.
-use Rattle.std.proofs.Common.{◌≡◌, ◌∙◌, ℕ, suc, ◌+◌, ◌<◌, ◌^◌, Bool, true, false, List, [], ◌∷◌, ◌++◌, get_or, refl, sym, ap, subst, arith}
+use Rattle.std.proofs.Common.{◌≡◌, ◌∙◌, ℕ, zero, suc, ◌+◌, ◌<◌, ◌^◌, Bool, true, false, ◌||◌, List, [], ◌∷◌, ◌++◌, get_or, refl, sym, ap, subst, arith}
 use Rattle.std.specs.Prelude.{◌≢◌, Option, Some, None, Result, Ok, Err, All, AllPairs, Contains, codes, decimal, if◌then◌else◌, slice_index_or}
 use Rattle.std.specs.FinMap.{get}
 use Rattle.std.specs.List.{cons_option}
+use Rattle.std.specs.Ordering.{eq_by_cmp, nat_cmp}
+use Rattle.std.proofs.lemmas.Bool.Decides.{nat_tests}
 use Rattle.std.proofs.lemmas.List.{append_cancel_left, append_cancel_right}
 use Rattle.std.proofs.lemmas.List.Elements.{All-cons, All-contains, All-head, All-nil, All-tail}
 use Rattle.reg_core.specs.Run.{world_after}
@@ -13,13 +15,14 @@ use Rattle.reg_import.specs.Lines.{Filing, Line, applicant_token, entry_filing, 
 use Rattle.reg_import.specs.Rows.{row_in}
 use Rattle.reg_import.specs.Columns.{is_header}
 use Rattle.reg_import.specs.Faults.{Unscripted, NoHeader}
-use Rattle.reg_import.specs.Scripts.{fault_after, fault_if, faults_from, lines_if_read, lines_of, rows_lines, unless, values_after}
+use Rattle.reg_import.specs.Scripts.{fault_after, fault_if, faults_from, is_among, lines_if_read, lines_of, rows_lines, unless, values_after}
 use Rattle.reg_import.specs.WholeRegisters.{AreAllMade, HaveOwnTokens, RegistersAreMade, entries_said, entry_if_read, renewal_token, renewal_tokens, tokens_of}
 use Rattle.reg_import.specs.declared.entry.ListedEntry.{ListedEntry}
 use Rattle.reg_import.specs.declared.entry.ListedStanding.{ListedStanding}
 use Rattle.reg_import.specs.declared.entry.ListedStanding.TheVariants.{ForGood, Early}
 use Rattle.reg_import.specs.declared.fault.FaultyRow.{FaultyRow}
 use Rattle.reg_import.specs.declared.fault.ImportRowFault.{ImportRowFault}
+use Rattle.reg_import.specs.declared.fault.ImportRowFault.TheVariants.{Again}
 use Rattle.reg_import.specs.declared.import.Import.{Import}
 use Rattle.reg_import.proofs.Made.{IsMadeIn, entry_is_made, rest_stays, rest_then, same_rest}
 use Rattle.reg_import.proofs.Needs.{CanMake, can_make, first_name, second_name}
@@ -205,6 +208,60 @@ module _ {A : Type 0} (R : A → A → Type 0) (x : A) (xs : List A) (pairs : Al
   rest_apart i j d below inside =
       pairs (suc i) (suc j) d (omega (arith, below)) (omega (arith, inside))
 
+-- a pair of the first and another, or of two others
+pairs_cons : {A : Type 0} (R : A → A → Type 0) (x : A) (xs : List A) → All (R x) xs
+    → AllPairs R xs → AllPairs R (x ∷ xs)
+pairs_cons R x xs first rest zero zero d below inside = absurd (omega (arith, below))
+pairs_cons R x xs first rest zero (suc j) d below inside = first j d (omega (arith, inside))
+pairs_cons R x xs first rest (suc i) zero d below inside = absurd (omega (arith, below))
+pairs_cons R x xs first rest (suc i) (suc j) d below inside =
+    rest i j d (omega (arith, below)) (omega (arith, inside))
+
+pairs_nil : {A : Type 0} (R : A → A → Type 0) → AllPairs R []
+pairs_nil R i j d below inside = absurd (omega (arith, below, inside))
+
+-- a value that is among none of these is not the first, nor among the others
+among_none : (x : ℕ) (xs : List ℕ) (y : ℕ) → is_among (x ∷ xs) y ≡ false
+    → (x ≢ y) × (is_among xs y ≡ false)
+among_none x xs y h = by (eq_by_cmp nat_cmp y x) refl h
+  where
+    by : (b : Bool) → eq_by_cmp nat_cmp y x ≡ b → (b || is_among xs y) ≡ false
+        → (x ≢ y) × (is_among xs y ≡ false)
+    by true is h = absurd (cc)
+    by false is h = (
+      (λ same. let itself : eq_by_cmp nat_cmp y x ≡ true = grind (arith, nat_tests) in absurd (cc)),
+      h,
+    )
+
+-- a row that is at no fault has no earlier one with its value
+not_again : (n : ℕ) (among : Bool) → fault_if n (if among then Some Again else None) ≡ []
+    → among ≡ false
+not_again n true h = absurd (cc)
+not_again n false h = refl
+
+abbrev HaveOwnValues : ListedEntry → ListedEntry → Type 0
+HaveOwnValues a b = a.value ≢ b.value
+
+-- the values of entries are among none of these, and are apart
+abbrev AreNewTo : List ℕ → List ListedEntry → Type 0
+AreNewTo values entries =
+    All (λ (entry : ListedEntry). is_among values entry.value ≡ false) entries
+    × AllPairs HaveOwnValues entries
+
+row_is_new : (n : ℕ) (values : List ℕ) (read : Result (Option ListedEntry) ImportRowFault)
+    (entries : List ListedEntry) → fault_if n (fault_after values read) ≡ []
+    → AreNewTo (values_after values read) entries
+    → AreNewTo values (cons_option (entry_if_read read) entries)
+row_is_new n values (Err fault) entries none below = absurd (cc)
+row_is_new n values (Ok None) entries none below = below
+row_is_new n values (Ok (Some entry)) entries none below =
+    let each = λ (k : ℕ) (d : ListedEntry) inside.
+    among_none entry.value values (slice_index_or entries k d).value (below.0 k d inside) in (
+      All-cons (λ (e : ListedEntry). is_among values e.value ≡ false) entry entries
+          (not_again n (is_among values entry.value) none) (λ k d inside. (each k d inside).1),
+      pairs_cons HaveOwnValues entry entries (λ k d inside. (each k d inside).0) below.1,
+    )
+
 -- where no row is at fault, neither is the first nor one below it
 none_first : (one others : List FaultyRow) → one ++ others ≡ [] → (one ≡ []) × (others ≡ [])
 none_first [] others h = (refl, h)
@@ -320,6 +377,18 @@ module _ (digest_of : List ℕ → List ℕ) (by : Import) (header : List (List 
       row_made n values row (entries_said by header rows) (lines_of by header rows) w read refl none.0
       (λ v. rows_made (n + 1) (values_after values read) rows none.1 v)
 
+  -- where no row is at fault, no two entries share a value
+  rows_are_new : (n : ℕ) (values : List ℕ) (rows : List (List (List ℕ)))
+      → faults_from by header n values rows ≡ [] → AreNewTo values (entries_said by header rows)
+  rows_are_new n values [] h =
+      (All-nil (λ (e : ListedEntry). is_among values e.value ≡ false), pairs_nil HaveOwnValues)
+  rows_are_new n values (row ∷ rows) h =
+      let read = row_in by header row in
+      let none = none_first (fault_if n (fault_after values read))
+      (faults_from by header (n + 1) (values_after values read) rows) h in
+      row_is_new n values read (entries_said by header rows) none.0
+      (rows_are_new (n + 1) (values_after values read) rows none.1)
+
 -- ---- Registers
 
 pub registers_made : (digest_of : List ℕ → List ℕ) → RegistersAreMade digest_of
@@ -338,7 +407,8 @@ registers_made digest_of w by header rows lines h ready = by_header (is_header h
         (rows_made digest_of by header 2 [] rows none.0 w (small_values by header rows)
         (λ k d inside.
         can_make digest_of w by (slice_index_or (entries_said by header rows) k d)
-        (ready.each k d inside)) ready.values ready.tokens) in
+        (ready.each k d inside)) (rows_are_new digest_of by header 2 [] rows none.0).1
+        ready.tokens) in
         subst (AreAllMade digest_of w by (entries_said by header rows) (events_of digest_of lines))
         (sym made.1.runs.ends) (record {
           accepted = made.1.runs.accepted;

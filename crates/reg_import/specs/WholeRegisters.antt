@@ -51,10 +51,9 @@ module _ (digest_of : List ℕ → List ℕ) where
   HaveOwnTokens by a b =
       All (λ t. All (λ u. digest_of t ≢ digest_of u) (tokens_of by b)) (tokens_of by a)
 
-  -- the office is ready for each entry by itself, and no two of them share a value or a token's digest
+  -- the office is ready for each entry by itself, and no two of them share a token's digest
   pub record IsReadyForAll (w : World) (by : Import) (entries : List ListedEntry) : Type 0 where
     pub each : All (IsReadyFor digest_of w by) entries
-    pub values : AllPairs (λ (a b : ListedEntry). a.value ≢ b.value) entries
     pub tokens : AllPairs (HaveOwnTokens by) entries
 
   -- each line is accepted; each value has exactly the entry that its row says, and all else that is

@@ -21,7 +21,7 @@ pub fn entries_are_made()
 {}
 
 /// Registers are made: where an office is ready for each row of a register by itself, and no two of them
-/// share a value or the digest of a token, all lines of the register are accepted, and then each value
+/// share the digest of a token, all lines of the register are accepted, and then each value
 /// has exactly the entry of its row, and all else that is published stays.
 pub fn registers_are_made()
     ensures { (digest_of : List ℕ → List ℕ) → RegistersAreMade digest_of }
