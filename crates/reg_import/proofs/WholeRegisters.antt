@@ -10,12 +10,13 @@ use Rattle.std.proofs.lemmas.List.Elements.{All-cons, All-contains, All-head, Al
 use Rattle.reg_core.specs.Run.{world_after}
 use Rattle.reg_core.specs.World.{World, Place, RequestName}
 use Rattle.reg_ranges.proofs.Numerals.{reads_decimals}
+use Rattle.reg_ranges.specs.Tables.{Table}
 use Rattle.reg_import.specs.Imported.{FilingIsNew, RenewalsAreNew, SameRest, events_of, registration_said}
 use Rattle.reg_import.specs.Lines.{Filing, Line, applicant_token, entry_filing, entry_lines, expert_token, reference_of, registry_mark, renewal_filing}
 use Rattle.reg_import.specs.Rows.{row_in}
 use Rattle.reg_import.specs.Columns.{is_header}
 use Rattle.reg_import.specs.Faults.{Unscripted, NoHeader}
-use Rattle.reg_import.specs.Scripts.{fault_after, fault_if, faults_from, is_among, lines_if_read, lines_of, rows_lines, unless, values_after}
+use Rattle.reg_import.specs.Scripts.{fault_after, fault_if, faults_from, is_among, lines_if_read, lines_of, range_fault, rows_lines, unless, values_after}
 use Rattle.reg_import.specs.WholeRegisters.{AreAllMade, HaveOwnTokens, RegistersAreMade, entries_said, entry_if_read, renewal_token, renewal_tokens, tokens_of}
 use Rattle.reg_import.specs.declared.entry.ListedEntry.{ListedEntry}
 use Rattle.reg_import.specs.declared.entry.ListedStanding.{ListedStanding}
@@ -234,10 +235,10 @@ among_none x xs y h = by (eq_by_cmp nat_cmp y x) refl h
     )
 
 -- a row that is at no fault has no earlier one with its value
-not_again : (n : ℕ) (among : Bool) → fault_if n (if among then Some Again else None) ≡ []
-    → among ≡ false
-not_again n true h = absurd (cc)
-not_again n false h = refl
+not_again : (n : ℕ) (among : Bool) (other : Option ImportRowFault)
+    → fault_if n (if among then Some Again else other) ≡ [] → among ≡ false
+not_again n true other h = absurd (cc)
+not_again n false other h = refl
 
 abbrev HaveOwnValues : ListedEntry → ListedEntry → Type 0
 HaveOwnValues a b = a.value ≢ b.value
@@ -248,17 +249,18 @@ AreNewTo values entries =
     All (λ (entry : ListedEntry). is_among values entry.value ≡ false) entries
     × AllPairs HaveOwnValues entries
 
-row_is_new : (n : ℕ) (values : List ℕ) (read : Result (Option ListedEntry) ImportRowFault)
-    (entries : List ListedEntry) → fault_if n (fault_after values read) ≡ []
+row_is_new : (n : ℕ) (ranges : Option Table) (values : List ℕ)
+    (read : Result (Option ListedEntry) ImportRowFault) (entries : List ListedEntry)
+    → fault_if n (fault_after ranges values read) ≡ []
     → AreNewTo (values_after values read) entries
     → AreNewTo values (cons_option (entry_if_read read) entries)
-row_is_new n values (Err fault) entries none below = absurd (cc)
-row_is_new n values (Ok None) entries none below = below
-row_is_new n values (Ok (Some entry)) entries none below =
+row_is_new n ranges values (Err fault) entries none below = absurd (cc)
+row_is_new n ranges values (Ok None) entries none below = below
+row_is_new n ranges values (Ok (Some entry)) entries none below =
     let each = λ (k : ℕ) (d : ListedEntry) inside.
     among_none entry.value values (slice_index_or entries k d).value (below.0 k d inside) in (
       All-cons (λ (e : ListedEntry). is_among values e.value ≡ false) entry entries
-          (not_again n (is_among values entry.value) none) (λ k d inside. (each k d inside).1),
+          (not_again n (is_among values entry.value) (range_fault ranges entry) none) (λ k d inside. (each k d inside).1),
       pairs_cons HaveOwnValues entry entries (λ k d inside. (each k d inside).0) below.1,
     )
 
@@ -355,59 +357,60 @@ module _ (digest_of : List ℕ → List ℕ) (by : Import) (header : List (List 
           (All-tail (CanMake digest_of w by) entry entries can k d inside)
 
   -- the entry of a row that was read, if it says one, and those of the rows below it
-  row_made : (n : ℕ) (values : List ℕ) (row : List (List ℕ)) (entries : List ListedEntry)
-      (lines : List Line) (w : World) (read : Result (Option ListedEntry) ImportRowFault)
-      → row_in by header row ≡ read → fault_if n (fault_after values read) ≡ []
+  row_made : (n : ℕ) (ranges : Option Table) (values : List ℕ) (row : List (List ℕ))
+      (entries : List ListedEntry) (lines : List Line) (w : World)
+      (read : Result (Option ListedEntry) ImportRowFault)
+      → row_in by header row ≡ read → fault_if n (fault_after ranges values read) ≡ []
       → ((v : World) → MakesAll v entries lines)
       → MakesAll w (cons_option (entry_if_read read) entries) (lines_if_read by read ++ lines)
-  row_made n values row entries lines w (Err fault) is none more = absurd (cc)
-  row_made n values row entries lines w (Ok None) is none more = more w
-  row_made n values row entries lines w (Ok (Some entry)) is none more =
+  row_made n ranges values row entries lines w (Err fault) is none more = absurd (cc)
+  row_made n ranges values row entries lines w (Ok None) is none more = more w
+  row_made n ranges values row entries lines w (Ok (Some entry)) is none more =
       one_more w row entry entries lines is more
 
   -- a row after the other
-  rows_made : (n : ℕ) (values : List ℕ) (rows : List (List (List ℕ)))
-      → faults_from by header n values rows ≡ []
+  rows_made : (n : ℕ) (ranges : Option Table) (values : List ℕ) (rows : List (List (List ℕ)))
+      → faults_from by ranges header n values rows ≡ []
       → (w : World) → MakesAll w (entries_said by header rows) (lines_of by header rows)
-  rows_made n values [] h w = none_made w
-  rows_made n values (row ∷ rows) h w =
+  rows_made n ranges values [] h w = none_made w
+  rows_made n ranges values (row ∷ rows) h w =
       let read = row_in by header row in
-      let none = none_first (fault_if n (fault_after values read))
-      (faults_from by header (n + 1) (values_after values read) rows) h in
-      row_made n values row (entries_said by header rows) (lines_of by header rows) w read refl none.0
-      (λ v. rows_made (n + 1) (values_after values read) rows none.1 v)
+      let none = none_first (fault_if n (fault_after ranges values read))
+      (faults_from by ranges header (n + 1) (values_after values read) rows) h in
+      row_made n ranges values row (entries_said by header rows) (lines_of by header rows) w read refl none.0
+      (λ v. rows_made (n + 1) ranges (values_after values read) rows none.1 v)
 
   -- where no row is at fault, no two entries share a value
-  rows_are_new : (n : ℕ) (values : List ℕ) (rows : List (List (List ℕ)))
-      → faults_from by header n values rows ≡ [] → AreNewTo values (entries_said by header rows)
-  rows_are_new n values [] h =
+  rows_are_new : (n : ℕ) (ranges : Option Table) (values : List ℕ) (rows : List (List (List ℕ)))
+      → faults_from by ranges header n values rows ≡ [] → AreNewTo values (entries_said by header rows)
+  rows_are_new n ranges values [] h =
       (All-nil (λ (e : ListedEntry). is_among values e.value ≡ false), pairs_nil HaveOwnValues)
-  rows_are_new n values (row ∷ rows) h =
+  rows_are_new n ranges values (row ∷ rows) h =
       let read = row_in by header row in
-      let none = none_first (fault_if n (fault_after values read))
-      (faults_from by header (n + 1) (values_after values read) rows) h in
-      row_is_new n values read (entries_said by header rows) none.0
-      (rows_are_new (n + 1) (values_after values read) rows none.1)
+      let none = none_first (fault_if n (fault_after ranges values read))
+      (faults_from by ranges header (n + 1) (values_after values read) rows) h in
+      row_is_new n ranges values read (entries_said by header rows) none.0
+      (rows_are_new (n + 1) ranges (values_after values read) rows none.1)
 
 -- ---- Registers
 
 pub registers_made : (digest_of : List ℕ → List ℕ) → RegistersAreMade digest_of
-registers_made digest_of w by header rows lines h ready = by_header (is_header header) h
+registers_made digest_of w by ranges header rows lines h ready = by_header (is_header header) h
   where
-    by_header : (b : Bool) → (if b then rows_lines by header rows else Err NoHeader) ≡ Ok lines
+    by_header : (b : Bool) → (if b then rows_lines by ranges header rows else Err NoHeader) ≡ Ok lines
         → AreAllMade digest_of w by (entries_said by header rows) (events_of digest_of lines)
         (world_after digest_of w (events_of digest_of lines))
     by_header false h = absurd (cc)
     by_header true h =
-        let none = none_faulty (faults_from by header 2 [] rows) (lines_of by header rows) lines h in
+        let none = none_faulty (faults_from by ranges header 2 [] rows) (lines_of by header rows) lines h in
         let made : (after : World) × AllAreMade digest_of by header w (entries_said by header rows)
         lines after =
         subst (λ (all : List Line). (after : World)
         × AllAreMade digest_of by header w (entries_said by header rows) all after) none.1
-        (rows_made digest_of by header 2 [] rows none.0 w (small_values by header rows)
+        (rows_made digest_of by header 2 ranges [] rows none.0 w (small_values by header rows)
         (λ k d inside.
         can_make digest_of w by (slice_index_or (entries_said by header rows) k d)
-        (ready.each k d inside)) (rows_are_new digest_of by header 2 [] rows none.0).1
+        (ready.each k d inside)) (rows_are_new digest_of by header 2 ranges [] rows none.0).1
         ready.tokens) in
         subst (AreAllMade digest_of w by (entries_said by header rows) (events_of digest_of lines))
         (sym made.1.runs.ends) (record {

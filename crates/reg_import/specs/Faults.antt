@@ -43,6 +43,8 @@ row_fault_text fault.Held = codes "Held is set, but the entry does not expire"
 row_fault_text (fault.Lacks item) = codes "it lacks what its policy needs: " ++ item_word item
 row_fault_text fault.Own = codes "Assignee is the expert"
 row_fault_text fault.Again = codes "Value is that of an earlier row"
+row_fault_text fault.Above = codes "Value is above the largest of the ranges"
+row_fault_text fault.Elsewhere = codes "Policy is not that of the range of Value"
 row_fault_text fault.Memory = codes "memory"
 
 -- the fault is the one that reading finds, unless memory ran out
@@ -56,6 +58,8 @@ IsFaultOfImport read fault.Held = read ≡ Err fault.Held
 IsFaultOfImport read (fault.Lacks item) = read ≡ Err (fault.Lacks item)
 IsFaultOfImport read fault.Own = read ≡ Err fault.Own
 IsFaultOfImport read fault.Again = read ≡ Err fault.Again
+IsFaultOfImport read fault.Above = read ≡ Err fault.Above
+IsFaultOfImport read fault.Elsewhere = read ≡ Err fault.Elsewhere
 
 -- why a register has no script: it has no header, or these rows are at fault
 pub data Unscripted : Type 0 where

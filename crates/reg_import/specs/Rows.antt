@@ -2,6 +2,7 @@
 use Rattle.std.specs.Prelude.{ℕ, ◌==◌, ◌&&◌, ◌||◌, nat_le, nat_lt, not, Bool, true, false, List, length, Option, Some, None, Result, Ok, Err, codes, if◌then◌else◌}
 use Rattle.std.specs.Option.{ok_or}
 use Rattle.std.specs.Str.{bytes_eq}
+use Rattle.csv.specs.Records.{fields_of}
 use Rattle.reg_ranges.specs.Numbers.{read_number}
 use Rattle.reg_ranges.specs.Requirements.{first_item, is_expert_policy, unmet}
 use Rattle.reg_ranges.specs.Rfcs.{PublishedRfc}
@@ -32,6 +33,7 @@ use Rattle.reg_import.specs.declared.entry.ListedStanding.{ListedStanding}
 use Rattle.reg_import.specs.declared.entry.ListedStanding.TheVariants.{ForGood, Early}
 use Rattle.reg_import.specs.declared.fault.ImportRowFault.{ImportRowFault}
 use Rattle.reg_import.specs.declared.fault.ImportRowFault.TheVariants as fault
+use Rattle.reg_import.specs.declared.fields.RowFields.{RowFields}
 use Rattle.reg_import.specs.declared.import.Import.{Import}
 
 -- what stands in each column of a row
@@ -257,3 +259,8 @@ row_in import header fields =
     if length fields == length header
     then (kind_in (field_in header fields) >>= entry_if import (field_in header fields))
     else Err fault.Columns
+
+-- the same of a row below its header
+abbrev pub row_said : Import → RowFields → Result (Option ListedEntry) ImportRowFault
+row_said import fields =
+    row_in import (fields_of fields.header.now) (fields_of fields.row.now)

@@ -5,6 +5,11 @@ use Rattle.std.specs.BTreeSet.{BTreeSet}
 use Rattle.std.specs.List.{list_any}
 use Rattle.std.specs.Ordering.{eq_by_cmp, nat_cmp}
 use Rattle.reg_ranges.specs.RowReading.{text_rows}
+use Rattle.reg_ranges.specs.Sameness.{same_treatment}
+use Rattle.reg_ranges.specs.Tables.{Table, treatment_of}
+use Rattle.reg_ranges.specs.declared.policy.Policy.{Policy}
+use Rattle.reg_ranges.specs.declared.policy.Treatment.{Treatment}
+use Rattle.reg_ranges.specs.declared.policy.Treatment.TheVariants.{Under}
 use Rattle.reg_import.specs.Columns.{is_header}
 use Rattle.reg_import.specs.Faults.{Unscripted, NoHeader, AreFaulty}
 use Rattle.reg_import.specs.Lines.{Line, entry_lines, lines_text}
@@ -12,7 +17,7 @@ use Rattle.reg_import.specs.Rows.{row_in}
 use Rattle.reg_import.specs.declared.entry.ListedEntry.{ListedEntry}
 use Rattle.reg_import.specs.declared.fault.FaultyRow.{FaultyRow}
 use Rattle.reg_import.specs.declared.fault.ImportRowFault.{ImportRowFault}
-use Rattle.reg_import.specs.declared.fault.ImportRowFault.TheVariants.{Again}
+use Rattle.reg_import.specs.declared.fault.ImportRowFault.TheVariants.{Above, Again, Elsewhere}
 use Rattle.reg_import.specs.declared.import.Import.{Import}
 
 -- ---- Faults
@@ -21,11 +26,24 @@ use Rattle.reg_import.specs.declared.import.Import.{Import}
 abbrev pub is_among : List ℕ → ℕ → Bool
 is_among values value = list_any (eq_by_cmp nat_cmp value) values
 
+-- what is wrong with an entry under a policy in a range that is treated so, or above all ranges
+abbrev pub treated_fault : Option Treatment → Policy → Option ImportRowFault
+treated_fault None policy = Some Above
+treated_fault (Some treatment) policy =
+    if same_treatment treatment (Under policy) then None else Some Elsewhere
+
+-- and by the ranges of the registry, if they are known
+abbrev pub range_fault : Option Table → ListedEntry → Option ImportRowFault
+range_fault None entry = None
+range_fault (Some table) entry = treated_fault (treatment_of table entry.value) entry.policy
+
 -- what is wrong with a row that was read, after rows with entries at these values
-abbrev pub fault_after : List ℕ → Result (Option ListedEntry) ImportRowFault → Option ImportRowFault
-fault_after values (Err fault) = Some fault
-fault_after values (Ok None) = None
-fault_after values (Ok (Some entry)) = if is_among values entry.value then Some Again else None
+abbrev pub fault_after : Option Table → List ℕ → Result (Option ListedEntry) ImportRowFault
+    → Option ImportRowFault
+fault_after ranges values (Err fault) = Some fault
+fault_after ranges values (Ok None) = None
+fault_after ranges values (Ok (Some entry)) =
+    if is_among values entry.value then Some Again else range_fault ranges entry
 
 -- the values of entries after it
 abbrev pub values_after : List ℕ → Result (Option ListedEntry) ImportRowFault → List ℕ
@@ -39,11 +57,12 @@ fault_if n None = []
 fault_if n (Some fault) = record { number = n; fault = fault } ∷ []
 
 -- the faults of the rows from number n on, after rows with entries at these values
-abbrev pub faults_from : Import → List (List ℕ) → ℕ → List ℕ → List (List (List ℕ)) → List FaultyRow
-faults_from by header n values [] = []
-faults_from by header n values (row ∷ rows) =
-    fault_if n (fault_after values (row_in by header row))
-    ++ faults_from by header (n + 1) (values_after values (row_in by header row)) rows
+abbrev pub faults_from : Import → Option Table → List (List ℕ) → ℕ → List ℕ → List (List (List ℕ))
+    → List FaultyRow
+faults_from by ranges header n values [] = []
+faults_from by ranges header n values (row ∷ rows) =
+    fault_if n (fault_after ranges values (row_in by header row))
+    ++ faults_from by ranges header (n + 1) (values_after values (row_in by header row)) rows
 
 -- ---- Lines
 
@@ -68,28 +87,33 @@ unless [] x = Ok x
 unless (row ∷ rows) x = Err (AreFaulty (row ∷ rows))
 
 -- the lines of a header and the rows below it; the header is row 1
-abbrev pub rows_lines : Import → List (List ℕ) → List (List (List ℕ)) → Result (List Line) Unscripted
-rows_lines by header rows = unless (faults_from by header 2 [] rows) (lines_of by header rows)
+abbrev pub rows_lines : Import → Option Table → List (List ℕ) → List (List (List ℕ))
+    → Result (List Line) Unscripted
+rows_lines by ranges header rows =
+    unless (faults_from by ranges header 2 [] rows) (lines_of by header rows)
 
-abbrev pub register_lines : Import → List (List (List ℕ)) → Result (List Line) Unscripted
-register_lines by [] = Err NoHeader
-register_lines by (header ∷ rows) =
-    if is_header header then rows_lines by header rows else Err NoHeader
+abbrev pub register_lines : Import → Option Table → List (List (List ℕ))
+    → Result (List Line) Unscripted
+register_lines by ranges [] = Err NoHeader
+register_lines by ranges (header ∷ rows) =
+    if is_header header then rows_lines by ranges header rows else Err NoHeader
 
 -- the text of all lines, or why there are none
 abbrev pub text_if : Result (List Line) Unscripted → Result (List ℕ) Unscripted
 text_if (Ok lines) = Ok (lines_text lines)
 text_if (Err why) = Err why
 
-abbrev pub rows_script : Import → List (List ℕ) → List (List (List ℕ)) → Result (List ℕ) Unscripted
-rows_script by header rows = text_if (rows_lines by header rows)
+abbrev pub rows_script : Import → Option Table → List (List ℕ) → List (List (List ℕ))
+    → Result (List ℕ) Unscripted
+rows_script by ranges header rows = text_if (rows_lines by ranges header rows)
 
-abbrev pub records_script : Import → List (List (List ℕ)) → Result (List ℕ) Unscripted
-records_script by records = text_if (register_lines by records)
+abbrev pub records_script : Import → Option Table → List (List (List ℕ))
+    → Result (List ℕ) Unscripted
+records_script by ranges records = text_if (register_lines by ranges records)
 
 -- the script of a register, whole; or why there is none, with each row at fault
-unfoldable pub script_of : Import → List ℕ → Result (List ℕ) Unscripted
-script_of by text = records_script by (text_rows text)
+unfoldable pub script_of : Import → Option Table → List ℕ → Result (List ℕ) Unscripted
+script_of by ranges text = records_script by ranges (text_rows text)
 
 -- ---- A row after the other
 
@@ -98,9 +122,10 @@ abbrev pub AreSeen : BTreeSet ℕ → List ℕ → Type 0
 AreSeen seen values = (value : ℕ) → set.contains nat_cmp seen value ≡ is_among values value
 
 -- the row of a number was read: its lines and its fault are behind the others, and its value is seen
-pub record IsReadAfter (n : ℕ) (by : Import) (read : Result (Option ListedEntry) ImportRowFault)
-    (script more : List ℕ) (faults with_it : List FaultyRow) (seen then : BTreeSet ℕ) : Type 0 where
+pub record IsReadAfter (n : ℕ) (by : Import) (ranges : Option Table)
+    (read : Result (Option ListedEntry) ImportRowFault) (script more : List ℕ)
+    (faults with_it : List FaultyRow) (seen then : BTreeSet ℕ) : Type 0 where
   pub lines : more ≡ script ++ lines_text (lines_if_read by read)
   pub faulty : (values : List ℕ) → AreSeen seen values
-      → with_it ≡ faults ++ fault_if n (fault_after values read)
+      → with_it ≡ faults ++ fault_if n (fault_after ranges values read)
   pub values : (values : List ℕ) → AreSeen seen values → AreSeen then (values_after values read)

@@ -5,6 +5,7 @@ use Rattle.reg_core.specs.Laws.{is_refused}
 use Rattle.reg_core.specs.Run.{Event, run, world_after}
 use Rattle.reg_core.specs.World.{World, Place}
 use Rattle.reg_core.specs.declared.reply.Reply.{Reply}
+use Rattle.reg_ranges.specs.Tables.{Table}
 use Rattle.reg_import.specs.Imported.{IsReadyFor, SameRest, events_of, registration_said}
 use Rattle.reg_import.specs.Lines.{Line, applicant_token, entry_filing, expert_token, renewal_filing}
 use Rattle.reg_import.specs.Rows.{row_in}
@@ -71,9 +72,9 @@ module _ (digest_of : List ℕ → List ℕ) where
   -- the lines of a register make the entries of all its rows
   abbrev pub RegistersAreMade : Type 0
   RegistersAreMade =
-      (w : World) (by : Import) (header : List (List ℕ)) (rows : List (List (List ℕ)))
-      (lines : List Line)
-      → register_lines by (header ∷ rows) ≡ Ok lines
+      (w : World) (by : Import) (ranges : Option Table) (header : List (List ℕ))
+      (rows : List (List (List ℕ))) (lines : List Line)
+      → register_lines by ranges (header ∷ rows) ≡ Ok lines
       → IsReadyForAll w by (entries_said by header rows)
       → AreAllMade w by (entries_said by header rows) (events_of digest_of lines)
       (world_after digest_of w (events_of digest_of lines))

@@ -28,6 +28,10 @@ pub enum ImportRowFault {
     Own,
     /// An earlier row has an entry at its value.
     Again,
+    /// Its value is above the registry's largest.
+    Above,
+    /// The range of its value has another treatment than its policy.
+    Elsewhere,
     /// There was no memory.
     Memory,
 }
@@ -96,6 +100,8 @@ impl fmt::Display for ImportRowFault {
             }
             ImportRowFault::Own => write!(f, "Assignee is the expert"),
             ImportRowFault::Again => write!(f, "Value is that of an earlier row"),
+            ImportRowFault::Above => write!(f, "Value is above the largest of the ranges"),
+            ImportRowFault::Elsewhere => write!(f, "Policy is not that of the range of Value"),
             ImportRowFault::Memory => write!(f, "memory"),
         }
     }

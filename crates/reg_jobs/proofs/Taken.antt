@@ -245,7 +245,7 @@ import_gives : GivesJob (sub_of import_app)
 import_gives words none =
     let held = leaf_rows (sub_of import_app) (
       place_keeps 1 (codes "CSV") refl refl refl,
-      (place_keeps 2 (codes "NAME") refl refl refl, (clerk_keeps, (expert_keeps, (help_flag_keeps, tt)))),
+      (place_keeps 2 (codes "NAME") refl refl refl, (clerk_keeps, (expert_keeps, (option_keeps (codes "ranges") refl refl refl, (help_flag_keeps, tt))))),
     ) refl words none in (
       text_given _ _ held.0 (held.1.0 refl),
       text_given _ _ held.0 (held.1.1.0 refl),

@@ -94,6 +94,7 @@ IsJobOf name rows (Import order) =
     × IsArgumentOf (codes "NAME") rows (string_bytes order.name)
     × IsArgumentOf (codes "clerk") rows (string_bytes order.clerk)
     × IsArgumentOf (codes "expert") rows (string_bytes order.expert)
+    × (first_of (codes "ranges") rows ≡ option_map string_bytes order.ranges)
 IsJobOf name rows (Init file clerk) =
     (name ≡ codes "init") × IsArgumentOf (codes "FILE") rows (string_bytes file)
     × IsArgumentOf (codes "clerk") rows (string_bytes clerk)

@@ -69,7 +69,9 @@ register_app =
     (place_rule (codes "NAME"))
 
 abbrev pub import_app : App
-import_app = with_rule (with_rule register_app clerk_rule) expert_rule
+import_app =
+    with_rule (with_rule (with_rule register_app clerk_rule) expert_rule)
+    (option_rule (codes "ranges"))
 
 abbrev pub init_app : App
 init_app = with_rule (file_app (codes "init")) clerk_rule

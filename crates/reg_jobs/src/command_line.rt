@@ -105,6 +105,7 @@ fn import_of(alloc: Global, matches: &ArgMatches) -> Result<Job, JobFault>
         name: text(alloc, matches, "NAME")?,
         clerk: text(alloc, matches, "clerk")?,
         expert: text(alloc, matches, "expert")?,
+        ranges: optional_text(alloc, matches, "ranges")?,
     }))
 }
 

@@ -138,7 +138,13 @@ fn import<'a>(alloc: Global) -> Result<Command<'a>, AllocError>
 {
     register_command(alloc)?
         .arg(clerk(alloc))?
-        .arg(expert(alloc))
+        .arg(expert(alloc))?
+        .arg(option(
+            alloc,
+            "ranges",
+            "RANGES",
+            "The registry's range file, to check values and policies by",
+        ))
 }
 
 // The command `import` with its first words, which say which register, and of which registry.

@@ -38,8 +38,9 @@ pub const IMPORT_EXAMPLE: &str =
     "The register has the columns of a listing. These can follow, if policies need them:
 Contact, Specification, Rfc, Stream, Track, Minute, Draft, Stable, Interest, Chair,
 Director, WillBeRfc and Held. Each entry is requested, recommended by the expert if
-its policy needs one, and approved at midnight UTC of its first day. If a row is
-wrong, nothing is printed. Example:
+its policy needs one, and approved at midnight UTC of its first day. If rows are
+wrong, each is named, and nothing is printed. With --ranges, values and policies are
+checked by the registry's range file. Example:
   reg_cli import codes.csv codes --clerk @clerk.token --expert xan > lines.txt
   reg_cli script --clerk @clerk.token --file office.db < lines.txt";
 

@@ -111,6 +111,9 @@ pub struct Importation {
     pub clerk: String,
     /// The account of the expert who advises on them.
     pub expert: String,
+    /// The path of the ranges that the registry has, by which values and policies are looked at; without one,
+    /// they are not.
+    pub ranges: Option<String>,
 }
 
 /// How an office is served.

@@ -1,10 +1,12 @@
 -- The job that turns a register into a script.
-use Rattle.std.specs.Prelude.{◌≡◌, ⊤, ℕ, List, [], ◌∷◌, ◌++◌, Option, Some, Result, Ok, Err, codes}
+use Rattle.std.specs.Prelude.{◌≡◌, ⊤, ℕ, List, [], ◌∷◌, ◌++◌, Option, Some, None, Result, Ok, Err, codes, option_map}
 use Rattle.std.specs.Fmt.{decimal}
 use Rattle.std.specs.List.{flat_map}
 use Rattle.std.specs.Io.KnownBytes.{Appends}
 use Rattle.std.specs.String.{string_bytes}
 use Rattle.reg_early.specs.Moment.{day_of_moment}
+use Rattle.reg_ranges.specs.RangeFile.{file_ranges}
+use Rattle.reg_ranges.specs.Tables.{Table}
 use Rattle.reg_import.specs.Faults.{IsImportFaultOf, Unscripted, row_fault_text}
 use Rattle.reg_import.specs.Scripts.{script_of}
 use Rattle.reg_import.specs.declared.fault.FaultyRow.{FaultyRow}
@@ -31,14 +33,22 @@ pub record IsImporting (order : Importation) (token : List ℕ) (moment : ℕ) (
 abbrev pub IsScripted : Result (List ℕ) Unscripted → Option (List ℕ) → Option (List ℕ) → Type 0
 IsScripted found had has = (script : List ℕ) × (found ≡ Ok script) × Appends had has script
 
+-- there are ranges if a path is said, and then they are those of some range file
+abbrev pub AreRangesOf : Option (List ℕ) → Option Table → Type 0
+AreRangesOf None ranges = ranges ≡ None
+AreRangesOf (Some path) None = ⊥
+AreRangesOf (Some path) (Some table) = (file : List ℕ) × (file_ranges file ≡ Ok table.ranges)
+
 -- the script of some register is printed whole, for what the words say at the moment
 pub record Imports (order : Importation) (moment : ℕ) (had has : Option (List ℕ)) : Type 0 where
   pub by : Import
   pub token : List ℕ
   pub said : AreKnown (token_in (string_bytes order.clerk)) token
   pub importing : IsImporting order token moment by
+  pub ranges : Option Table
+  pub known : AreRangesOf (option_map string_bytes order.ranges) ranges
   pub register : List ℕ
-  pub scripted : IsScripted (script_of by register) had has
+  pub scripted : IsScripted (script_of by ranges register) had has
 
 -- a row at fault as a line
 abbrev pub row_line : FaultyRow → List ℕ

@@ -1,5 +1,6 @@
 //! The job that turns a register into a script.
 ghost use Rattle.std.specs.Prelude.{◌≡◌, Some, IfOk, IfErr, OnOk};
+ghost use Rattle.std.specs.Option.{option_copied};
 ghost use Rattle.std.specs.String.{string_bytes};
 ghost use Rattle.reg_early.specs.Moment.{day_of_moment};
 ghost use Rattle.reg_core.specs.declared.wire_refusal.WireRefusal.TheVariants.{Field};
@@ -13,6 +14,7 @@ ghost use Rattle.reg_program.specs.declared.faults.Undone.TheVariants.{Fault};
 use crate::asking::{answer_line, print};
 use crate::faults::{JobFailure, Undone};
 use crate::inputs::{refuse_long, register_of, token_of};
+use crate::ranges::ranges_of;
 use crate::tokens::refused_as;
 use reg_core::item::{Item, Segment};
 use reg_core::refusal::Refusal;
@@ -23,6 +25,7 @@ use reg_import::fault::{FaultyRow, ImportFault};
 use reg_import::import::{Import, script_of};
 use reg_jobs::jobs::Importation;
 use reg_print::answer::Answer;
+use reg_ranges::table::RangeTable;
 use std::alloc::{AllocError, Global};
 use std::io::Write;
 
@@ -30,7 +33,7 @@ const WANTED_HEADER: &str =
     "the first row is not the header of a register: Value,Description,Status,Policy,First,Expires,Assignee and then any of Contact,Specification,Rfc,Stream,Track,Minute,Draft,Stable,Interest,Chair,Director,WillBeRfc,Held";
 
 /// Prints the script that makes the entries of a register, at a moment. Nothing is printed where a
-/// row of it is at fault: then each such row is told.
+/// row of it is at fault, also by the ranges, if there are some: then each such row is told.
 pub fn import<W: Write>(
     rt: &HostRuntime,
     moment: u64,
@@ -41,10 +44,11 @@ pub fn import<W: Write>(
 {
     let alloc = rt.alloc();
     let token = token_of(rt, alloc, order.clerk.as_str())?;
+    let ranges = ranges_of(rt, alloc, &order.ranges)?;
     refuse_long(rt, order.register.as_str())?;
     let register = register_of(rt, alloc, order.register.as_str())?;
     let import = importing(alloc, moment, order, token.as_slice())?;
-    print_script(alloc, &import, register.as_slice(), output)
+    print_script(alloc, &import, ranges.as_ref(), register.as_slice(), output)
 }
 
 // What is imported, by whom, on the day of a moment. `Refused` where the name or the expert's
@@ -109,16 +113,19 @@ fn day_in_clock(alloc: Global, moment: u64) -> Result<Day, Undone>
 fn print_script<W: Write>(
     alloc: Global,
     import: &Import,
+    ranges: Option<&RangeTable>,
     register: &[u8],
     output: &mut W,
 ) -> Result<(), Undone>
-    ensures ok { OnOk result (IsScripted (script_of import.now register.now)
+    ensures ok { OnOk result
+        (IsScripted (script_of import.now (option_copied ranges.entry) register.now)
         (W.contents output.old) (W.contents output.new)) }
-    ensures err { IfErr result (IsUnscripted (script_of import.now register.now)) }
+    ensures err { IfErr result
+        (IsUnscripted (script_of import.now (option_copied ranges.entry) register.now)) }
     ensures silent { IfErr result (λ why.
         (why ≡ Fault Write → ⊥) → W.contents output.new ≡ W.contents output.old) }
 {
-    match script_of(alloc, import, register) {
+    match script_of(alloc, import, ranges, register) {
         Ok(script) => print(output, script.as_slice()),
         Err(fault) => Err(explained(alloc, fault)?),
     }

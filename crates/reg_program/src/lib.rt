@@ -19,6 +19,7 @@ pub mod opened;
 pub mod performing;
 pub mod progress;
 pub mod publishing;
+pub mod ranges;
 pub mod requesting;
 pub mod requests;
 pub mod scripts;
