@@ -37,6 +37,17 @@ pub fn job(alloc: Global, words: &[&str]) -> Result<Job, JobFault>
     }
 }
 
+/// What is wrong with words that are no command line, for people; none where they are one.
+pub fn explained(alloc: Global, words: &[&str]) -> Result<Option<String>, AllocError> {
+    match office(alloc)?.try_get_matches_from(words) {
+        Ok(matches) => {
+            drop(matches);
+            Ok(None)
+        }
+        Err(error) => Ok(Some(format!(in alloc; "{error}")?)),
+    }
+}
+
 // The job where the words were not taken: that help or the version is printed, where they ask for it.
 fn answer_to(alloc: Global, error: &Error) -> Result<Job, JobFault>
     ensures asked { IfOk result (λ job. IsAskedBy job (kind_of error.now)) }
