@@ -1,3 +1,4 @@
+pub mod Answered
 pub mod Answers
 pub mod Reading
 pub mod Allocation

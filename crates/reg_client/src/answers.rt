@@ -1,10 +1,13 @@
 //! The answers of an office that is served: their bytes, and what those say that have the form of an
 //! office's.
-ghost use Rattle.std.specs.Prelude.{◌≡◌, ◌+◌, ◌<◌, ◌≤◌, ◌++◌, true, IfOk, IfSome, codes, length};
+ghost use Rattle.std.specs.Prelude.{◌≡◌, ◌≢◌, ◌+◌, ◌<◌, ◌≤◌, ◌^◌, ◌++◌, true, ℕ, List, Some, IfOk, IfSome, MatchBool, length, option_map};
 ghost use Rattle.std.specs.Fmt.{decimal};
-ghost use Rattle.reg_wire.specs.Response.{field_line, media_type, reason, status_line};
+ghost use Rattle.std.specs.Option.{option_copied};
+ghost use Rattle.reg_wire.specs.Response.{media_type, reason, status_line};
+ghost use Rattle.reg_print.specs.Comparing.{Leaves};
 ghost use Rattle.reg_source.specs.Bounded.{AreAll, AreMore};
-ghost use Rattle.reg_client.specs.Answers.{answer_text, end_of_head};
+ghost use Rattle.reg_client.specs.Answered.{parts_of};
+ghost use Rattle.reg_client.specs.Answers.{IsAnswer, answer_text, end_of_head, format_line};
 
 use http::StatusCode;
 use reg_print::answer::Format;
@@ -68,6 +71,8 @@ pub struct Answered<'a> {
 pub fn answer_in(answer: &[u8]) -> Option<Answered<'_>>
     ensures whole { IfSome result (λ a. answer.now ≡ answer_text a.status a.format a.body.now) }
     ensures given { IfSome result (λ a. 0 < length (reason a.status)) }
+    ensures every { (status : ℕ) (format : Format) (body : List ℕ) → IsAnswer answer.now status format body
+        → option_map parts_of result ≡ Some (status, format, body) }
 {
     let status = status_in(answer)?;
     let rest = behind_status(status, answer)?;
@@ -82,7 +87,9 @@ pub fn answer_in(answer: &[u8]) -> Option<Answered<'_>>
 
 /// The body of an answer with status 200 and this format; none of any other bytes.
 pub fn body_of(format: Format, answer: &[u8]) -> Option<&[u8]>
-    ensures { IfSome result (λ body. answer.now ≡ answer_text 200 format body.now) }
+    ensures whole { IfSome result (λ body. answer.now ≡ answer_text 200 format body.now) }
+    ensures every { (body : List ℕ) → IsAnswer answer.now 200 format body
+        → option_copied result ≡ Some body }
 {
     let Some(answered) = answer_in(answer) else {
         return None;
@@ -96,7 +103,9 @@ pub fn body_of(format: Format, answer: &[u8]) -> Option<&[u8]>
 
 // The status that the first line says, if an office gives it.
 fn status_in(answer: &[u8]) -> Option<StatusCode>
-    ensures { IfSome result (λ status. 0 < length (reason status)) }
+    ensures given { IfSome result (λ status. 0 < length (reason status)) }
+    ensures every { (status : ℕ) (rest : List ℕ) → 0 < length (reason status)
+        → answer.now ≡ status_line status ++ rest → result ≡ Some status }
 {
     let status = StatusCode::from_bytes(answer.get(9..12)?).ok()?;
     if reason(status).is_empty() {
@@ -107,7 +116,7 @@ fn status_in(answer: &[u8]) -> Option<StatusCode>
 
 // What stands behind a first line with this status.
 fn behind_status<'a>(status: StatusCode, answer: &'a [u8]) -> Option<&'a [u8]>
-    ensures { IfSome result (λ rest. answer.now ≡ status_line status ++ rest.now) }
+    ensures { Leaves (status_line status) answer.now result }
 {
     let rest = behind(b"HTTP/1.1 ", answer)?;
     let rest = behind(digits(status).as_bytes(), rest)?;
@@ -118,8 +127,9 @@ fn behind_status<'a>(status: StatusCode, answer: &'a [u8]) -> Option<&'a [u8]>
 
 // The format that a line says, and what stands behind that line.
 fn format_in(text: &[u8]) -> Option<(Format, &[u8])>
-    ensures { IfSome result (λ r. text.now
-        ≡ field_line (codes "Content-Type") (media_type r.0) ++ r.1.now) }
+    ensures whole { IfSome result (λ r. text.now ≡ format_line r.0 ++ r.1.now) }
+    ensures every { (format : Format) (rest : List ℕ) → text.now ≡ format_line format ++ rest
+        → option_map {U = Format × List ℕ} (λ r. (r.0, r.1.now)) result ≡ Some (format, rest) }
 {
     let rest = behind(b"Content-Type: ", text)?;
     let (media, rest) = until(b'\r', rest)?;
@@ -129,7 +139,8 @@ fn format_in(text: &[u8]) -> Option<(Format, &[u8])>
 }
 
 fn format_of(media: &[u8]) -> Option<Format>
-    ensures { IfSome result (λ format. media.now ≡ media_type format) }
+    ensures whole { IfSome result (λ format. media.now ≡ media_type format) }
+    ensures every { (format : Format) → media.now ≡ media_type format → result ≡ Some format }
 {
     if media == b"application/json".as_slice() {
         Some(Format::Json)
@@ -142,7 +153,9 @@ fn format_of(media: &[u8]) -> Option<Format>
 
 // The body behind the last lines of a head, which say its length.
 fn body_in(text: &[u8]) -> Option<&[u8]>
-    ensures { IfSome result (λ body. text.now ≡ end_of_head (length body.now) ++ body.now) }
+    ensures whole { IfSome result (λ body. text.now ≡ end_of_head (length body.now) ++ body.now) }
+    ensures every { (body : List ℕ) → length body < 2 ^ 32
+        → text.now ≡ end_of_head (length body) ++ body → option_copied result ≡ Some body }
 {
     let rest = behind(b"Content-Length: ", text)?;
     let (digits, rest) = until(b'\r', rest)?;
@@ -156,7 +169,8 @@ fn body_in(text: &[u8]) -> Option<&[u8]>
 
 // Whether these digits say this number.
 fn says(digits: &[u8], number: usize) -> bool
-    ensures { result ≡ true → digits.now ≡ decimal number }
+    ensures { MatchBool result (digits.now ≡ decimal number)
+        (number < 2 ^ 32 → digits.now ≢ decimal number) }
 {
     match read_number(digits) {
         Some(said) => said as usize == number,
